@@ -22,7 +22,7 @@ use Rattle.asm_lines.proofs.PlainWords.{weaker, bracketed_none}
 hex_below : (b : ℕ) → digit_value b < 16 → b < 128
 hex_below b h = grind (arith, nat_tests)
 
--- what holds of each hex digit among the first 128 bytes
+-- A test that all hex digits among the first 128 bytes pass is passed by every hex digit.
 hex_passes : (q : ℕ → Bool) → agree_below (λ b. not (nat_lt (digit_value b) 16) || q b) (λ _. true) 128 ≡ true → (b : ℕ) → digit_value b < 16 → q b ≡ true
 hex_passes q table b h =
     elim (or_cases (not (nat_lt (digit_value b) 16)) (q b)
@@ -66,7 +66,7 @@ numeral_number n bytes (inr hex) = hex_number n bytes hex
 
 -- ---- a numeral is nothing else
 
--- a numeral begins with a digit, and has no blank and no closing bracket
+-- The text begins with a digit, and has no blank and no closing bracket.
 pub record LooksLikeNumber (bytes : List ℕ) : Type 0 where
   -- the first byte
   pub first : ℕ
@@ -102,7 +102,7 @@ looks n bytes (inr hex) = record {
   unclosed = rw hex.1 (hex_digits_pass (λ b. not (eqb b 41)) refl hex.0 hex.2.1);
 }
 
--- no register's name begins with this byte
+-- whether no register's name begins with this byte
 abbrev begins_no_register : ℕ → Bool
 begins_no_register b = list_all (λ r. not (eqb (slice_index (x_name r) 0) b) && not (eqb (slice_index (use_name r) 0) b)) numbers
 
@@ -126,7 +126,7 @@ no_register b bs h = find_nothing (λ r. bytes_eq (x_name r) (b ∷ bs) || bytes
     rw (other_name (x_name r) b bs (not-true _ a.0), other_name (use_name r) b bs (not-true _ a.1)) refl)
     numbers (digit_passes begins_no_register refl b h))
 
--- ---- what each reader makes of a numeral
+-- ---- what each reader gives for a numeral
 
 module _ (n : ℕ) (bytes : List ℕ) (is : IsNumeralOf n bytes) where
   no_brackets : bracket_parts bytes ≡ None

@@ -1,4 +1,4 @@
--- Blanks round commas, brackets and a label's colon, and at the ends of a line, change nothing.
+-- Blanks around commas, brackets and a label's colon, and at the ends of a line, change nothing.
 use Rattle.std.proofs.Common.{◌≡◌, ℕ, Bool, true, false, not, eqb, List, [], ◌∷◌, ◌++◌, map, Option, Some, None, refl}
 use Rattle.std.proofs.Common.{sym, ap, ap₂, subst, ◌∙◌, append_assoc, append-nil, Result, Ok, ◌⊎◌, inl, inr}
 use Rattle.std.specs.Prelude.{◌||◌, if◌then◌else◌}
@@ -143,8 +143,8 @@ quiet_blanks gap h = weaker is_blank (λ b. not (eqb b 58 || eqb b 35)) (λ b e.
     go b e true f t g = let differ : false ≡ true = sym (ap is_blank (eqb-true b 58 f)) ∙ e in absurd cc
     go b e false f true g = let differ : false ≡ true = sym (ap is_blank (eqb-true b 35 g)) ∙ e in absurd cc
 
--- Blanks round a comma or a bracket of the operands do not change what a line says, if the operands
--- have no colon and no mark of a comment.
+-- Blanks around a comma or a bracket of the operands do not change what a line says, if the operands have no colon and
+-- no mark of a comment.
 pub marks_change_nothing : (lead word front gap gap' back : List ℕ) (m : ℕ) → IsLead lead → IsFirstWord word → IsQuiet front → IsQuiet back
     → AreBlanks gap → AreBlanks gap' → IsMark m
     → line_of (statement_line lead word (front ++ (gap ++ m ∷ (gap' ++ back)))) ≡ line_of (statement_line lead word (front ++ m ∷ back))
@@ -196,7 +196,7 @@ said_ends before text after b a = go (cut_of is_colon text)
         let other : cut_at is_colon text ≡ Some (front, behind) = ap (cut_at is_colon) is ∙ cut_at_mid is_colon front c behind h e in
         rw (one, other, trimmed_behind before front b) (label_or (is_name (trimmed front)) (trimmed front) behind)
 
--- what stands before the comment
+-- the line before its comment
 abbrev kept : List ℕ → List ℕ
 kept line = before_comment line (cut_at is_mark line)
 
@@ -229,7 +229,7 @@ ends_change_nothing before line after b a = ap said_in (kept_behind before (line
         ∙ kept_cut front c (behind ++ after) h e ∙ sym (append-nil front))
         ∙ said_ends before front [] b refl ∙ ap said_in (sym (ap kept is ∙ kept_cut front c behind h e))
 
--- Blanks round the colon of a label do not change what a line says.
+-- Blanks around the colon of a label do not change what a line says.
 pub colon_changes_nothing : (name gap gap' rest : List ℕ) → is_name name ≡ true → AreBlanks gap → AreBlanks gap'
     → line_of (name ++ (gap ++ 58 ∷ (gap' ++ rest))) ≡ line_of (name ++ 58 ∷ rest)
 unfolding line_of said_in

@@ -1,4 +1,4 @@
--- A comment is left out.
+-- A comment changes nothing.
 use Rattle.std.proofs.Common.{◌≡◌, ℕ, Bool, true, false, not, eqb, List, [], ◌∷◌, ◌++◌, refl, sym, ap, ◌∙◌, append_assoc}
 use Rattle.std.specs.List.{list_all}
 use Rattle.std.proofs.lemmas.Bool.{and_from, not_from_false}
@@ -6,7 +6,7 @@ use Rattle.asm_lines.specs.Text.{cut_at}
 use Rattle.asm_lines.specs.Statements.{before_comment, said_in, line_of}
 use Rattle.asm_lines.proofs.PlainWords.{cut_at_none, cut_at_mid}
 
--- No byte of a text passes, or a first one does.
+-- No byte of the text passes, or there is a first one that does.
 pub data Cut (p : ℕ → Bool) (xs : List ℕ) : Type 0 where
   uncut : list_all (λ b. not (p b)) xs ≡ true → Cut p xs
   cut : (front : List ℕ) (c : ℕ) (behind : List ℕ) → xs ≡ front ++ c ∷ behind → list_all (λ b. not (p b)) front ≡ true → p c ≡ true → Cut p xs
@@ -22,7 +22,7 @@ cut_of p (x ∷ xs) = go (p x) refl (cut_of p xs)
     go false e (cut front c behind is h passes) =
         cut (x ∷ front) c behind (ap (λ (ys : List ℕ). x ∷ ys) is) (and_from (not (p x)) _ (not_from_false (p x) e) h) passes
 
--- the mark of a comment
+-- whether a byte is the mark of a comment
 abbrev pub is_mark : ℕ → Bool
 is_mark b = eqb b 35
 

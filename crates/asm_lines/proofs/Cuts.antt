@@ -1,4 +1,4 @@
--- An operand with a bracket is read by what stands before its last opening bracket, and in it.
+-- An operand with a bracket is read from the parts before its last opening bracket and within it.
 use Rattle.std.proofs.Common.{◌≡◌, ℕ, ◌-◌, Bool, true, false, not, eqb, List, [], ◌∷◌, ◌++◌, length, Option, Some, None, refl, sym, ap, subst, ◌∙◌, arith}
 use Rattle.std.specs.Prelude.{slice_index, reverse, nat_lt, if◌then◌else◌, codes, ℤ, pos, negsuc}
 use Rattle.std.specs.Option.{option_map}
@@ -55,14 +55,15 @@ parts_trimmed o = option_map (λ parts. (trimmed parts.0, trimmed parts.1)) o
 abbrev pub cut_trimmed : List ℕ → Parts
 cut_trimmed xs = parts_trimmed (cut_last_at 40 xs)
 
--- A text that ends with a closing bracket has the parts of the last cut before it, trimmed; another has none.
+-- If a text ends with a closing bracket, its bracketed parts are those of the last cut before it, trimmed; else it has
+-- none.
 pub bracketed_snoc : (xs : List ℕ) (c : ℕ) → bracket_parts (xs ++ c ∷ []) ≡ (if eqb c 41 then cut_trimmed xs else None)
 unfolding bracket_parts
 bracketed_snoc xs c =
     let count : length (xs ++ c ∷ []) - 1 ≡ length xs = simp length-append (omega arith) in
     rw (count, get_or-append_seam xs c [] 0, take_at xs (c ∷ []) (length xs) refl) refl
 
--- Two cuts into what stands before an opening bracket and in it: both are read alike, and name the same label after a modifier.
+-- The two cuts at an opening bracket are read alike, and name the same label after a modifier.
 pub record SameCut (one other : Parts) : Type 0 where
   -- both are read alike
   pub brackets : AreBracketedAlike one other
@@ -78,10 +79,10 @@ same_cut one other e = subst (SameCut one) e (record { brackets = itself one; na
     itself None = tt
     itself (Some p) = (refl, refl, refl)
 
--- ---- what the readers make of both
+-- ---- what the readers give for both
 
 module _ (m : ℕ) (is : IsBracket m) where
-  -- Where the cuts are the same, all readers agree: a text with a bracket is nothing but %hi, %lo or an address.
+  -- If the cuts are the same, all readers agree: a text with a bracket can only be %hi, %lo or an address.
   pub from_cuts : (P Q P' Q' : List ℕ) → SameCut (bracket_parts (P ++ m ∷ Q)) (bracket_parts (P' ++ m ∷ Q')) → AreReadAlike (P ++ m ∷ Q) (P' ++ m ∷ Q')
   unfolding value_in upper_in lower_in part_in natural_within byte_in
   from_cuts P Q P' Q' same = record {

@@ -1,4 +1,4 @@
--- The numbers of fields, as they are written, are in range.
+-- The numbers written for fields are in range.
 use Rattle.std.proofs.Common.{◌≡◌, ℕ, suc, ◌+◌, ◌-◌, ◌*◌, ◌/◌, ◌^◌, ◌<◌, ◌≤◌, true, refl, arith, inl, inr}
 use Rattle.std.specs.Prelude.{ℤ, pos, negsuc, ◌-ℤ◌, int_le, unsigned_abs}
 use Rattle.std.proofs.lemmas.Bool.{cases_lt, lt-ltb, le-ltb, le-leb}
@@ -9,7 +9,7 @@ use Rattle.asm_lines.specs.Written.{signed, offset}
 below_zero : (a b : ℕ) → a < b → (pos a -ℤ pos b) ≡ negsuc (b - a - 1)
 below_zero a b lt = omega (arith, ints)
 
--- a signed number that is one of these, whichever
+-- A property holds of the number of a signed field if it holds for both values of the sign bit.
 pub signed_cases : (P : ℤ → Type 0) (sign field : ℕ) → field < 2 * sign → (field < sign → P (pos field)) → (sign ≤ field → P (negsuc (2 * sign - field - 1))) →
     P (signed sign field)
 signed_cases P sign field fits low high =
@@ -31,12 +31,12 @@ module _ (sign field : ℕ) (fits : field < 2 * sign) (small : sign < 2 ^ 31) wh
   pub signed_high : (most : ℕ) → sign ≤ suc most → int_le (signed sign field) (pos most) ≡ true
   signed_high most le = signed_cases (λ z. int_le z (pos most) ≡ true) sign field fits (λ lt. le-leb _ _ (omega arith)) (λ high. refl)
 
--- an offset is even, so it ends one step earlier
+-- An offset is even, so it is at most a bound that is one step lower.
 pub offset_high : (sign field most : ℕ) → field < 2 * sign → 2 * sign ≤ most + 2 → int_le (offset sign field) (pos most) ≡ true
 offset_high sign field most fits le =
     signed_cases (λ z. int_le z (pos most) ≡ true) (2 * sign) (2 * field) (omega arith) (λ lt. le-leb _ _ (omega arith)) (λ high. refl)
 
--- ---- the low bits of a number are its field again
+-- ---- the low bits of a number are its field
 
 -- The low bits of the number of a signed field of 12 bits are the field.
 pub lower_bits : (f : ℕ) → f < 2 ^ 12 → low_bits (2 ^ 12) (signed (2 ^ 11) f) ≡ f

@@ -1,4 +1,4 @@
--- Blanks on either side of a bracket change nothing in an operand.
+-- Blanks on either side of a bracket do not change how an operand is read.
 use Rattle.std.proofs.Common.{◌≡◌, ℕ, zero, suc, ◌+◌, ◌<◌, ◌≤◌, Bool, true, false, eqb, List, [], ◌∷◌, ◌++◌, length}
 use Rattle.std.proofs.Common.{Some, None, refl, sym, ap, ap₂, subst, ◌∙◌, append_assoc, arith, inl, inr, ◌⊎◌}
 use Rattle.std.specs.Prelude.{◌&&◌, reverse, if◌then◌else◌}
@@ -35,7 +35,7 @@ trimmed_marked A m Q n (inr (front, c, e, s)) =
     = ap (λ q. front_trimmed A ++ m ∷ q) e ∙ sym (append_assoc (front_trimmed A) (m ∷ front) (c ∷ [])) in
     ap (λ l. reverse (front_trimmed (reverse l))) (front_before A m Q n ∙ apart) ∙ back_solid (front_trimmed A ++ m ∷ front) c s ∙ sym apart
 
--- both texts without the blanks at their ends: some blanks are left, or none
+-- Both texts after trimming, with the blanks that are left on either side of the byte.
 record Normal (m : ℕ) (A gap gap' B : List ℕ) : Type 0 where
   P : List ℕ
   Q : List ℕ
@@ -95,7 +95,7 @@ normal m A gap gap' B n h h' = go (kept_of A gap h) (ends_of B)
 -- ---- in an operand
 
 module _ (m : ℕ) (is : IsBracket m) where
-  -- for texts with fewer than n bytes after the bracket
+  -- Texts with fewer than n bytes after the bracket are read alike.
   abbrev AlikeWithin : ℕ → Type 0
   AlikeWithin n = (A gap gap' B : List ℕ) → AreBlanks gap → AreBlanks gap' → length B < n
       → AreReadAlike (trimmed (A ++ (gap ++ m ∷ (gap' ++ B)))) (trimmed (A ++ m ∷ B))
@@ -104,7 +104,7 @@ module _ (m : ℕ) (is : IsBracket m) where
   some_marked P Q = ne_eqb _ _ (λ e. absurd (omega (arith, e, length-append P (m ∷ Q))))
 
   module _ (n : ℕ) (within : AlikeWithin n) (P g g' : List ℕ) (blanks : AreBlanks g) (blanks' : AreBlanks g') where
-    -- The last opening bracket stands after the gap: what stands before it has the gap in turn.
+    -- If the last opening bracket is after the gap, the part before it has the gap too.
     cut_behind : (front inside : List ℕ) → lacks 40 inside ≡ true → length front < n
         → SameCut (cut_trimmed (P ++ (g ++ m ∷ (g' ++ (front ++ 40 ∷ inside))))) (cut_trimmed (P ++ m ∷ (front ++ 40 ∷ inside)))
     cut_behind front inside h less =
@@ -134,7 +134,7 @@ module _ (m : ℕ) (is : IsBracket m) where
               ∙ sym (ap (λ l. bytes_eq l modifier) norm.one ∙ unlike m is norm.P norm.Q modifier free));
         })
 
-    -- it is the bracket itself
+    -- If the bracket at the gap is the last opening bracket, the cuts are the same.
     cut_here : (inside : List ℕ) → m ≡ 40 → lacks 40 inside ≡ true → SameCut (cut_trimmed (P ++ (g ++ m ∷ (g' ++ inside)))) (cut_trimmed (P ++ m ∷ inside))
     cut_here inside e h =
         let wide : lacks 40 (g' ++ inside) ≡ true = lacks_both 40 g' inside (no_such is_blank 40 refl g' blanks') h in
@@ -146,7 +146,7 @@ module _ (m : ℕ) (is : IsBracket m) where
         ∙ ap parts_trimmed (sym (cut_last_mid P inside h))
         ∙ ap (λ b. cut_trimmed (P ++ b ∷ inside)) (sym e))
 
-    -- a closing bracket stands after it, so no register does
+    -- If the bracket is a closing one, and no opening one follows, no register is read from either text.
     cut_before : (Q : List ℕ) → m ≡ 41 → lacks 40 Q ≡ true → SameCut (cut_trimmed (P ++ (g ++ m ∷ (g' ++ Q)))) (cut_trimmed (P ++ m ∷ Q))
     cut_before Q e h = go (last_cut P)
       where
@@ -199,7 +199,7 @@ module _ (m : ℕ) (is : IsBracket m) where
             (cut_behind front inside h (omega (arith, less, count)))
         go (without h) = elim is.which [ inl e ↦ cut_here Q e h | inr e ↦ cut_before Q e h ]
 
-    -- the bracket is the last byte
+    -- If the bracket at the gap is the last byte, the cuts are the same.
     cut_at_end : SameCut (cut_trimmed (P ++ g)) (cut_trimmed P)
     cut_at_end = go (last_cut P)
       where
@@ -246,6 +246,6 @@ module _ (m : ℕ) (is : IsBracket m) where
           rw (left, right, bracketed_snoc (P ++ (g ++ m ∷ (g' ++ front))) c, bracketed_snoc (P ++ m ∷ front) c)
           (closed (eqb c 41) _ _ (cut_same n within P g g' b b' front fits))
 
-  -- in an operand
+  -- Blanks on either side of a bracket do not change how an operand is read.
   pub gap_alike : (A gap gap' B : List ℕ) → AreBlanks gap → AreBlanks gap' → AreReadAlike (trimmed (A ++ (gap ++ m ∷ (gap' ++ B)))) (trimmed (A ++ m ∷ B))
   gap_alike A gap gap' B h h' = gap_within (suc (length B)) A gap gap' B h h' (omega arith)

@@ -1,4 +1,4 @@
--- A loop over operands, each of which is read into an element.
+-- A loop that reads each operand into an element.
 use Rattle.std.proofs.Common.{◌≡◌, ℕ, ◌+◌, ◌<◌, ◌≤◌, List, [], ◌∷◌, ◌++◌, length, get_or, drop, map, Result, Ok}
 use Rattle.std.proofs.Common.{Err, Bor, refl, sym, ap, ◌∙◌, append_assoc, append-nil, add-one, drop-cons}
 use Rattle.std.proofs.lemmas.List.{map-append}
@@ -17,7 +17,7 @@ at_item : (operands : List (Bor (List ℕ))) (i : ℕ) (d : Bor (List ℕ)) → 
     nows (drop i operands) ≡ (get_or operands i d).now ∷ nows (drop (i + 1) operands)
 at_item operands i d lt = rw (add-one, drop-cons operands i d lt) refl
 
--- elements of the code, seen by `view`, are what `read` gives
+-- elements of the code that are, seen by `view`, what `read` gives
 module _ {X A : Type 0} (view : X → A) (read : List ℕ → Result A LineFault) (operands : List (Bor (List ℕ))) (i : ℕ) (d : Bor (List ℕ)) where
   regroup : (front : List A) (x : A) (r : Result (List A) LineFault) → with_front front (r >>= λ xs. Ok (x ∷ xs)) ≡ with_front (front ++ x ∷ []) r
   regroup front x (Ok xs) = ap (λ (ys : List A). Ok ys) (sym (append_assoc front (x ∷ []) xs))

@@ -24,7 +24,7 @@ cut_base front base h =
     ∙ bracketed_snoc (front ++ 40 ∷ base) 41
     ∙ ap parts_trimmed (cut_last_mid front base h)
 
--- a numeral is no modifier, which begins with %
+-- A numeral is not a modifier, which begins with %.
 no_modifier : (b : ℕ) (bs modifier : List ℕ) → digit_value b < 10 → slice_index modifier 0 ≡ 37 → bytes_eq (b ∷ bs) modifier ≡ false
 no_modifier b bs [] h e = refl
 no_modifier b bs (y ∷ ys) h e = and_left (eqb b y) _ (ap (eqb b) e ∙ not-true _ (digit_passes (λ d. not (eqb d 37)) refl b h))
@@ -60,8 +60,8 @@ all_alike_of : {ones others : List (List ℕ)} → Pairwise SayTheSame ones othe
 all_alike_of none = none
 all_alike_of (more h rest) = more (alike_of h) (all_alike_of rest)
 
--- Lines with the same label and first word say the same if their operands do, pair by pair, and have no colon
--- and no mark of a comment.
+-- Lines with the same label and first word say the same if their operands do in pairs, and have no colon and no mark of
+-- a comment.
 pub numeral_lines : (lead word rest rest' : List ℕ) → IsLead lead → IsFirstWord word → IsQuiet rest → IsQuiet rest'
     → Pairwise SayTheSame (operands_of rest) (operands_of rest')
     → line_of (statement_line lead word rest) ≡ line_of (statement_line lead word rest')

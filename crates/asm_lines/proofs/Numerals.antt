@@ -1,4 +1,4 @@
--- A number that is written is read again.
+-- A number that is written is read back as the same number.
 use Rattle.std.proofs.Common.{◌≡◌, ℕ, suc, ◌+◌, ◌-◌, ◌*◌, ◌^◌, ◌<◌, ◌≤◌, Bool, true, false, not, eqb}
 use Rattle.std.proofs.Common.{ltb, List, [], ◌∷◌, length, Some, Ok, refl, ap, ◌∙◌, arith, inl, inr}
 use Rattle.std.specs.Prelude.{◌==◌, ◌&&◌, ◌||◌, nat_lt, ℤ, pos, negsuc, int_le, slice_index, unsigned_abs}
@@ -31,7 +31,7 @@ digits_again : (v : ℕ) (bs : List ℕ) → AllDigits 10 bs → digits_after 10
 digits_again v [] h = refl
 digits_again v (b ∷ bs) h = rw (digit_again b h.0) (digits_again (v * 10 + digit_value b) bs h.1)
 
--- what holds of each byte from 48 to 57 holds of a digit
+-- A test that all bytes from 48 to 57 pass is passed by every decimal digit.
 pub digit_passes : (q : ℕ → Bool) → agree_below (λ b. nat_lt b 48 || q b) (λ _. true) 58 ≡ true → (b : ℕ) → digit_value b < 10 → q b ≡ true
 digit_passes q table b h =
     let r = in_digits b h in
@@ -77,20 +77,20 @@ signed_read (pos n) small = decimal_read n small
 signed_read (negsuc n) small = let d = decimal_is_IsNumeral (suc n) (omega arith) in
     minus_digits (decimal (suc n)) d.0 ∙ ap (λ (v : ℕ). Some (minus v)) d.1 ∙ ap (λ (z : ℤ). Some z) (minus_suc n)
 
--- A number within its bounds is read again from its signed decimal text, if it is below 2^32 in absolute value.
+-- A number within its bounds is read back from its signed decimal text, if it is below 2^32 in absolute value.
 pub within_again : (least most z : ℤ) → unsigned_abs z < 2 ^ 32 → int_le least z ≡ true → int_le z most ≡ true →
     number_within least most (signed_decimal z) ≡ Ok z
 unfolding number_within
 within_again least most z small low high = rw (signed_read z small, low, high) refl
 
--- A natural number up to a bound below 2^32 is read again from its decimal text.
+-- A natural number up to a bound below 2^32 is read back from its decimal text.
 pub natural_again : (most n : ℕ) → n ≤ most → most < 2 ^ 32 → natural_within most (decimal n) ≡ Ok n
 unfolding natural_within number_within
 natural_again most n le small = rw (decimal_read n (omega arith), le-leb 0 n (omega arith), le-leb n most le) refl
 
 -- ---- as words
 
--- what holds of digits and of a minus holds of each byte
+-- A test that digits and the minus pass is passed by each byte of a signed decimal text.
 pub signed_pass : (q : ℕ → Bool) → agree_below (λ b. nat_lt b 48 || q b) (λ _. true) 58 ≡ true → q 45 ≡ true → (z : ℤ) → unsigned_abs z < 2 ^ 32 →
     list_all q (signed_decimal z) ≡ true
 signed_pass q table minus (pos n) small = digits_pass q table (decimal n) (decimal_is_IsNumeral n (omega arith)).0.1

@@ -1,4 +1,4 @@
--- Words without special bytes, and the cuts of texts that are made of them.
+-- Words without special bytes, and how texts made of them are cut.
 use Rattle.std.proofs.Common.{◌≡◌, ℕ, suc, ◌+◌, ◌-◌, ◌<◌, ◌≤◌, Bool, true, false, not, eqb, List, [], ◌∷◌, ◌++◌}
 use Rattle.std.proofs.Common.{length, get_or, drop, map, Some, None, refl, sym, ap, ◌∙◌, append_assoc, append-nil}
 use Rattle.std.proofs.Common.{arith}
@@ -21,7 +21,7 @@ pub weaker : (p q : ℕ → Bool) → ((b : ℕ) → p b ≡ true → q b ≡ tr
 weaker p q h [] e = refl
 weaker p q h (x ∷ xs) e = let a = and_parts (p x) (list_all p xs) e in and_from (q x) (list_all q xs) (h x a.0) (weaker p q h xs a.1)
 
--- If each byte of two texts passes a test, so does each byte of one text after the other.
+-- If each byte of two texts passes a test, so does each byte of their concatenation.
 pub joined_all : (q : ℕ → Bool) (xs ys : List ℕ) → list_all q xs ≡ true → list_all q ys ≡ true → list_all q (xs ++ ys) ≡ true
 joined_all q xs ys a b = list_all-append q xs ys ∙ and_from (list_all q xs) (list_all q ys) a b
 
@@ -39,7 +39,7 @@ cut_mid : (p : ℕ → Bool) (xs : List ℕ) (c : ℕ) (ys : List ℕ) → list_
 cut_mid p [] c ys h e = rw e refl
 cut_mid p (x ∷ xs) c ys h e = let a = and_parts (not (p x)) (list_all (λ b. not (p b)) xs) h in rw (a.0, cut_mid p xs c ys a.1 e) (omega arith)
 
--- A text of which no byte passes is not cut.
+-- A text in which no byte passes is not cut.
 pub cut_at_none : (p : ℕ → Bool) (xs : List ℕ) → list_all (λ b. not (p b)) xs ≡ true → cut_at p xs ≡ None
 unfolding cut_at
 cut_at_none p xs h = let past : nat_lt (length xs) (length xs) ≡ false = le-ltb _ _ (omega arith) in rw (cut_none p xs h, past) refl
@@ -81,7 +81,7 @@ kept_front : (xs : List ℕ) → is_blank (get_or xs 0 32) ≡ false → front_t
 kept_front [] h = refl
 kept_front (x ∷ xs) h = rw h refl
 
--- A text that begins and ends with no blank is its own trimmed text.
+-- A text whose first and last byte are not blanks is its own trimmed text.
 pub trimmed_same : (xs : List ℕ) → is_blank (get_or xs 0 32) ≡ false → is_blank (get_or (reverse xs) 0 32) ≡ false → trimmed xs ≡ xs
 unfolding trimmed
 trimmed_same xs first last = rw (kept_front xs first, kept_front (reverse xs) last, reverse-reverse) refl
@@ -97,7 +97,7 @@ trimmed_blank xs = refl
 
 -- ---- words
 
--- no blank, and no comma, comment, colon or line feed
+-- whether a byte is not a blank, a comma, the mark of a comment, a colon or a line feed
 abbrev pub is_plain : ℕ → Bool
 is_plain b = not (is_blank b || (b == 44) || (b == 35) || (b == 58) || (b == 10))
 
@@ -143,7 +143,7 @@ module _ (w : List ℕ) (is : Word w) where
   pub first_stays : is_blank (get_or w 0 32) ≡ false
   first_stays = (plain_parts (get_or w 0 32) (all_at is_plain w 0 32 is.nonempty is.plain)).0
 
--- the last byte of a text is that of what stands after some byte
+-- The last byte of a text is the last of the part after a byte, if that part is not empty.
 last_seam : (xs : List ℕ) (c : ℕ) (ys : List ℕ) → 0 < length ys → get_or (reverse (xs ++ c ∷ ys)) 0 32 ≡ get_or (reverse ys) 0 32
 last_seam xs c ys some =
     let split : reverse (xs ++ c ∷ ys) ≡ reverse ys ++ reverse (xs ++ c ∷ []) =
@@ -181,14 +181,14 @@ last_operand front c op (o ∷ os) w (more v vs) =
     ap is_blank (last_seam front c (op ++ 44 ∷ 32 ∷ (o ++ after_commas os)) (some_append op _ w.nonempty)
     ∙ last_seam op 44 (32 ∷ (o ++ after_commas os)) (omega arith)) ∙ last_operand [] 32 o os v vs
 
--- A text is split at its first byte that passes into what is before it and the parts of what is after it.
+-- A text is split at its first byte that passes: the part before it, and the parts of the text after it.
 pub split_mid : (p : ℕ → Bool) (xs : List ℕ) (c : ℕ) (ys : List ℕ) → list_all (λ b. not (p b)) xs ≡ true → p c ≡ true →
     slice_split p (xs ++ c ∷ ys) ≡ xs ∷ slice_split p ys
 split_mid p [] c ys h e = slice_split-cons_yes p c ys e
 split_mid p (x ∷ xs) c ys h e = let a =
     and_parts (not (p x)) (list_all (λ b. not (p b)) xs) h in slice_split-cons_no p x (xs ++ c ∷ ys) (not-true _ a.0) ∙ rw (split_mid p xs c ys a.1 e) refl
 
--- A text of which no byte passes is its own only part.
+-- A text in which no byte passes is its own only part.
 pub split_none : (p : ℕ → Bool) (xs : List ℕ) → list_all (λ b. not (p b)) xs ≡ true → slice_split p xs ≡ xs ∷ []
 split_none p [] h = refl
 split_none p (x ∷ xs) h = let a =
@@ -207,7 +207,7 @@ split_operands lead op (o ∷ os) h t (more w ws) =
     ∙ ap (λ (x : List ℕ). x ∷ map trimmed (slice_split (λ b. eqb b 44) ((32 ∷ o) ++ after_commas os))) t
     ∙ ap (λ (xs : List (List ℕ)). op ∷ xs) (split_operands (32 ∷ o) o os (no_comma o w) (trimmed_blank o ∙ word_trimmed o w) ws)
 
--- Words that are written with commas between them are read as these operands.
+-- Words that are written with commas between them are read back as operands.
 pub operands_again : (op : List ℕ) (ops : List (List ℕ)) → Word op → Words ops → operands_of (op ++ after_commas ops) ≡ op ∷ ops
 unfolding operands_of
 operands_again op ops w ws = split_operands op op ops (no_comma op w) (word_trimmed op w) ws
@@ -239,8 +239,8 @@ unfolding bracket_parts
 bracketed_none w some h = let last : eqb (get_or w (length w - 1) 0) 41 ≡ false =
     not-true _ (all_at (λ b. not (eqb b 41)) w (length w - 1) 0 (omega arith) h) in rw last refl
 
--- What is written in brackets after a front is read as these two parts, if both are trimmed and no opening
--- bracket is inside.
+-- A text written as a front and an inside in brackets is read as these two parts, if both are trimmed and the inside
+-- has no opening bracket.
 pub bracketed_again : (front inside : List ℕ) → trimmed front ≡ front → trimmed inside ≡ inside → list_all (λ b. not (eqb b 40)) inside ≡ true →
     bracket_parts (in_brackets front inside) ≡ Some (front, inside)
 unfolding bracket_parts

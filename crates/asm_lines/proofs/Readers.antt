@@ -121,7 +121,7 @@ directive_alike directives.Word all = rw (each_alike word_in (λ a b h. h.value 
 directive_alike directives.Byte all = rw (each_alike byte_in (λ a b h. h.byte) all) refl
 directive_alike directives.Zero all = rw (count_alike all) refl
 
--- A first word says the same statement with operands that are read alike, pair by pair.
+-- The statement of a first word is the same for operands that are read alike in pairs.
 pub chosen_alike : (d : Option Directive) (m : Option (Mnemonic × Order)) {xs ys : List (List ℕ)} → Pairwise AreReadAlike xs ys → chosen d m xs ≡ chosen d m ys
 chosen_alike (Some d) m all = directive_alike d all
 chosen_alike None (Some m) all = rw (instruction_alike m.0 m.1 all) refl

@@ -1,4 +1,4 @@
--- The text of an instruction is read again.
+-- The text of an instruction is read back as the instruction.
 use Rattle.std.proofs.Common.{◌≡◌, ℕ, ◌*◌, ◌^◌, ◌<◌, Bool, true, false, not, eqb, List, [], ◌∷◌, ◌++◌, length, Option, Some, None, Ok, refl, ap, arith}
 use Rattle.std.specs.Prelude.{is_some, unwrap_or, ◌==◌, ◌&&◌, codes, nat_lt, ℤ, pos, negsuc, unsigned_abs, int_le}
 use Rattle.std.specs.List.{list_all}
@@ -71,7 +71,7 @@ module _ (name : List ℕ) (m : Mnemonic) (order : Order) (i : Instr) (wn : Word
 
 -- ---- mnemonics
 
--- a mnemonic as it is written is a word, no directive, and read again
+-- The text of a mnemonic is a word, is not a directive, and is read back as the mnemonic.
 record IsReadAgain (m : Mnemonic) (order : Order) : Type 0 where
   word : Word (written m order)
   none_such : directive_of (written m order) ≡ None
@@ -278,14 +278,14 @@ base_again rs1 base = rw (bracketed_again [] (x_name rs1) trimmed_nothing (word_
 two : {a b : List ℕ} → Word a → Word b → Words (a ∷ b ∷ [])
 two v w = more v (more w none)
 
--- a text is one line, which says an instruction
+-- The text is one line, which says the instruction.
 pub record IsLineOf (text : List ℕ) (i : Instr) : Type 0 where
   -- the text is read as the instruction, with no label
   pub read : line_of text ≡ Ok (record { name = None; statement = Some (instruction i) })
   -- it has no line feed
   pub one_line : parts_at 10 text ≡ text ∷ []
 
--- an instruction with operands is read from its text where they are words that are read
+-- If an instruction is read from operands that are words, it is read from its text with these operands.
 from_operands : (m : Mnemonic) (order : Order) (i : Instr) (op : List ℕ) (ops : List (List ℕ)) → IsReadAgain m order → Word op → Words ops →
     instruction_in m order (op ∷ ops) ≡ Ok i → IsLineOf (with_operands (written m order) (op ∷ ops)) i
 from_operands m order i op ops again w ws read = record {

@@ -1,4 +1,4 @@
--- A line with a statement is read by its label, its first word and its operands.
+-- What a line with a statement says depends on its label, its first word and its operands.
 use Rattle.std.proofs.Common.{◌≡◌, ℕ, ◌<◌, Bool, true, false, not, eqb, List, [], ◌∷◌, ◌++◌, length, get_or, Option}
 use Rattle.std.proofs.Common.{Some, None, Result, Ok, refl, sym, ap, ◌∙◌, append_assoc, arith, inl, inr}
 use Rattle.std.specs.Prelude.{◌||◌}
@@ -56,7 +56,7 @@ quiet_mark bytes h = weaker (λ b. not (eqb b 58 || eqb b 35)) (λ b. not (eqb b
 
 -- ---- labels
 
--- A name, blanks and a colon are read as a label of that name, and what follows is the rest of the text.
+-- A name, blanks and a colon are read as a label with that name, and the text after them is the rest.
 pub labelled : (name gap rest : List ℕ) → is_name name ≡ true → AreBlanks gap → label_in ((name ++ gap) ++ 58 ∷ rest) ≡ (Some name, rest)
 unfolding label_in
 labelled name gap rest e h =
@@ -153,8 +153,8 @@ module _ (lead word : List ℕ) (led : IsLead lead) (is : IsFirstWord word) wher
             statement_read word is rest,
           ) refl
 
-  -- Lines with the same label and first word say the same if their operands are read alike, pair by pair,
-  -- and have no colon and no mark of a comment.
+  -- Lines with the same label and first word say the same if their operands are read alike in pairs, and have no colon
+  -- and no mark of a comment.
   pub lines_alike : (rest rest' : List ℕ) → IsQuiet rest → IsQuiet rest' → Pairwise AreReadAlike (operands_of rest) (operands_of rest')
       → line_of (statement_line lead word rest) ≡ line_of (statement_line lead word rest')
   unfolding statement_in

@@ -24,7 +24,7 @@ slice_split-uncut p (b ∷ bs) e = uncut (p b) refl e (slice_split-uncut p bs)
     uncut true is e more = absurd (omega arith)
     uncut false is e more = slice_split-cons_no p b bs is ∙ rw (more (omega arith)) refl
 
--- the parts so far, each as `f` of what stands before a byte that passes, and the rest
+-- the pieces so far, each `f` of the bytes before a byte that passes, and the rest
 module _ (p : ℕ → Bool) (f : List ℕ → List ℕ) where
   -- If a piece is cut off the rest, the pieces so far and the pieces of the rest still are all pieces.
   pub pieces_more : (old new : List (Bor (List ℕ))) (x : Bor (List ℕ)) (rest after : List ℕ) (all : List (List ℕ)) → new ≡ old ++ x ∷ [] →

@@ -10,15 +10,15 @@ use Rattle.asm_lines.specs.Alike.{AreBlanks}
 use Rattle.asm_lines.proofs.PlainWords.{weaker, joined_all, all_at, trimmed_same, split_mid, split_none}
 use Rattle.asm_lines.proofs.Comments.{Cut, uncut, cut, cut_of}
 
--- the text has no such byte
+-- whether the text has no such byte
 abbrev pub lacks : ℕ → List ℕ → Bool
 lacks m xs = list_all (λ b. not (eqb b m)) xs
 
--- If two texts lack a byte, so does one after the other.
+-- If two texts lack a byte, so does their concatenation.
 pub lacks_both : (m : ℕ) (xs ys : List ℕ) → lacks m xs ≡ true → lacks m ys ≡ true → lacks m (xs ++ ys) ≡ true
 lacks_both m xs ys h i = joined_all (λ b. not (eqb b m)) xs ys h i
 
--- where each byte passes, none is one that does not
+-- If each byte passes a test, no byte is one that fails it.
 pub no_such : (p : ℕ → Bool) (c : ℕ) → p c ≡ false → (bs : List ℕ) → list_all p bs ≡ true → lacks c bs ≡ true
 no_such p c fails bs h = weaker p (λ b. not (eqb b c)) (λ b e. go b e (eqb b c) refl) bs h
   where
@@ -26,7 +26,7 @@ no_such p c fails bs h = weaker p (λ b. not (eqb b c)) (λ b e. go b e (eqb b c
     go b e false f = refl
     go b e true f = let differ : false ≡ true = sym fails ∙ sym (ap p (eqb-true b c f)) ∙ e in differ
 
--- ---- a text after blanks, or before them
+-- ---- a text with blanks before or after it
 
 reverse_cons : (x : ℕ) (xs : List ℕ) → reverse (x ∷ xs) ≡ reverse xs ++ x ∷ []
 reverse_cons x xs = reverse-append (x ∷ []) xs
@@ -46,7 +46,7 @@ front_blank : (gap : List ℕ) → AreBlanks gap → front_trimmed gap ≡ []
 front_blank [] h = refl
 front_blank (g ∷ gap) h = let a = and_parts (is_blank g) (list_all is_blank gap) h in rw a.0 (front_blank gap a.1)
 
--- up to a byte that is no blank, only what stands before it is trimmed
+-- Trimming the front of a text keeps a byte that is not a blank, and all after it.
 pub front_before : (xs : List ℕ) (c : ℕ) (ys : List ℕ) → is_blank c ≡ false → front_trimmed (xs ++ c ∷ ys) ≡ front_trimmed xs ++ c ∷ ys
 front_before [] c ys h = rw h refl
 front_before (x ∷ xs) c ys h = go (is_blank x) (front_before xs c ys h)
@@ -64,13 +64,13 @@ trimmed_behind gap xs h = ap (λ (l : List ℕ). reverse (front_trimmed (reverse
 back_before : (xs gap : List ℕ) → AreBlanks gap → front_trimmed (reverse (xs ++ gap)) ≡ front_trimmed (reverse xs)
 back_before xs gap h = ap front_trimmed (reverse-append xs gap) ∙ front_behind (reverse gap) (reverse xs) (all_reversed is_blank gap h)
 
--- blanks after a text stay where it has a byte that is no blank
+-- what is left of the blanks after a text if the text is trimmed in front
 pub record Kept (xs gap : List ℕ) : Type 0 where
-  -- what is left of the blanks
+  -- the blanks that are left
   pub gap_left : List ℕ
-  -- the text with the blanks, trimmed in front, is the trimmed text and these
+  -- the text with the blanks, trimmed in front, is the trimmed text and those
   pub is : front_trimmed (xs ++ gap) ≡ front_trimmed xs ++ gap_left
-  -- these are blanks
+  -- those are blanks
   pub blanks : AreBlanks gap_left
 
 twice : (ys : List ℕ) → list_all (λ b. not (not (is_blank b))) ys ≡ true → AreBlanks ys
@@ -110,12 +110,12 @@ trimmed_before xs gap h =
 
 -- ---- the end of a text
 
--- blanks alone, or a last byte that is none, with blanks after it
+-- The text is blanks alone, or has a last byte that is not a blank, with blanks after it.
 pub data Ends (xs : List ℕ) : Type 0 where
   blank : AreBlanks xs → Ends xs
   solid : (front : List ℕ) (c : ℕ) (gap : List ℕ) → xs ≡ (front ++ c ∷ []) ++ gap → is_blank c ≡ false → AreBlanks gap → Ends xs
 
--- Each text is blanks alone, or has a last byte that is none.
+-- Each text is blanks alone, or has a last byte that is not a blank.
 pub ends_of : (xs : List ℕ) → Ends xs
 ends_of [] = blank refl
 ends_of (x ∷ xs) = go (ends_of xs)
@@ -128,11 +128,11 @@ ends_of (x ∷ xs) = go (ends_of xs)
     go (blank h) = first (is_blank x) refl h
     go (solid front c gap is n h) = solid (x ∷ front) c gap (ap (λ (ys : List ℕ). x ∷ ys) is) n h
 
--- a text that begins and ends with no blank
+-- A text whose first and last byte are not blanks is its own trimmed text.
 pub trimmed_solid : (xs : List ℕ) (c : ℕ) → is_blank (get_or (xs ++ c ∷ []) 0 32) ≡ false → is_blank c ≡ false → trimmed (xs ++ c ∷ []) ≡ xs ++ c ∷ []
 trimmed_solid xs c first last = trimmed_same (xs ++ c ∷ []) first (ap (λ l. is_blank (get_or l 0 32)) (reverse-append xs (c ∷ [])) ∙ last)
 
--- no blank at all
+-- A text without a blank is its own trimmed text, if it is not empty.
 pub trimmed_word : (xs : List ℕ) → 0 < length xs → list_all (λ b. not (is_blank b)) xs ≡ true → trimmed xs ≡ xs
 trimmed_word xs some h = trimmed_same xs (not-true _ (all_at (λ b. not (is_blank b)) xs 0 32 some h))
     (not-true _ (all_at (λ b. not (is_blank b)) (reverse xs) 0 32 (rw length-reverse some) (all_reversed (λ b. not (is_blank b)) xs h)))
@@ -163,7 +163,7 @@ operands_behind gap xs h = go (cut_of is_comma xs)
         ∙ ap (map trimmed) (sym (split_mid is_comma front c behind e n))
         ∙ ap (λ l. map trimmed (slice_split is_comma l)) (sym is)
 
--- after a beginning of an operand
+-- Blanks after a text do not change its operands, even if the first operand begins before the text.
 operands_after : (lead xs gap : List ℕ) → lacks 44 lead ≡ true → AreBlanks gap
     → map trimmed (slice_split is_comma (lead ++ (xs ++ gap))) ≡ map trimmed (slice_split is_comma (lead ++ xs))
 operands_after lead [] gap l h =

@@ -1,4 +1,4 @@
--- A text with a bracket is no number, no name and no register.
+-- A text with a bracket is not a number, a name or a register.
 use Rattle.std.proofs.Common.{◌≡◌, ℕ, ◌+◌, ◌*◌, Bool, true, false, not, eqb, eq-eqb, List, [], ◌∷◌}
 use Rattle.std.proofs.Common.{◌++◌, Option, Some, None, Err, refl, sym, subst, ◌∙◌, inl, inr, ◌⊎◌}
 use Rattle.std.specs.Prelude.{◌&&◌, ◌||◌, ℤ, if◌then◌else◌}
@@ -15,7 +15,7 @@ use Rattle.asm_lines.proofs.PlainWords.{weaker}
 use Rattle.asm_lines.proofs.Alike.{find_nothing}
 use Rattle.asm_lines.proofs.Trims.{lacks}
 
--- what a bracket is not
+-- The byte is a bracket, and no other byte that is read.
 pub record IsBracket (m : ℕ) : Type 0 where
   -- it is an opening or a closing bracket
   pub which : (m ≡ 40) ⊎ (m ≡ 41)
@@ -42,12 +42,12 @@ pub record IsBracket (m : ℕ) : Type 0 where
   -- not in %lo
   pub low : lacks m (37 ∷ 108 ∷ 111 ∷ []) ≡ true
 
--- what is so of both brackets is so of each
+-- a bracket, of which holds what holds of both
 module _ (m : ℕ) (which : (m ≡ 40) ⊎ (m ≡ 41)) where
   of_both : (P : ℕ → Type 0) → P 40 → P 41 → P m
   of_both P a b = elim which [ inl e ↦ subst P (sym e) a | inr e ↦ subst P (sym e) b ]
 
-  -- An opening or a closing bracket is none of these.
+  -- An opening or a closing bracket is no other byte that is read.
   pub bracket : IsBracket m
   bracket = record {
     which = which;
@@ -144,7 +144,7 @@ module _ (m : ℕ) (is : IsBracket m) where
   unfolding number_within
   number_fails least most P Q = rw (no_number P Q) refl
 
-  -- A text with a bracket is not read as no operand.
+  -- A text with a bracket counts as an operand.
   pub some_operand : (P Q : List ℕ) → nothing_in ((P ++ m ∷ Q) ∷ []) ≡ Err Form
   unfolding nothing_in
   some_operand [] Q = refl

@@ -21,7 +21,7 @@ use Rattle.asm_lines.specs.Text.{cut_last_at}
 
 -- ---- mnemonics
 
--- how each instruction is written, without a suffix
+-- the text of each mnemonic, without a suffix
 abbrev pub name_of : Mnemonic → List ℕ
 name_of (Upper Lui) = codes "lui"
 name_of (Upper Auipc) = codes "auipc"
@@ -154,7 +154,7 @@ suffix_by true false = codes ".aq"
 suffix_by false true = codes ".rl"
 suffix_by true true = codes ".aqrl"
 
--- what follows the mnemonic
+-- the suffix of a mnemonic with this ordering
 abbrev pub suffix_of : Order → List ℕ
 suffix_of order = suffix_by order.aq order.rl
 
@@ -162,7 +162,7 @@ suffix_of order = suffix_by order.aq order.rl
 abbrev pub written : Mnemonic → Order → List ℕ
 written m order = name_of m ++ suffix_of order
 
--- the ordering, from what follows the last dot
+-- the ordering with this suffix, which follows the last dot
 abbrev pub order_of : List ℕ → Option Order
 order_of bytes =
     if bytes_eq bytes (codes "aq") then Some (record { aq = true; rl = false })
@@ -172,11 +172,11 @@ order_of bytes =
 
 -- ---- mnemonics with their suffix
 
--- the mnemonic that is written so, without suffix
+-- the mnemonic that is written as the word, without a suffix
 unfoldable pub plain_mnemonic : List ℕ → Option Mnemonic
 plain_mnemonic word = find (λ m. bytes_eq (name_of m) word) mnemonics
 
--- only an atomic memory operation has a suffix
+-- a mnemonic with its ordering, which only an atomic memory operation has
 abbrev pub with_order : Option Mnemonic → Option Order → Option (Mnemonic × Order)
 with_order (Some (Amo op)) (Some order) = Some (Amo op, order)
 with_order _ _ = None
@@ -186,7 +186,7 @@ or_ordered word (Some m) = Some (m, unordered)
 or_ordered word None = option_and_then (λ parts. with_order (plain_mnemonic parts.0) (order_of parts.1))
     (cut_last_at 46 word)
 
--- the mnemonic that is written so, and its ordering
+-- the mnemonic that is written as the word, with its ordering
 unfoldable pub mnemonic_of : List ℕ → Option (Mnemonic × Order)
 mnemonic_of word = or_ordered word (plain_mnemonic word)
 
@@ -203,7 +203,7 @@ directive_name Zero = codes ".zero"
 abbrev pub directives : List Directive
 directives = Section Code ∷ Section Local ∷ Section Shared ∷ Word ∷ Byte ∷ Zero ∷ []
 
--- the directive that is written so
+-- the directive that is written as the word
 unfoldable pub directive_of : List ℕ → Option Directive
 directive_of word = find (λ d. bytes_eq (directive_name d) word) directives
 
@@ -237,6 +237,6 @@ numbers =
     0 ∷ 1 ∷ 2 ∷ 3 ∷ 4 ∷ 5 ∷ 6 ∷ 7 ∷ 8 ∷ 9 ∷ 10 ∷ 11 ∷ 12 ∷ 13 ∷ 14 ∷ 15 ∷ 16
     ∷ 17 ∷ 18 ∷ 19 ∷ 20 ∷ 21 ∷ 22 ∷ 23 ∷ 24 ∷ 25 ∷ 26 ∷ 27 ∷ 28 ∷ 29 ∷ 30 ∷ 31 ∷ []
 
--- the register that is written so
+-- the register that is written as the word
 unfoldable pub register_of : List ℕ → Option ℕ
 register_of word = find (λ number. bytes_eq (x_name number) word || bytes_eq (use_name number) word) numbers

@@ -8,7 +8,7 @@ use Rattle.asm_lines.specs.declared.fault.LineFault.{LineFault}
 use Rattle.asm_lines.specs.declared.fault.LineFault.TheVariants.{Form, Range}
 use Rattle.asm_lines.specs.Steps.{◌>>=◌}
 
--- the digit that a byte stands for: 0 to 9, a to f, A to F
+-- the value of a digit: 0 to 9, a to f, A to F
 abbrev pub digit_of : ℕ → Option ℕ
 digit_of b =
     if nat_le 48 b && nat_le b 57 then Some (b - 48)
@@ -19,12 +19,12 @@ digit_of b =
 abbrev pub digit_in : ℕ → ℕ → Option ℕ
 digit_in base b = option_and_then (λ d. if nat_lt d base then Some d else None) (digit_of b)
 
--- the value of digits, the first being the highest, after digits of this value
+-- the value of digits, the highest first, that follow digits of this value
 abbrev pub digits_after : ℕ → ℕ → List ℕ → Option ℕ
 digits_after base value [] = Some value
 digits_after base value (b ∷ bs) = option_and_then (λ d. digits_after base (value * base + d) bs) (digit_in base b)
 
--- at least one digit
+-- the value of at least one digit
 unfoldable pub digits_in : ℕ → List ℕ → Option ℕ
 digits_in base [] = None
 digits_in base (b ∷ bs) = digits_after base 0 (b ∷ bs)
@@ -32,7 +32,7 @@ digits_in base (b ∷ bs) = digits_after base 0 (b ∷ bs)
 abbrev pub minus : ℕ → ℤ
 minus n = pos 0 -ℤ pos n
 
--- the number that is written so
+-- the number that is written as the bytes
 unfoldable pub number_of : List ℕ → Option ℤ
 number_of bytes =
     if slice_index bytes 0 == 45 then option_map minus (digits_in 10 (drop 1 bytes))
@@ -40,13 +40,13 @@ number_of bytes =
     && (slice_index bytes 1 == 120) then option_map pos (digits_in 16 (drop 2 bytes))
     else option_map pos (digits_in 10 bytes))
 
--- the number that is written so, where it is from `least` to `most`
+-- the number that is written as the bytes, if it is from `least` to `most`
 unfoldable pub number_within : (least most : ℤ) → List ℕ → Result ℤ LineFault
 number_within least most bytes = do
   z ← ok_or (number_of bytes) Form
   if int_le least z && int_le z most then Ok z else Err Range
 
--- the number from 0 to `most` that is written so
+-- the number that is written as the bytes, if it is from 0 to `most`
 unfoldable pub natural_within : (most : ℕ) → List ℕ → Result ℕ LineFault
 natural_within most bytes = number_within (pos 0) (pos most) bytes >>= λ z. Ok (unsigned_abs z)
 
@@ -54,13 +54,13 @@ natural_within most bytes = number_within (pos 0) (pos most) bytes >>= λ z. Ok 
 abbrev pub low_bits : (modulus : ℕ) → ℤ → ℕ
 low_bits modulus z = cast_unsigned w64 z % modulus
 
--- ---- numbers that are kept up to a bound
+-- ---- numbers up to a cap
 
--- a value, or 2^33 where it is above: no number that large is in any range
+-- a value, or 2^33 if it is larger: no number that large is in any range
 abbrev pub capped : Option ℕ → Option ℕ
 capped o = option_map (λ v. min v (2 ^ 33)) o
 
--- a number, or one past 2^33 in place of one further from 0
+-- The two numbers are the same, or both are at least 2^33, or both are at most -2^33.
 abbrev pub IsCapped : ℤ → ℤ → Type 0
 IsCapped z c = (z ≡ c) ⊎ (((pos (2 ^ 33) ≤ℤ z) × (pos (2 ^ 33) ≤ℤ c)) ⊎ ((z ≤ℤ minus (2 ^ 33)) × (c ≤ℤ minus (2 ^ 33))))
 

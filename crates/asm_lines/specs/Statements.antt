@@ -38,12 +38,12 @@ use Rattle.asm_lines.specs.Text.{is_blank, trimmed, cut_at, cut_last_at, operand
 use Rattle.asm_lines.specs.Number.{number_within, natural_within, low_bits}
 use Rattle.asm_lines.specs.Names.{mnemonic_of, directive_of, register_of}
 
--- a number, or what its place makes of a label: the label's value, %hi or %lo of it, or the way to it
+-- a number or a label, of which its place takes the value, %hi, %lo, or the distance
 pub data Val : Type 0 where
   number : ℤ → Val
   label : List ℕ → Val
 
--- an instruction, with the immediate that a label may stand for
+-- an instruction, whose immediate may be a label
 pub data Instr : Type 0 where
   whole : Insn → Instr
   op_imm : ImmediateOp → (rd rs1 : ℕ) → Val → Instr
@@ -61,7 +61,7 @@ pub data Stmt : Type 0 where
   zeros : ℕ → Stmt
   instruction : Instr → Stmt
 
--- a line: its label and its statement, each if it has one
+-- a line: its label and its statement, if it has them
 pub record Said : Type 0 where
   pub name : Option (List ℕ)
   pub statement : Option Stmt
@@ -79,7 +79,7 @@ unfoldable pub is_name : List ℕ → Bool
 is_name [] = false
 is_name (b ∷ bs) = is_letter b && list_all is_name_byte bs
 
--- ---- operands, without the blanks round them
+-- ---- operands, without the blanks around them
 
 unfoldable pub register_in : List ℕ → Result ℕ LineFault
 register_in operand = ok_or (register_of operand) Form
@@ -90,7 +90,7 @@ value_in least most operand =
     if is_name operand then Ok (label operand)
     else (number_within least most operand >>= λ z. Ok (number z))
 
--- front ( inside )
+-- the parts of `front(inside)`
 unfoldable pub bracket_parts : List ℕ → Option (List ℕ × List ℕ)
 bracket_parts operand =
     if slice_index operand (length operand - 1) == 41
@@ -128,7 +128,7 @@ unfoldable pub nothing_in : List (List ℕ) → Result (Unit {0}) LineFault
 nothing_in ([] ∷ []) = Ok tt
 nothing_in _ = Err Form
 
--- ---- instructions, each from its operands
+-- ---- instructions, read from their operands
 
 -- op rd, rs1, rs2
 unfoldable pub op_in : RegisterOp → List (List ℕ) → Result Instr LineFault
@@ -157,7 +157,7 @@ shift_in op (a ∷ b ∷ c ∷ []) = do
   Ok (whole (insns.Shift op rd rs1 i))
 shift_in op _ = Err Form
 
--- the instruction of a register, of the register and of the immediate of an address
+-- the instruction with a register, and with rs1 and an immediate as its address
 abbrev pub addressed : Addressed → (register rs1 : ℕ) → Val → Instr
 addressed (kinds.Load op) register rs1 i = load op register rs1 i
 addressed (kinds.Store op) register rs1 i = store op rs1 register i
@@ -235,9 +235,9 @@ instruction_in Ecall order operands = bare insns.Ecall operands
 instruction_in Ebreak order operands = bare insns.Ebreak operands
 instruction_in (Amo op) order operands = amo_in op order operands
 
--- ---- directives, each from its operands
+-- ---- directives, read from their operands
 
--- each operand, read in turn
+-- all operands, read in turn
 abbrev pub each : {A : Type 0} → (List ℕ → Result A LineFault) → List (List ℕ) → Result (List A) LineFault
 each read [] = Ok []
 each read (operand ∷ operands) = do
@@ -245,11 +245,11 @@ each read (operand ∷ operands) = do
   xs ← each read operands
   Ok (x ∷ xs)
 
--- a label, or a number that a word holds, signed or not
+-- a label, or a number that fits in a word, signed or unsigned
 abbrev pub word_in : List ℕ → Result Val LineFault
 word_in operand = value_in (negsuc 2147483647) (pos 4294967295) operand
 
--- a byte, signed or not
+-- a byte, signed or unsigned
 unfoldable pub byte_in : List ℕ → Result ℕ LineFault
 byte_in operand = number_within (negsuc 127) (pos 255) operand >>= λ z. Ok (low_bits (2 ^ 8) z)
 
@@ -265,7 +265,7 @@ directive_in directives.Zero operands = count_in operands >>= λ n. Ok (zeros n)
 
 -- ---- lines
 
--- a statement, from what its first word is and from its operands
+-- the statement of a first word, a directive or a mnemonic, with its operands
 abbrev pub chosen : Option Directive → Option (Mnemonic × Order) → List (List ℕ) → Result Stmt LineFault
 chosen (Some d) m operands = directive_in d operands
 chosen None (Some m) operands = instruction_in m.0 m.1 operands >>= λ i. Ok (instruction i)
@@ -274,23 +274,23 @@ chosen None None operands = Err Unknown
 unfoldable pub statement_in : (word rest : List ℕ) → Result Stmt LineFault
 statement_in word rest = chosen (directive_of word) (mnemonic_of word) (operands_of rest)
 
--- the first word ends at the first blank
+-- the statement of a text, whose first word ends at the first blank
 abbrev pub statement_parts : List ℕ → Option (List ℕ × List ℕ) → Result Stmt LineFault
 statement_parts word None = statement_in word []
 statement_parts word (Some parts) = statement_in parts.0 parts.1
 
--- a text with no label: nothing, or a statement
+-- the statement of a text without a label, or none if the text is blank
 unfoldable pub rest_of_line : List ℕ → Result (Option Stmt) LineFault
 rest_of_line text =
     if length (trimmed text) == 0 then Ok None
     else (statement_parts (trimmed text) (cut_at is_blank (trimmed text)) >>= λ s. Ok (Some s))
 
--- what stands before the comment
+-- the line before its comment
 abbrev pub before_comment : List ℕ → Option (List ℕ × List ℕ) → List ℕ
 before_comment line None = line
 before_comment line (Some parts) = parts.0
 
--- the label before the first colon, and what follows it. Where no name stands there, there is no label.
+-- the label before the first colon, if a name is there, and the text after it
 abbrev pub label_parts : List ℕ → Option (List ℕ × List ℕ) → Option (List ℕ) × List ℕ
 label_parts text None = (None, text)
 label_parts text (Some parts) = if is_name (trimmed parts.0) then (Some (trimmed parts.0), parts.1) else (None, text)
@@ -298,15 +298,15 @@ label_parts text (Some parts) = if is_name (trimmed parts.0) then (Some (trimmed
 unfoldable pub label_in : List ℕ → Option (List ℕ) × List ℕ
 label_in text = label_parts text (cut_at (λ b. b == 58) text)
 
--- an optional label, and an optional statement
+-- what a text says: a label and a statement, if it has them
 unfoldable pub said_in : List ℕ → Result Said LineFault
 said_in text = rest_of_line (label_in text).1 >>= λ s. Ok (record { name = (label_in text).0; statement = s })
 
--- what a line says, without its LF
+-- what a line says, given without its LF
 unfoldable pub line_of : List ℕ → Result Said LineFault
 line_of line = said_in (before_comment line (cut_at (λ b. b == 35) line))
 
--- ---- what the code keeps, without where it lies in memory
+-- ---- the code's types as mathematical values
 
 abbrev pub val_of : Value → Val
 val_of (values.Number z) = number z

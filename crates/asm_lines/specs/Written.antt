@@ -1,4 +1,4 @@
--- The text of an instruction: its mnemonic, one blank, its operands with `, ` between them.
+-- The text of an instruction: its mnemonic, one blank, and its operands with `, ` between them.
 use Rattle.std.specs.Prelude.{◌≡◌, ℕ, true, int_le, ◌*◌, ◌^◌, nat_lt, List, [], ◌∷◌, ◌++◌, if◌then◌else◌, ℤ, pos, ◌-ℤ◌}
 use Rattle.std.specs.Fmt.{decimal, signed_decimal}
 use Rattle.rv_table.specs.declared.insn.Insn.{Insn}
@@ -30,15 +30,15 @@ abbrev pub order_of_insn : Insn → Order
 order_of_insn (Amo op rd rs1 rs2 aq rl) = record { aq = aq; rl = rl }
 order_of_insn _ = unordered
 
--- the number of a field in two's complement, whose sign bit has this weight
+-- a field as a number in two's complement, with a sign bit of this weight
 abbrev pub signed : (sign field : ℕ) → ℤ
 signed sign field = if nat_lt field sign then pos field else (pos field -ℤ pos (2 * sign))
 
--- a target counts bytes, its field steps of two
+-- the byte offset of a target, whose field is in units of two bytes
 abbrev pub offset : (sign field : ℕ) → ℤ
 offset sign field = signed (2 * sign) (2 * field)
 
--- an even number from `least` to `most`
+-- The number is even, and from `least` to `most`.
 abbrev pub IsEvenWithin : (least most : ℤ) → ℤ → Type 0
 IsEvenWithin least most z = (int_le least z ≡ true) × (int_le z most ≡ true) × (low_bits 2 z ≡ 0)
 
@@ -61,7 +61,7 @@ operands_written Ecall = []
 operands_written Ebreak = []
 operands_written (Amo op rd rs1 rs2 aq rl) = x_name rd ∷ x_name rs2 ∷ in_brackets [] (x_name rs1) ∷ []
 
--- each operand after the first has a comma and a blank before it
+-- the operands after the first, each with a comma and a blank before it
 abbrev pub after_commas : List (List ℕ) → List ℕ
 after_commas [] = []
 after_commas (operand ∷ operands) = 44 ∷ 32 ∷ (operand ++ after_commas operands)
@@ -74,7 +74,7 @@ with_operands word (operand ∷ operands) = word ++ 32 ∷ (operand ++ after_com
 unfoldable pub text_of : Insn → List ℕ
 text_of i = with_operands (written (mnemonic_of_insn i) (order_of_insn i)) (operands_written i)
 
--- the instruction as a line says it, with the numbers that are written
+-- the instruction that a line says, with its immediate as a number
 abbrev pub as_said : Insn → Instr
 as_said (OpImm op rd rs1 imm) = op_imm op rd rs1 (number (signed (2 ^ 11) imm))
 as_said (Load op rd rs1 imm) = load op rd rs1 (number (signed (2 ^ 11) imm))

@@ -1,11 +1,11 @@
-//! Directives: the words of the language that are no mnemonics.
+//! Directives: the words of the language that are not mnemonics.
 
 ghost use Rattle.std.specs.Prelude.{◌≡◌};
 ghost use Rattle.asm_lines.specs.Names.{directive_name, directive_of};
 
 use crate::statement::Section;
 
-/// The first word of a statement that is no instruction.
+/// The first word of a statement that is not an instruction.
 #[derive(Clone, Copy, Debug, PartialEq, Eq, Drop)]
 pub enum Directive {
     /// `.code`, `.local`, `.shared`.
@@ -29,7 +29,7 @@ impl Directive {
         Directive::Zero,
     ];
 
-    /// How the directive is written.
+    /// The text of the directive.
     pub fn name(self) -> &'static str
         ensures { result.now ≡ directive_name self }
     {
@@ -43,7 +43,7 @@ impl Directive {
         }
     }
 
-    /// The directive that is written so.
+    /// The directive that is written as `word`.
     #[tactic(auto, unfolding(crate::specs::Names::directive_of))]
     pub fn find(word: &[u8]) -> Option<Directive>
         ensures { result ≡ directive_of word.now }

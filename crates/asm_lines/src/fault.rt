@@ -1,4 +1,4 @@
-//! Why a line is no statement.
+//! Why a line is not accepted.
 
 ghost use Rattle.std.specs.Prelude.{◌≡◌};
 ghost use Rattle.asm_lines.specs.declared.fault.LineError.TheVariants.{Memory, Fault};
@@ -9,10 +9,11 @@ use thiserror::Error;
 /// What is wrong with a line.
 #[derive(Clone, Copy, Debug, PartialEq, Eq, Drop, Error)]
 pub enum LineFault {
-    /// The first word is no mnemonic and no directive.
+    /// The first word is neither a mnemonic nor a directive.
     #[error("unknown word")]
     Unknown,
-    /// Any other fault of form: an operand too few or too many, no register, no number, no label.
+    /// Any other fault of form: too few or too many operands, or one that is not the register,
+    /// number or label that it has to be.
     #[error("form")]
     Form,
     /// A number is out of range.
@@ -20,10 +21,10 @@ pub enum LineFault {
     Range,
 }
 
-/// Why a line was not read.
+/// Why a line gives no statement.
 #[derive(Clone, Copy, Debug, PartialEq, Eq, Drop, Error)]
 pub enum LineError {
-    /// There was no memory for what the line says.
+    /// There was no memory for the statement.
     #[error("memory")]
     Memory,
     /// The line has this fault.

@@ -1,4 +1,4 @@
-//! Instructions, each from its operands.
+//! Instructions, read from their operands.
 
 ghost use Rattle.std.specs.Prelude.{◌≡◌, map};
 ghost use Rattle.asm_lines.specs.Steps.{GivesFault};
@@ -18,12 +18,12 @@ use rv_table::{
     UpperOp,
 };
 
-/// The instruction of this mnemonic and ordering that has these operands.
+/// The instruction with this mnemonic, this ordering and these operands.
 ///
 /// # Errors
 ///
-/// [`LineFault::Form`] where they are no operands of it, [`LineFault::Range`] where a number among
-/// them is out of range.
+/// [`LineFault::Form`] if these are not operands of it, [`LineFault::Range`] if a number among them
+/// is out of range.
 pub fn instruction_in<'a>(
     mnemonic: Mnemonic,
     order: Order,
@@ -95,7 +95,7 @@ fn shift_in<'a>(op: ShiftOp, operands: &[&'a [u8]]) -> Result<Instruction<'a>, L
     }))
 }
 
-/// The instructions with an address, `i(rs1)`, after a register.
+/// The instructions with a register followed by an address, `i(rs1)`.
 #[derive(Clone, Copy, Debug, PartialEq, Eq, Drop)]
 enum Addressed {
     Load(LoadOp),
@@ -104,7 +104,7 @@ enum Addressed {
 }
 
 impl Addressed {
-    /// The instruction of a register, and of the register and the immediate of an address.
+    /// The instruction with this register, and with `rs1` and `imm` as its address.
     fn instruction<'a>(self, register: Register, rs1: Register, imm: Value<'a>) -> Instruction<'a>
         ensures { instr_of result ≡ addressed self register rs1 (val_of imm.entry) }
     {

@@ -18,8 +18,7 @@ pub fn written_again()
         → line_of (text_of i) ≡ Ok (record { name = None; statement = Some (instruction (as_said i)) }) }
 {}
 
-/// The numbers that are written of fields are in the ranges in which they are read, and have the
-/// fields as their low bits.
+/// The number written for a field is in the range in which it is read, and its low bits are the field.
 pub fn fields_again()
     ensures lower { (f : ℕ) → f < 2 ^ 12 → low_bits (2 ^ 12) (signed (2 ^ 11) f) ≡ f }
     ensures upper { (f : ℕ) → f < 2 ^ 20 → low_bits (2 ^ 20) (pos f) ≡ f }
@@ -29,8 +28,8 @@ pub fn fields_again()
     ensures jump_in_range { (f : ℕ) → f < 2 ^ 20 → IsEvenWithin (negsuc 1048575) (pos 1048574) (offset (2 ^ 19) f) }
 {}
 
-/// Numerals of one number, in decimal digits and in `0x` and hex digits, are read alike as operands. So
-/// two lines that differ in such numerals alone say the same.
+/// Numerals of one number, in decimal digits or in `0x` and hex digits, are read alike as operands. So two lines that
+/// differ only in such numerals say the same.
 pub fn numerals_are_read_alike()
     ensures number { (n : ℕ) (bytes : List ℕ) → IsNumeralOf n bytes → number_of bytes ≡ Some (pos n) }
     ensures alike { (n : ℕ) (one other : List ℕ) → IsNumeralOf n one → IsNumeralOf n other → AreReadAlike one other }
@@ -39,13 +38,13 @@ pub fn numerals_are_read_alike()
         → line_of (statement_line lead word rest) ≡ line_of (statement_line lead word rest') }
 {}
 
-/// A line with a comment after it is read as the line without.
+/// A comment at the end of a line does not change what the line says.
 pub fn comments_change_nothing()
     ensures { (line comment : List ℕ) → line_of (line ++ (codes "#" ++ comment)) ≡ line_of line }
 {}
 
-/// Blanks change nothing on either side of a comma or a bracket among the operands of a statement, on
-/// either side of a label's colon, and at the ends of a line.
+/// Blanks change nothing around a comma or a bracket among the operands of a statement, around a label's colon, or at
+/// the ends of a line.
 pub fn blanks_change_nothing()
     ensures marks { (lead word front gap gap' back : List ℕ) (mark : ℕ) → IsLead lead → IsFirstWord word →
         IsQuiet front → IsQuiet back

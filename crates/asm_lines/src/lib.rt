@@ -1,9 +1,9 @@
-//! One line of assembler text to one statement, and the words of the language in both directions.
+//! Reads one line of assembler text as one statement, and has the words of the language for both directions.
 //!
-//! The language is this project's own: the mnemonics and register names of the RISC-V manual, six
-//! directives, labels, decimal and hex numbers, `%hi` and `%lo`. What a line says is `line_of` of
-//! `specs/Statements.antt`, how an instruction is written `text_of` of `specs/Written.antt`, and
-//! what is written is read again (`written_again`). `specs/Alike.antt` says which texts say the same.
+//! The language is this project's own: the mnemonics and register names of the RISC-V manual, six directives, labels,
+//! decimal and hex numbers, `%hi` and `%lo`. `line_of` in `specs/Statements.antt` defines what a line says, and
+//! `text_of` in `specs/Written.antt` how an instruction is written, which is then read back (`written_again`).
+//! `specs/Alike.antt` defines which texts say the same.
 #![tactic(auto)]
 
 mod directive;

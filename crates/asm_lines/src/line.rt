@@ -17,14 +17,14 @@ use crate::statement::{Line, Statement, Value};
 use crate::text::{cut, cut_blank, operands_of, trim};
 use std::alloc::Global;
 
-/// A label, or a number that a word holds, signed or not.
+/// A label, or a number that fits in a word, signed or unsigned.
 fn word_in(operand: &[u8]) -> Result<Value<'_>, LineFault>
     ensures { GivesFault val_of result (word_in operand.now) }
 {
     value_in(-2_147_483_648, 4_294_967_295, operand)
 }
 
-/// A byte, signed or not.
+/// A byte, signed or unsigned.
 #[tactic(auto, unfolding(crate::specs::Statements::byte_in))]
 fn byte_in(operand: &[u8]) -> Result<u8, LineFault>
     ensures { result ≡ byte_in operand.now }
@@ -84,7 +84,7 @@ fn directive_in<'a>(
     }
 }
 
-/// A statement from its first word and what follows it.
+/// The statement with this first word and the text after it.
 #[tactic(auto, unfolding(crate::specs::Statements::statement_in))]
 fn statement_in<'a>(alloc: Global, word: &[u8], rest: &'a [u8]) -> Result<Statement<'a>, LineError>
     ensures { Gives stmt_of result (statement_in word.now rest.now) }
@@ -100,7 +100,7 @@ fn statement_in<'a>(alloc: Global, word: &[u8], rest: &'a [u8]) -> Result<Statem
     }
 }
 
-/// Nothing, or a statement.
+/// The statement of a text, or none if the text is blank.
 #[tactic(auto, unfolding(crate::specs::Statements::rest_of_line))]
 fn rest_of_line<'a>(alloc: Global, text: &'a [u8]) -> Result<Option<Statement<'a>>, LineError>
     ensures { Gives (λ s. option_map stmt_of s) result (rest_of_line text.now) }
@@ -116,7 +116,7 @@ fn rest_of_line<'a>(alloc: Global, text: &'a [u8]) -> Result<Option<Statement<'a
     }
 }
 
-/// The label before the colon and what follows it, or the whole text where no label stands there.
+/// The label before the first colon and the text after it; without a label, the whole text.
 #[tactic(auto, unfolding(crate::specs::Statements::label_in))]
 fn label_in(text: &[u8]) -> (Option<&[u8]>, &[u8])
     ensures { (option_map (λ name. name.now) result.0, result.1.now) ≡ label_in text.now }
@@ -141,11 +141,11 @@ fn said_in<'a>(alloc: Global, text: &'a [u8]) -> Result<Line<'a>, LineError>
     }
 }
 
-/// What a line says, without its LF.
+/// Reads a line, which is given without its LF.
 ///
 /// # Errors
 ///
-/// [`LineError::Fault`] with what is wrong with the line, [`LineError::Memory`] where memory is short.
+/// [`LineError::Fault`] with what is wrong with the line, [`LineError::Memory`] if memory is short.
 #[tactic(auto, unfolding(crate::specs::Statements::line_of))]
 pub fn read_line<'a>(alloc: Global, bytes: &'a [u8]) -> Result<Line<'a>, LineError>
     ensures { Gives said_of result (line_of bytes.now) }

@@ -39,8 +39,8 @@ pub enum Mnemonic {
     Amo(AmoOp),
 }
 
-/// The table of mnemonics for both directions, in the order of the table of instructions. Each row
-/// goes to the macro `$form`.
+/// The table of mnemonics for both directions, in the order of the table of instructions. It passes each row to the
+/// macro `$form`.
 macro_rules! mnemonics {
     ($form:ident $($subject:tt)*) => {
         $form! {
@@ -113,7 +113,7 @@ macro_rules! values {
     };
 }
 
-/// How the mnemonic `$mnemonic` is written.
+/// The text of the mnemonic `$mnemonic`.
 macro_rules! name_of {
     ([$mnemonic:expr] $($shape:ident $(($op:path))? $name:literal,)*) => {
         match $mnemonic {
@@ -130,7 +130,7 @@ pub struct Order {
 }
 
 impl Order {
-    /// What follows the mnemonic.
+    /// The suffix of a mnemonic with this ordering.
     pub fn suffix(self) -> &'static str
         ensures suffix { result.now ≡ suffix_of self }
         ensures short { length result.now ≤ 5 }
@@ -143,7 +143,7 @@ impl Order {
         }
     }
 
-    /// The ordering of an instruction: none but of an atomic memory operation.
+    /// The ordering of an instruction. Only an atomic memory operation has bits set.
     pub fn of(insn: &Insn) -> Order
         ensures { result ≡ order_of_insn insn.now }
     {
@@ -156,7 +156,7 @@ impl Order {
         }
     }
 
-    /// The ordering, from what follows the last dot of the word.
+    /// The ordering with this suffix, which follows the last dot of a word.
     fn find(suffix: &[u8]) -> Option<Order>
         ensures { result ≡ order_of suffix.now }
     {
@@ -179,7 +179,7 @@ impl Mnemonic {
     /// All mnemonics, in the order of the table of instructions.
     pub const ALL: [Mnemonic; 57] = mnemonics!(values);
 
-    /// How the mnemonic is written.
+    /// The text of the mnemonic, without a suffix.
     pub fn name(self) -> &'static str
         ensures name { result.now ≡ name_of self }
         ensures short { length result.now ≤ 9 }
@@ -208,7 +208,7 @@ impl Mnemonic {
         }
     }
 
-    /// The mnemonic that is written so, without suffix.
+    /// The mnemonic that is written as `word`, without a suffix.
     #[tactic(auto, unfolding(crate::specs::Names::plain_mnemonic))]
     fn find_plain(word: &[u8]) -> Option<Mnemonic>
         ensures { result ≡ plain_mnemonic word.now }
@@ -219,7 +219,7 @@ impl Mnemonic {
             .find(|mnemonic| mnemonic.name().as_bytes() == word)
     }
 
-    /// The mnemonic that is written so, and its ordering, which only an atomic memory operation has.
+    /// The mnemonic that is written as `word`, with its ordering, which only an atomic memory operation has.
     #[tactic(auto, unfolding(crate::specs::Names::mnemonic_of))]
     pub fn find(word: &[u8]) -> Option<(Mnemonic, Order)>
         ensures { result ≡ mnemonic_of word.now }

@@ -1,4 +1,4 @@
-//! Numbers, decimal and hex.
+//! Decimal and hex numbers.
 
 ghost use Rattle.std.specs.Prelude.{◌≡◌, ◌^◌, ◌≤◌, ◌<◌, ℤ, pos, negsuc, ◌≤ℤ◌, min, IfOk};
 ghost use Rattle.asm_lines.specs.Number.{digit_in, digits_in, capped, number_within, natural_within, low_bits};
@@ -6,7 +6,7 @@ ghost use Rattle.asm_lines.specs.Number.{CapsNumber};
 
 use crate::fault::LineFault;
 
-/// Past every range, so a larger value need not be kept.
+/// Above every range, so that a larger value need not be kept.
 const CAP: u64 = 0x2_0000_0000;
 
 fn digit_in(base: u8, byte: u8) -> Option<u8>
@@ -21,7 +21,7 @@ fn digit_in(base: u8, byte: u8) -> Option<u8>
     if value < base { Some(value) } else { None }
 }
 
-/// The value of the digits, or `CAP` where it is above.
+/// The value of the digits, or `CAP` if it is larger.
 #[tactic(auto, unfolding(crate::specs::Number::digits_in))]
 fn digits_in(base: u8, bytes: &[u8]) -> Option<u64>
     requires { base ≤ 16 }
@@ -49,11 +49,12 @@ fn capped_number(bytes: &[u8]) -> Option<i64>
     }
 }
 
-/// The number that is written so, from `least` to `most`.
+/// The number that is written as `bytes`, if it is from `least` to `most`.
 ///
 /// # Errors
 ///
-/// [`LineFault::Form`] where no number is written so, [`LineFault::Range`] where it is outside.
+/// [`LineFault::Form`] if `bytes` is not a number, [`LineFault::Range`] if the number is out of
+/// range.
 #[tactic(auto, unfolding(crate::specs::Number::number_within))]
 pub fn number_within(least: i64, most: i64, bytes: &[u8]) -> Result<i64, LineFault>
     requires least { negsuc (2 ^ 32) ≤ℤ least }
@@ -68,11 +69,11 @@ pub fn number_within(least: i64, most: i64, bytes: &[u8]) -> Result<i64, LineFau
     Ok(number)
 }
 
-/// The number from 0 to `most` that is written so.
+/// The number that is written as `bytes`, if it is from 0 to `most`.
 ///
 /// # Errors
 ///
-/// As of [`number_within`].
+/// Those of [`number_within`].
 #[tactic(auto, unfolding(crate::specs::Number::natural_within))]
 pub fn natural_within(most: u32, bytes: &[u8]) -> Result<u32, LineFault>
     ensures value { result ≡ natural_within most bytes.now }

@@ -1,4 +1,4 @@
-//! Operands, without the blanks round them.
+//! Operands, without the blanks around them.
 
 ghost use Rattle.std.specs.Prelude.{◌≡◌, ◌≤ℤ◌, pos, negsuc, ◌^◌, map};
 ghost use Rattle.std.specs.List.{list_all};
@@ -32,7 +32,7 @@ fn are_name_bytes(bytes: &[u8]) -> bool
     bytes.iter().all(|byte| is_name_byte(*byte))
 }
 
-/// Whether a label may be called so.
+/// Whether `word` may be the name of a label.
 #[tactic(auto, unfolding(crate::specs::Statements::is_name))]
 pub fn is_name(word: &[u8]) -> bool
     ensures { result ≡ is_name word.now }
@@ -65,7 +65,7 @@ pub fn value_in(least: i64, most: i64, operand: &[u8]) -> Result<Value<'_>, Line
     Ok(Value::Number(number))
 }
 
-/// What stands before and within the brackets with which the operand ends.
+/// The texts before and within the brackets at the end of the operand.
 #[tactic(auto, unfolding(crate::specs::Statements::bracket_parts))]
 pub fn bracket_parts(operand: &[u8]) -> Option<(&[u8], &[u8])>
     ensures { option_map (λ parts. (parts.0.now, parts.1.now)) result ≡ bracket_parts operand.now }
@@ -114,7 +114,7 @@ pub fn lower_in(operand: &[u8]) -> Result<Value<'_>, LineFault>
     Ok(Value::Number(number))
 }
 
-/// As `(rs1)`.
+/// The register of an operand `(rs1)`.
 #[tactic(auto, unfolding(crate::specs::Statements::base_in))]
 pub fn base_in(operand: &[u8]) -> Result<Register, LineFault>
     ensures { result ≡ base_in operand.now }
@@ -127,7 +127,7 @@ pub fn base_in(operand: &[u8]) -> Result<Register, LineFault>
     }
 }
 
-/// No operand.
+/// Checks that there is no operand.
 #[tactic(auto, unfolding(crate::specs::Statements::nothing_in))]
 pub fn nothing_in(operands: &[&[u8]]) -> Result<(), LineFault>
     ensures { GivesFault (λ _. tt) result (nothing_in (map (λ operand. operand.now) operands.now)) }

@@ -11,7 +11,7 @@ const NUMBERS: [u8; 32] = [
 ];
 
 /// The table of register names for both directions: number, name by number, name by use (manual,
-/// "RISC-V Assembly Programmer's Handbook"). Each row goes to the macro `$form`.
+/// "RISC-V Assembly Programmer's Handbook"). It passes each row to the macro `$form`.
 macro_rules! registers {
     ($form:ident $subject:expr) => {
         $form! {
@@ -77,7 +77,7 @@ fn name_by_use(number: u8) -> &'static str
     registers!(second_name number)
 }
 
-/// The name of a register by its number: `x0` to `x31`.
+/// The name of a register by number: `x0` to `x31`.
 pub fn x_name(register: Register) -> &'static str
     ensures name { result.now ≡ x_name register }
     ensures short { length result.now ≤ 3 }
@@ -93,7 +93,7 @@ fn number_of(word: &[u8]) -> Option<u8>
         || name_by_use(*number).as_bytes() == word)
 }
 
-/// The register that is written so, by its number or its use.
+/// The register that is written as `word`, by its number or its use.
 pub fn register(word: &[u8]) -> Option<Register>
     ensures { result ≡ register_of word.now }
 {

@@ -1,31 +1,30 @@
-//! What a line of text says, over the text that it stands in.
+//! What a line of text says, borrowed from the text.
 
 use rv_table::{BranchOp, ImmediateOp, Insn, LoadOp, Register, StoreOp, UpperOp};
 
 /// The parts of a program.
 #[derive(Clone, Copy, Debug, PartialEq, Eq, Drop)]
 pub enum Section {
-    /// Instructions, and data that only loads reach.
+    /// Instructions, and data that only loads can reach.
     Code,
-    /// The bytes with which each processor's local memory begins.
+    /// The first bytes of each processor's local memory.
     Local,
-    /// The bytes with which the shared words begin.
+    /// The first bytes of the shared words.
     Shared,
 }
 
-/// A number, or a label. What a label stands for is known by its place: in `.word` it is the label's
-/// value, in a target the way to it from the instruction, in an upper immediate `%hi(label)`, in an
-/// I- or S-immediate `%lo(label)`.
+/// A number or a label. Its place decides what a label means: in `.word` its value, in a target its distance from the
+/// instruction, in an upper immediate `%hi(label)`, in an I- or S-immediate `%lo(label)`.
 #[derive(Clone, Copy, Debug, PartialEq, Eq, Drop)]
 pub enum Value<'a> {
     Number(i64),
     Label(&'a [u8]),
 }
 
-/// An instruction, with the immediate that a label may stand for.
+/// An instruction. Its immediate may be a label.
 #[derive(Clone, Copy, Debug, PartialEq, Eq, Drop)]
 pub enum Instruction<'a> {
-    /// One that has no such immediate.
+    /// An instruction without such an immediate.
     Whole(Insn),
     /// As `addi rd, rs1, imm`.
     OpImm {
@@ -74,22 +73,22 @@ pub enum Instruction<'a> {
     },
 }
 
-/// What stands on a line beside its label.
+/// What a line has besides its label.
 #[derive(Debug, Drop)]
 pub enum Statement<'a> {
-    /// The section in which the next lines stand.
+    /// The section of the lines that follow.
     Section(Section),
-    /// `.word`: each a number from -2^31 to 2^32 - 1, or a label.
+    /// `.word`: numbers from -2^31 to 2^32 - 1, and labels.
     Words(Vec<Value<'a>>),
     /// `.byte`.
     Bytes(Vec<u8>),
-    /// `.zero`: how many bytes, at most 1,048,576.
+    /// `.zero`: a number of bytes, at most 1,048,576.
     Zeros(u32),
     /// An instruction.
     Instruction(Instruction<'a>),
 }
 
-/// A line's label and statement, each if it has one.
+/// The label and the statement of a line, if it has them.
 #[derive(Debug, Drop)]
 pub struct Line<'a> {
     pub label: Option<&'a [u8]>,

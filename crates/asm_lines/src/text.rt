@@ -1,4 +1,4 @@
-//! Blanks, and the parts of a text round a byte.
+//! Blanks, and the parts of a text around a byte.
 
 ghost use Rattle.std.specs.Prelude.{◌≡◌, ◌==◌, length, MatchOption, ◌<◌, position, reverse, not, IfOk, map};
 ghost use Rattle.std.specs.List.{position_or_len, before_first, after_first};
@@ -53,7 +53,7 @@ fn position_of(bytes: &[u8], mark: u8) -> Option<usize>
     bytes.iter().position(|b| *b == mark)
 }
 
-/// The bytes before and after the first that equals `mark`, if one does.
+/// The bytes before and after the first `mark`, if there is one.
 #[tactic(auto, unfolding(crate::specs::Text::cut_at))]
 pub fn cut(bytes: &[u8], mark: u8) -> Option<(&[u8], &[u8])>
     ensures value { option_map (λ parts. (parts.0.now, parts.1.now)) result ≡ cut_at (λ b. b == mark) bytes.now }
@@ -68,7 +68,7 @@ pub fn cut(bytes: &[u8], mark: u8) -> Option<(&[u8], &[u8])>
     }
 }
 
-/// The bytes before and after the last that equals `mark`, if one does.
+/// The bytes before and after the last `mark`, if there is one.
 #[tactic(auto, unfolding(crate::specs::Text::cut_last_at))]
 pub fn cut_last(bytes: &[u8], mark: u8) -> Option<(&[u8], &[u8])>
     ensures { option_map (λ parts. (parts.0.now, parts.1.now)) result ≡ cut_last_at mark bytes.now }
@@ -98,11 +98,11 @@ pub fn cut_blank(text: &[u8]) -> Option<(&[u8], &[u8])>
     Some((text.split_at(at).0, text.split_at(at + 1).1))
 }
 
-/// The parts between the bytes that equal `mark`: one more than there are such bytes.
+/// The parts between the bytes that equal `mark`, of which there is one more than such bytes.
 ///
 /// # Errors
 ///
-/// [`AllocError`] where memory is short.
+/// [`AllocError`] if memory is short.
 pub fn parts_at(alloc: Global, bytes: &[u8], mark: u8) -> Result<Vec<&[u8]>, AllocError>
     ensures { IfOk result (λ parts. map (λ part. part.now) parts.items ≡ parts_at mark bytes.now) }
 {
@@ -116,11 +116,11 @@ pub fn parts_at(alloc: Global, bytes: &[u8], mark: u8) -> Result<Vec<&[u8]>, All
     Ok(parts)
 }
 
-/// The parts between the commas, without the blanks round them.
+/// The parts between the commas, without the blanks around them.
 ///
 /// # Errors
 ///
-/// [`AllocError`] where memory is short.
+/// [`AllocError`] if memory is short.
 #[tactic(auto, unfolding(crate::specs::Text::operands_of))]
 pub fn operands_of(alloc: Global, bytes: &[u8]) -> Result<Vec<&[u8]>, AllocError>
     ensures { IfOk result (λ parts. map (λ part. part.now) parts.items ≡ operands_of bytes.now) }
