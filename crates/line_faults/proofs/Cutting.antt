@@ -1,4 +1,4 @@
--- What cuts of a text leave, and that the parts are no longer than it.
+-- What cuts of a text leave. The parts are no longer than the text.
 use Rattle.std.proofs.Common.{◌≡◌, ℕ, suc, ◌+◌, ◌-◌, ◌<◌, ◌≤◌, Bool, true, false, not, List, [], ◌∷◌, ◌++◌, length}
 use Rattle.std.proofs.Common.{get_or, take, drop, Option, Some, None}
 use Rattle.std.proofs.Common.{refl, sym, ap, subst, ◌∙◌, append_assoc, append-nil, add-one, arith, inl, inr, drop-cons, length-append}
@@ -76,9 +76,9 @@ trimmed_within bs =
     let inside : length (trimmed bs ++ t.behind) ≡ length (trimmed bs) + length t.behind = length-append (trimmed bs) t.behind in
     omega (arith, outer, inside, t.count)
 
--- ---- round a byte
+-- ---- around a byte
 
--- the text is these parts and one byte between them
+-- The text is these parts with one byte between them.
 pub record RoundByte (bs : List ℕ) (parts : List ℕ × List ℕ) : Type 0 where
   -- the byte between the parts
   pub byte : ℕ

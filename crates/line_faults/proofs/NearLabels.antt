@@ -1,4 +1,4 @@
--- A label that is near to a word.
+-- Labels that are near to a word.
 use Rattle.std.proofs.Common.{◌≡◌, ℕ, Bool, true, false, List, [], Option, Some, None, BTreeMap, Bor, refl, ap, sym, subst}
 use Rattle.std.specs.Prelude.{IfSome, IsSome, nat_lt, if◌then◌else◌}
 use Rattle.std.specs.BTreeMap.{ContainsKey, get_by}
@@ -12,7 +12,7 @@ use Rattle.line_faults.specs.Places.{label_values, symbol_of}
 use Rattle.line_faults.specs.Views.{near_view}
 use Rattle.line_faults.specs.declared.labels.Label.{Label}
 
--- a key of a map of labels
+-- A key of the map is a label.
 pub is_label : (m : BTreeMap (Bor (List ℕ)) Label) (k : Bor (List ℕ))
     → ContainsKey (λ (x y : Bor (List ℕ)). slice_cmp nat_cmp x.now y.now) m k → IsSome (label_values m k.now)
 is_label m k there = go (get_by (λ (x : Bor (List ℕ)). slice_cmp nat_cmp k.now x.now) m) there
@@ -39,7 +39,7 @@ not_none : (a : ℕ) (x : List ℕ) → some a x ≡ None → ⊥
 unfolding some
 not_none a x is = cc
 
--- the nearer of a name and the one before it is near where each is
+-- The nearer of a name and the one before it is a near label if both are.
 chosen : (labels : Labels) (word name : List ℕ) (edits a b : ℕ) (x y : List ℕ) → IsNearLabel labels word name → IsNearLabel labels word y → (t : Bool)
     → some a x ≡ (if t then some edits name else some b y) → IsNearLabel labels word x
 chosen labels word name edits a b x y there near true is = subst (IsNearLabel labels word) (sym (same_name a edits x name is)) there

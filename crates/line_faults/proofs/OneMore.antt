@@ -1,4 +1,4 @@
--- One more label, also where the name stood before.
+-- One more label, even if the name was there before.
 use Rattle.std.proofs.Common.{◌≡◌, ℕ, List, Option, Some, BTreeMap, Bor, ap, refl, ◌∙◌, cond}
 use Rattle.std.specs.BTreeMap.{UpdatesBy, get_by}
 use Rattle.std.specs.Map.{update}
@@ -24,8 +24,7 @@ one_more name m n l updates = λ i q.
     mapped old true = refl
     mapped old false = refl
 
--- After a label is put into the map with the next address of its section, the place is the one
--- that it becomes by the label.
+-- After a label is put into the map with the next address of its section, the place is the one after the label.
 pub label_added : (s : Section) (code local shared v line : ℕ) (name : List ℕ) (m n : BTreeMap (Bor (List ℕ)) Label)
     → UpdatesBy (λ (x y : Bor (List ℕ)). slice_cmp nat_cmp x.now y.now) (λ (k : Bor (List ℕ)). slice_cmp nat_cmp name k.now) m n
     (Some (record { section = s; address = v; line = line }))

@@ -1,4 +1,4 @@
--- The operands so far, and those of the rest.
+-- The operands so far, followed by those of the rest.
 use Rattle.std.proofs.Common.{◌≡◌, ℕ, suc, ◌+◌, ◌<◌, Bool, true, false, cond, not, List, [], ◌∷◌, ◌++◌, length, take, drop, Option, Some, None}
 use Rattle.std.proofs.Common.{refl, sym, ap, ◌∙◌, append_assoc, arith, map, eqb}
 use Rattle.std.specs.Prelude.{IfSome}
@@ -24,11 +24,11 @@ uncut p (b ∷ bs) e = go (p b) refl e (uncut p bs)
     go true is e more = absurd (omega arith)
     go false is e more = slice_split-cons_no p b bs is ∙ rw (more (omega arith)) refl
 
--- a piece without a comma is one operand
+-- A piece without a comma is one operand.
 pub no_comma : (s : Span) → position_or_len (λ b. eqb b 44) s.bytes ≡ length s.bytes → operand_spans s ≡ trimmed_span s ∷ []
 no_comma s e = ap (λ parts. map trimmed_span (spans_from s.start parts)) (uncut (λ b. eqb b 44) s.bytes e)
 
--- else it is the one before the first comma, and those after it
+-- A piece with a comma is the operand before the first comma, followed by those after it.
 pub first_comma : (s : Span) (parts : Span × Span) → position_or_len (λ b. eqb b 44) s.bytes < length s.bytes → Some parts ≡ cut_span (λ b. eqb b 44) s
     → operand_spans s ≡ trimmed_span parts.0 ∷ operand_spans parts.1
 unfolding cut_at
@@ -39,7 +39,7 @@ first_comma s parts lt e =
     ap (λ ps. map trimmed_span (spans_from s.start ps)) (slice_split_first (λ b. eqb b 44) s.bytes 0 lt)
     ∙ ap (λ (q : Span × Span). trimmed_span q.0 ∷ operand_spans q.1) (sym both)
 
--- what stands after a byte is shorter
+-- The part of a piece after a byte is shorter than the piece.
 pub behind_shorter : (p : ℕ → Bool) (s : Span) (parts : Span × Span) → Some parts ≡ cut_span p s → length parts.1.bytes < length s.bytes
 behind_shorter p s parts e = go (cut_at p s.bytes) (cut_round p s.bytes) e
   where

@@ -1,4 +1,4 @@
--- The word at fault stands in its line.
+-- The word at fault is in its line.
 use Rattle.std.proofs.Common.{◌≡◌, ℕ, zero, suc, ◌+◌, ◌-◌, ◌%◌, ◌<◌, ◌≤◌, Bool, true, false, not, List, [], ◌∷◌}
 use Rattle.std.proofs.Common.{◌++◌, length, get_or, take, drop, Option, Some, None}
 use Rattle.std.proofs.Common.{refl, sym, ap, subst, ◌∙◌, append_assoc, append-nil, add-zero, add-one, arith, length-append, length-take}
@@ -25,7 +25,7 @@ use Rattle.line_faults.specs.WordAtFault.{fault_within, missing_within, first_in
 use Rattle.line_faults.specs.WordAtFault.{operands_fault, form_fault, label_missing, target_span, word_within}
 use Rattle.line_faults.proofs.Cutting.{trimmed_cut, RoundByte, cut_round, cut_last_round}
 
--- the line is what stands before the piece, the piece, and what stands after it
+-- The line is the text before the piece, the piece, and the text after it.
 pub record Splits (line : List ℕ) (s : Span) : Type 0 where
   -- what the line has before the piece
   pub before : List ℕ
@@ -48,7 +48,7 @@ stands_of line s h =
       reads = sym (ap (λ n. take n (drop s.start line)) size ∙ ap (λ xs. take (length s.bytes) xs) rest ∙ take_at s.bytes h.behind (length s.bytes) refl);
     }
 
--- a piece of a piece
+-- A piece of a piece of the line is a piece of the line.
 inner : (line : List ℕ) (s : Span) (xs mid ys : List ℕ) (n : ℕ) → Splits line s → s.bytes ≡ xs ++ (mid ++ ys)
     → n ≡ s.start + length xs → Splits line (span n mid)
 inner line s xs mid ys n h e at = record {
@@ -111,7 +111,7 @@ bracketed_in line s h =
     go true body within = some body (cut_last_at 40 body) within (cut_last_round 40 body)
     go false body within = tt
 
--- each piece stands in the line
+-- Each piece is in the line.
 abbrev AllIn : List ℕ → List Span → Type 0
 AllIn line [] = Unit {0}
 AllIn line (s ∷ ss) = Splits line s × AllIn line ss

@@ -6,14 +6,14 @@ use Rattle.line_faults.specs.declared.hint.Hint.TheVariants as hints
 use Rattle.line_faults.specs.declared.shape.Wanted.{Wanted}
 
 pub data Advice : Type 0 where
-  -- of a first word that is none
+  -- for an unknown first word
   not_a_label : Advice
   in_place : List ℕ → Advice
   not_needed : List ℕ → Advice
   near : List ℕ → Advice
   colon : Advice
   nothing_like_it : Advice
-  -- of operands
+  -- for operands
   takes : (form : List ℕ) → Advice
   comma : (form : List ℕ) → Advice
   no_operand : Advice
@@ -21,13 +21,13 @@ pub data Advice : Type 0 where
   bracket : Advice
   out_of_range : Wanted → Advice
   upper_bits : ℕ → Advice
-  -- of a statement's place and a target's distance
+  -- for a statement's place and a target's distance
   outside_code : Advice
   unaligned : (address : ℕ) → Advice
   odd : Advice
   far : (distance : ℕ) → Wanted → Advice
   full : Section → (room taken : ℕ) → Advice
-  -- of a label
+  -- for a label
   stands_on : (line : ℕ) → Advice
   no_label : Advice
   near_label : List ℕ → Advice

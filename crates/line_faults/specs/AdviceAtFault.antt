@@ -1,7 +1,7 @@
--- What is advised at the fault of a line: of operands by the table of `Wants`, what the first word takes, or what the
--- first operand that is not as it has to be has to be; of a number what is in its range; of a place and of a target's
--- distance what they are; of a section that is full its room; of labels where it stands already, or one that is
--- written almost so.
+-- The advice at the fault of a line. For operands, it is taken from the table of `Wants`: the form that the first word
+-- takes, or what the first wrong operand has to be. For a number, it is the range; for a place or a target, the address
+-- or the distance; for a full section, its room; for a label, the line that has it already, or a label that is written
+-- almost the same.
 use Rattle.std.specs.Prelude.{◌≡◌, ◌-◌, ◌/◌, ◌%◌, ℕ, ℤ, pos, Bool, List, ◌==◌, ◌||◌, if◌then◌else◌, length, find}
 use Rattle.std.specs.Prelude.{is_some, IsSome, nat_le, nat_lt, unsigned_abs}
 use Rattle.std.specs.Prelude.{Option, Some, None, option_and_then, unwrap_or, slice_get, Result, Ok, Err}
@@ -28,7 +28,7 @@ use Rattle.line_faults.specs.WordAtFault.{is_parted, target_span, word_within}
 
 -- ---- an operand
 
--- Of a number out of range it is advised what is in it; of one that is a word where upper bits stand, what these are.
+-- the advice for a number out of range: the range, or the upper bits if they are wanted and the number is a word
 abbrev pub range_advice : Wanted → Result ℤ LineFault → Advice
 range_advice Upper (Ok word) = upper_bits (unsigned_abs word / 4096)
 range_advice w read = out_of_range w
@@ -37,7 +37,7 @@ abbrev pub number_advice : Wanted → Span → Result ℤ LineFault → Advice
 number_advice w s (Err line_fault.Range) = range_advice w (number_within (pos 0) (pos 4294967295) s.bytes)
 number_advice w s read = stands_here w
 
--- a label or a number that is none that may stand there
+-- the advice for an operand that is neither a label nor a number that is allowed there
 abbrev pub value_advice : Wanted → Span → Option Advice
 value_advice w s =
     unless (is_some (label_within w s)
@@ -46,7 +46,7 @@ value_advice w s =
 abbrev pub register_advice : Span → Option Advice
 register_advice s = unless (is_some (register_of s.bytes)) (stands_here Register)
 
--- one bracket is missing, or both are
+-- the advice if one bracket is missing, or both are
 abbrev pub brackets_advice : Wanted → Span → Advice
 brackets_advice w s = if list_any (λ b. b == 40) s.bytes
     || list_any (λ b. b == 41) s.bytes then bracket else stands_here w
@@ -69,8 +69,8 @@ advice_within w s = value_advice w s
 
 -- ---- the operands
 
--- The form, where there are not as many as there have to be; and that a comma is missing, where none is too many and
--- one is two.
+-- the advice for a wrong number of operands: the form, or that a comma is missing if there are not too many and one is
+-- in two parts
 abbrev pub form_of : (form : List ℕ) → (too_many parted : Bool) → Advice
 form_of form too_many parted = if too_many then takes form else (if parted then comma form else takes form)
 
@@ -92,11 +92,11 @@ form_advice parts = option_and_then (λ w. operands_advice w parts.rest) (wants_
 
 -- ---- a place
 
--- how far back, or else ahead, a target may be
+-- how far back or ahead a target may be
 abbrev pub reach : Wanted → (is_back : Bool) → ℕ
 reach w is_back = unsigned_abs (if is_back then (range_of w).0 else (range_of w).1)
 
--- of a target that is none: that it is odd, where it can be reached, or else how far away it is
+-- the advice for a wrong target: that it is odd if it is within reach, or else how far away it is
 abbrev pub far_or_odd : Wanted → (target address : ℕ) → Advice
 far_or_odd w target address =
     if nat_le (apart target address) (reach w (nat_lt target address)) then odd else far (apart target address) w
@@ -118,7 +118,7 @@ place_advice labels parts address = if address % 4 == 0 then target_advice label
 
 -- ---- a label
 
--- A label that is advised stands on a line, and few edits lead to it.
+-- A label that is advised is in the text, and few edits lead to it.
 abbrev pub IsNearLabel : Labels → (word : List ℕ) → (name : List ℕ) → Type 0
 IsNearLabel labels word name = IsSome (labels name) × IsSome (few_edits word name)
 
@@ -129,12 +129,12 @@ IsLabelAdvice labels word other = ⊥
 
 -- ---- a line
 
--- where a label stands already
+-- The advice is the line that has the label already.
 abbrev pub IsStanding : Advice → Type 0
 IsStanding (stands_on line) = Unit {0}
 IsStanding other = ⊥
 
--- This is advised at a fault of a line with these parts, at its place.
+-- This is the advice at a fault of a line with these parts, at its place.
 abbrev pub IsAdviceIn : Labels → Place → LineSpans → AsmFault → Advice → Type 0
 IsAdviceIn labels at parts UnknownWord a = a ≡ word_advice_in parts
 IsAdviceIn labels at parts Form a = a ≡ unwrap_or (form_advice parts) outside_code
@@ -145,6 +145,6 @@ IsAdviceIn labels at parts LabelMissing a =
 IsAdviceIn labels at parts SectionFull a = a ≡ full at.section (room_of at.section) (count_of at.section at)
 IsAdviceIn labels at parts Memory a = a ≡ full at.section (room_of at.section) (count_of at.section at)
 
--- This is advised at this fault of a line, at its place.
+-- This is the advice at this fault of a line, at its place.
 unfoldable pub IsAdvised : Labels → Place → (line : List ℕ) → AsmFault → Advice → Type 0
 IsAdvised labels at line fault a = IsAdviceIn labels at (spans_of_line line) fault a

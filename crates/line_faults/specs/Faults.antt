@@ -5,7 +5,7 @@ use Rattle.asm_lines.specs.Statements.{Said}
 use Rattle.assembler.specs.Faults.{◌>>=◌}
 use Rattle.assembler.specs.Meaning.{Labels, Place, place_said, piece_of}
 
--- the fault of an answer, if it is one
+-- the fault of a result, if it is one
 abbrev pub fault_in : {A : Type 0} → Result A AsmFault → Option AsmFault
 fault_in (Ok x) = None
 fault_in (Err f) = Some f

@@ -1,4 +1,4 @@
--- First words that are none, and what is advised.
+-- Unknown first words, and what is advised.
 --
 -- Source of the instructions: the RISC-V manual, Volume I, "RISC-V Assembly Programmer's Handbook", table of
 -- pseudoinstructions. Operands are a, b, c in their order, n a number.
@@ -118,13 +118,13 @@ foreigners =
     Beqz ∷ Bnez ∷ Blez ∷ Bgez ∷ Bltz ∷ Bgtz ∷ Bgt ∷ Ble ∷ Bgtu ∷ Bleu ∷ DotText ∷ DotData ∷ DotBss ∷ DotSection ∷
     DotSpace ∷ DotSkip ∷ DotAscii ∷ DotGlobl ∷ DotGlobal ∷ DotAlign ∷ DotOption ∷ DotType ∷ DotSize ∷ []
 
--- the word that is written so
+-- the word of other assemblers that is written as the word
 unfoldable pub foreign_of : List ℕ → Option Foreign
 foreign_of word = find (λ f. bytes_eq (foreign_name f) word) foreigners
 
--- ---- words that are written almost so
+-- ---- words that are written almost the same
 
--- how many edits a word of this many bytes may be away from the name that was meant
+-- the most edits by which a word of this many bytes may differ from the name that was meant
 abbrev pub most_edits : ℕ → ℕ
 most_edits count = if nat_lt count 2 then 0 else (if nat_lt count 6 then 1 else 2)
 
@@ -132,29 +132,29 @@ most_edits count = if nat_lt count 2 then 0 else (if nat_lt count 6 then 1 else 
 abbrev pub apart : ℕ → ℕ → ℕ
 apart a b = (a - b) + (b - a)
 
--- How many edits lead from a word to a name, where they are few. Names of over 32 bytes are near to none.
+-- the number of edits from a word to a name, if they are few; names of over 32 bytes are near to none
 abbrev pub few_edits : (word name : List ℕ) → Option ℕ
 few_edits word name =
     if nat_lt 32 (length name) || nat_lt (most_edits (length word)) (apart (length word) (length name)) then None
     else (if nat_le (levenshtein_row nat_eq word name (length name)) (most_edits (length word))
     then Some (levenshtein_row nat_eq word name (length name)) else None)
 
--- the nearer of a name, which is this many edits away, and the one that was nearest before it
+-- the nearer of a name, which is this many edits away, and the nearest one before it
 abbrev pub nearer : Option ℕ → (name : List ℕ) → Option (ℕ × List ℕ) → Option (ℕ × List ℕ)
 nearer None name before = before
 nearer (Some edits) name None = Some (edits, name)
 nearer (Some edits) name (Some before) = if nat_lt edits before.0 then Some (edits, name) else Some before
 
--- the first of these names to which the fewest edits lead, where they are few, or else the one before
+-- the nearest of these names if few edits lead to it, the first of equals, or the one before if that is as near
 abbrev pub nearest_of : (word : List ℕ) → Option (ℕ × List ℕ) → List (List ℕ) → Option (ℕ × List ℕ)
 nearest_of word before [] = before
 nearest_of word before (name ∷ names) = nearest_of word (nearer (few_edits word name) name before) names
 
--- the first words that there are
+-- the first words of the language
 abbrev pub first_words : List (List ℕ)
 first_words = map name_of mnemonics ++ map directive_name directives
 
--- the instruction or directive that is written almost so, in letters of either case
+-- the instruction or directive that is nearest to a word, in letters of either case
 unfoldable pub nearest_word : List ℕ → Option (List ℕ)
 nearest_word word =
     if nat_lt 16 (length word) then None
@@ -167,15 +167,15 @@ advice_by (Some foreign) nearest is_label = foreign_advice foreign
 advice_by None (Some name) is_label = near name
 advice_by None None is_label = if is_label then colon else nothing_like_it
 
--- What is advised in place of a first word that is none, with these bytes after it: of one with a colon, how a label's
--- name is written; of one that other assemblers have, what does the same; else a word that is written almost so; else
--- a colon, where only a name stands.
+-- the advice for an unknown first word with these bytes after it: for one with a colon, how a label's name is written;
+-- for one of other assemblers, what does the same; else a word that is written almost the same; else a colon, if only a
+-- name is there
 unfoldable pub advice_on : (word rest : List ℕ) → Advice
 advice_on word rest =
     if list_any (λ b. b == 58) word then not_a_label
     else advice_by (foreign_of word) (nearest_word word) ((length rest == 0) && is_name word)
 
--- what is advised in place of a line's first word
+-- the advice for a line's first word
 abbrev pub word_advice_in : LineSpans → Advice
 word_advice_in parts = advice_on parts.word.bytes (trimmed_span parts.rest).bytes
 

@@ -1,4 +1,4 @@
--- What the code keeps of the lines before, in the terms of the meaning.
+-- The cursor after the lines before, in terms of their meaning.
 use Rattle.std.specs.Prelude.{ℕ, List}
 use Rattle.std.specs.BTreeMap.{get_by, BTreeMap}
 use Rattle.std.specs.Borrow.{Bor}

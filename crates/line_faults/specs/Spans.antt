@@ -6,7 +6,7 @@ use Rattle.std.specs.Option.{option_map}
 use Rattle.asm_lines.specs.Text.{is_blank, trimmed, cut_at, cut_last_at, parts_at}
 use Rattle.line_faults.specs.declared.piece.Piece.{Piece}
 
--- a piece of a line: how many bytes of the line stand before it, and its own bytes
+-- a piece of a line: the number of bytes of the line before it, and its own bytes
 pub record Span : Type 0 where
   pub start : ℕ
   pub bytes : List ℕ
@@ -14,20 +14,20 @@ pub record Span : Type 0 where
 abbrev pub span : ℕ → List ℕ → Span
 span start bytes = record { start = start; bytes = bytes }
 
--- The piece stands in the line, at its place.
+-- The piece is in the line, at its place.
 pub record StandsIn (line : List ℕ) (s : Span) : Type 0 where
   pub within : s.start + length s.bytes ≤ length line
   pub reads : s.bytes ≡ slice_range line s.start (s.start + length s.bytes)
 
--- what the code keeps, without where it lies in memory
+-- the code's piece as a value
 abbrev pub span_of : Piece → Span
 span_of p = span p.start p.bytes.now
 
--- nothing, at the end of a piece
+-- the empty piece at the end of a piece
 abbrev pub end_of : Span → Span
 end_of s = span (s.start + length s.bytes) []
 
--- how many blanks a text begins with
+-- the number of blanks at the beginning of a text
 abbrev pub blanks_before : List ℕ → ℕ
 blanks_before bs = position_or_len (λ b. not (is_blank b)) bs
 
@@ -46,7 +46,7 @@ cut_span p s = option_map (round_byte s.start) (cut_at p s.bytes)
 abbrev pub both_trimmed : Span × Span → Span × Span
 both_trimmed parts = (trimmed_span parts.0, trimmed_span parts.1)
 
--- what stands before the brackets with which a piece ends, and in them
+-- the pieces before and within the brackets at the end of a piece
 abbrev pub bracketed_span : Span → Option (Span × Span)
 bracketed_span s =
     if slice_index s.bytes (length s.bytes - 1) == 41
@@ -54,11 +54,11 @@ bracketed_span s =
     (cut_last_at 40 (take (length s.bytes - 1) s.bytes))
     else None
 
--- parts between which one byte stands, the first of them at this place
+-- parts with one byte between each two, the first of them at this place
 abbrev pub spans_from : ℕ → List (List ℕ) → List Span
 spans_from start [] = []
 spans_from start (part ∷ parts) = span start part ∷ spans_from (start + length part + 1) parts
 
--- the operands: the parts between the commas, without the blanks round them
+-- the operands: the parts between the commas, without the blanks around them
 abbrev pub operand_spans : Span → List Span
 operand_spans s = map trimmed_span (spans_from s.start (parts_at 44 s.bytes))

@@ -1,4 +1,4 @@
--- What the code keeps, without where it lies in memory.
+-- The code's types as values.
 use Rattle.std.specs.Prelude.{ℕ, List, Option}
 use Rattle.std.specs.Borrow.{Bor}
 use Rattle.std.specs.Option.{option_map}
@@ -19,6 +19,6 @@ spot_span s = span_of s.piece
 abbrev pub spot_advice : Spot → Advice
 spot_advice s = advice_of s.hint
 
--- how many edits lead to the nearest name
+-- the nearest name, with the number of edits that lead to it
 abbrev pub near_view : Option (ℕ × Bor (List ℕ)) → Option (ℕ × List ℕ)
 near_view found = option_map (λ (p : ℕ × Bor (List ℕ)). (p.0, p.1.now)) found

@@ -1,4 +1,4 @@
--- What the operands of a statement have to be, as docs/ASSEMBLER.md has it in its table of instructions.
+-- What the operands of a statement have to be, as in the table of instructions of docs/ASSEMBLER.md.
 use Rattle.std.specs.Prelude.{ℕ, Bool, true, false, List, [], ◌∷◌, Option, Some, None, ℤ, pos, negsuc, codes, slice_get}
 use Rattle.std.specs.Prelude.{if◌then◌else◌}
 use Rattle.asm_lines.specs.declared.mnemonic.Mnemonic.{Mnemonic}
@@ -14,7 +14,7 @@ use Rattle.line_faults.specs.declared.shape.Wanted.TheVariants.{Register, Lower,
 use Rattle.line_faults.specs.declared.shape.Wanted.TheVariants.{Address, Base, Word, Byte, Count}
 use Rattle.line_faults.specs.declared.shape.Shape.{Shape}
 
--- the least and the most that a number may be
+-- the least and the greatest number that is allowed
 abbrev pub range_of : Wanted → ℤ × ℤ
 range_of Register = (pos 0, pos 0)
 range_of Base = (pos 0, pos 0)
@@ -29,8 +29,8 @@ range_of Word = (negsuc 2147483647, pos 4294967295)
 range_of Byte = (negsuc 127, pos 255)
 range_of Count = (pos 0, pos 1048576)
 
--- how the operands after a first word are written, what each has to be, and whether there may be any number like the
--- first
+-- the operands that a first word takes: how they are written, what each has to be, and whether there may be any number
+-- like the first
 pub record Wants : Type 0 where
   pub form : List ℕ
   pub each : List Wanted
@@ -71,7 +71,7 @@ wants_by (Some d) m = Some (of_directive d)
 wants_by None (Some m) = Some (of_mnemonic m.0)
 wants_by None None = None
 
--- the operands after a first word, if it is one
+-- the operands that a first word takes, if it is one
 unfoldable pub wants_of : List ℕ → Option Wants
 wants_of word = wants_by (directive_of word) (mnemonic_of word)
 
@@ -79,6 +79,6 @@ wants_of word = wants_by (directive_of word) (mnemonic_of word)
 abbrev pub wanted_at : Wants → ℕ → Option Wanted
 wanted_at w number = slice_get w.each (if w.is_list then 0 else number)
 
--- what the code keeps
+-- the code's shape as a value
 abbrev pub shape_wants : Shape → Wants
 shape_wants s = record { form = s.form.now; each = s.operands.now; is_list = s.is_list }

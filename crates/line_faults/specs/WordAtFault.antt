@@ -1,9 +1,9 @@
--- The word at which the fault of a line lies.
+-- The word at fault in a line.
 --
--- Of a first word that is none (A1), and of a statement that finds no room (A6), it is that word. Of a form or a
--- number (A2, A3) it is the first operand that is not what it has to be, or the part of it that is not; where an
--- operand is too many, the first such; where one is missing, nothing, at the end; and where all operands are right,
--- the statement that may not stand there, or the target that it cannot reach. Of labels (A4, A5) it is the label.
+-- For an unknown first word (A1) and for a statement without room (A6), it is that word. For a form or a number (A2,
+-- A3), it is the first wrong operand, or the wrong part of it; the first operand too many; the empty end if one is
+-- missing; and if all operands are right, the statement that may not be there, or the target that it cannot reach. For
+-- a label (A4, A5), it is the label.
 use Rattle.std.specs.Prelude.{ℕ, ◌+◌, ◌-◌, ◌%◌, Bool, List, [], ◌∷◌, ◌==◌, ◌&&◌, ◌||◌, if◌then◌else◌, not, length}
 use Rattle.std.specs.Prelude.{find, nat_lt, is_some, is_ok, codes}
 use Rattle.std.specs.Prelude.{Option, Some, None, option_and_then, unwrap_or, slice_get}
@@ -26,7 +26,7 @@ use Rattle.line_faults.specs.Wants.{Wants, range_of, wants_of, wanted_at}
 
 -- ---- the parts of a line
 
--- a line's label, its statement's first word, and what stands after that
+-- a line's label, its statement's first word, and the text after that
 pub record LineSpans : Type 0 where
   pub label : Option Span
   pub word : Span
@@ -36,17 +36,17 @@ abbrev pub before_mark : Span → Option (Span × Span) → Span
 before_mark s None = s
 before_mark s (Some parts) = parts.0
 
--- what stands before the comment
+-- the piece before the comment
 abbrev pub text_span : List ℕ → Span
 text_span line = before_mark (span 0 line) (cut_span (λ b. b == 35) (span 0 line))
 
--- the label before the first colon, and what follows it. Where no name stands there, there is no label.
+-- the label before the first colon, if a name is there, and the text after it
 abbrev pub label_spans : Span → Option (Span × Span) → Option Span × Span
 label_spans text None = (None, text)
 label_spans text (Some parts) = if is_name (trimmed_span parts.0).bytes then (Some (trimmed_span parts.0), parts.1)
     else (None, text)
 
--- the first word ends at the first blank
+-- the first word, which ends at the first blank, and the text after it
 abbrev pub word_spans : Span → Option (Span × Span) → Span × Span
 word_spans statement None = (statement, end_of statement)
 word_spans statement (Some parts) = parts
@@ -78,7 +78,7 @@ part_named modifier (Some parts) = if bytes_eq parts.0.bytes modifier
 abbrev pub part_label : List ℕ → Span → Option Span
 part_label modifier s = part_named modifier (bracketed_span s)
 
--- the label that an operand names, in the form that may stand there
+-- the label that an operand names, in the form that is allowed there
 abbrev pub label_within : Wanted → Span → Option Span
 label_within Branch s = if is_name s.bytes then Some s else None
 label_within Jump s = if is_name s.bytes then Some s else None
@@ -88,64 +88,63 @@ label_within Upper s = part_label (codes "%hi") s
 label_within Address s = option_and_then (λ parts. part_label (codes "%lo") parts.0) (bracketed_span s)
 label_within w s = None
 
--- whether a number in range stands there
+-- whether a number in range is there
 abbrev pub is_number : Wanted → Span → Bool
 is_number w s = is_ok (number_within (range_of w).0 (range_of w).1 s.bytes)
 
--- a label or a number that is none that may stand there
+-- the operand, if it is neither a label nor a number that is allowed there
 abbrev pub value_fault : Wanted → Span → Option Span
 value_fault w s = unless (is_some (label_within w s) || is_number w s) s
 
 abbrev pub register_fault : Span → Option Span
 register_fault s = unless (is_some (register_of s.bytes)) s
 
--- `i(rs1)`: the whole where it has no brackets, then the number, then the register
+-- the fault of `i(rs1)`: all of it if it has no brackets, else the number, else the register
 abbrev pub address_fault : Span → Option (Span × Span) → Option Span
 address_fault s None = Some s
 address_fault s (Some parts) = option_or (value_fault Lower parts.0) (register_fault parts.1)
 
--- `(rs1)`: the whole where it has no brackets, then what stands before them, then the register
+-- the fault of `(rs1)`: all of it if it has no brackets, else the part before them, else the register
 abbrev pub base_fault : Span → Option (Span × Span) → Option Span
 base_fault s None = Some s
 base_fault s (Some parts) = option_or (unless (length parts.0.bytes == 0) parts.0) (register_fault parts.1)
 
--- what of an operand is not as it has to be
+-- what is wrong with an operand
 abbrev pub fault_within : Wanted → Span → Option Span
 fault_within Register s = register_fault s
 fault_within Address s = address_fault s (bracketed_span s)
 fault_within Base s = base_fault s (bracketed_span s)
 fault_within w s = value_fault w s
 
--- the label that an operand names and that stands on no line
+-- the label that an operand names, if no line has it
 abbrev pub missing_within : Labels → Wanted → Span → Option Span
 missing_within labels w s = option_and_then (λ name. unless (is_some (labels name.bytes)) name) (label_within w s)
 
 -- ---- the operands
 
--- the first that is found in operands, the first of which has this number
+-- the first that is found among operands, of which the first has this number
 abbrev pub first_in : {A : Type 0} → (Wanted → Span → Option A) → Wants → ℕ → List Span → Option A
 first_in found w n [] = None
 first_in found w n (s ∷ ss) =
     option_or (option_and_then (λ wanted. found wanted s) (wanted_at w n)) (first_in found w (n + 1) ss)
 
--- a blank where no bracket stands: two operands with no comma between
+-- whether an operand has a blank but no bracket: it is two operands without a comma between them
 abbrev pub is_parted : Span → Bool
 is_parted s = list_any is_blank s.bytes && not (list_any (λ b. b == 40) s.bytes)
 
--- where there are not as many operands as there have to be: the first that is too many; else the first that are two;
--- else the end
+-- if the number of operands is wrong: the first too many; else the first in which a comma is missing; else the end
 abbrev pub count_fault : ℕ → Span → List Span → Option Span
 count_fault count rest operands =
     if length operands == count then None
     else option_or (slice_get operands count) (option_or (find is_parted operands) (Some (end_of (trimmed_span rest))))
 
--- what is wrong with the operands of a statement that has some
+-- what is wrong with the operands of a statement that takes some
 abbrev pub some_operands_fault : Wants → Span → List Span → Option Span
 some_operands_fault w rest operands =
     option_or (if w.is_list then None else count_fault (length w.each) rest operands)
     (first_in fault_within w 0 operands)
 
--- and of one that may have none
+-- what is wrong with the operands of a statement that may take none
 abbrev pub operands_fault : Wants → Span → Option Span
 operands_fault w rest =
     if length w.each == 0 then unless (length (trimmed_span rest).bytes == 0) (trimmed_span rest)
@@ -155,7 +154,7 @@ operands_fault w rest =
 abbrev pub form_fault : LineSpans → Option Span
 form_fault parts = option_and_then (λ w. operands_fault w parts.rest) (wants_of parts.word.bytes)
 
--- the first label after it that stands on no line
+-- the first label after a line's first word that no line has
 abbrev pub label_missing : Labels → LineSpans → Option Span
 label_missing labels parts =
     option_and_then (λ w. first_in (missing_within labels) w 0 (operand_spans parts.rest)) (wants_of parts.word.bytes)
@@ -176,6 +175,6 @@ word_within labels address parts LabelMissing = unwrap_or (label_missing labels 
 word_within labels address parts SectionFull = parts.word
 word_within labels address parts Memory = parts.word
 
--- the word at which this fault of a line lies, where the section's next byte has this address
+-- the word at this fault of a line, if the section's next byte has this address
 unfoldable pub word_at_fault : Labels → (address : ℕ) → (line : List ℕ) → AsmFault → Span
 word_at_fault labels address line fault = word_within labels address (spans_of_line line) fault

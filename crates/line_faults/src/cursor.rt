@@ -1,4 +1,4 @@
-//! What is kept of the lines before.
+//! What the lines before leave for the next.
 
 ghost use Rattle.std.specs.Prelude.{◌≤◌, ◌^◌};
 
@@ -6,19 +6,19 @@ use crate::labels::Label;
 use asm_lines::Section;
 use std::collections::BTreeMap;
 
-/// The section of the next line, how many bytes each section has, and the labels so far. A section may have more
-/// bytes than it has room for.
+/// The section of the next line, the size of each section, and the labels so far. A section may have more bytes than
+/// room.
 #[derive(Drop)]
 pub struct Cursor<'a> {
     /// The section of the next line.
     pub section: Section,
-    /// How many bytes code has.
+    /// The number of bytes in code.
     pub code: u64,
-    /// How many bytes local memory has.
+    /// The number of bytes in local memory.
     pub local: u64,
-    /// How many bytes shared memory has.
+    /// The number of bytes in shared memory.
     pub shared: u64,
-    /// The labels so far; of one that stands on two lines the later counts.
+    /// The labels so far. A label that is on several lines has the address of the last.
     pub labels: BTreeMap<&'a [u8], Label>,
     ghost code_small: { code ≤ 2 ^ 62 },
     ghost local_small: { local ≤ 2 ^ 62 },

@@ -1,4 +1,4 @@
-//! Cuts of a piece of a line.
+//! Cutting a piece of a line.
 
 ghost use Rattle.std.specs.Prelude.{◌≡◌, ◌<◌, ◌≤◌, ◌+◌, ◌==◌, length, take, drop, MatchOption};
 ghost use Rattle.std.specs.List.{position_or_len};
@@ -12,7 +12,7 @@ use crate::positions::{blank_position, blanks_before, position_of};
 use asm_lines::{cut_last, trim};
 
 impl<'a> Piece<'a> {
-    /// A whole line.
+    /// The piece that is a whole line.
     pub fn line(bytes: &'a [u8]) -> Piece<'a>
         ensures { span_of result ≡ span 0 bytes.now }
     {
@@ -20,7 +20,7 @@ impl<'a> Piece<'a> {
         Piece { start: 0, bytes }
     }
 
-    /// Nothing, at the end of the piece.
+    /// The empty piece at the end of this one.
     pub fn end(self) -> Piece<'a>
         ensures { span_of result ≡ end_of (span_of self.entry) }
     {
@@ -41,7 +41,7 @@ impl<'a> Piece<'a> {
         }
     }
 
-    /// What stands before the byte at this place, and after it.
+    /// The pieces before and after the byte at this place.
     fn round(self, at: usize) -> (Piece<'a>, Piece<'a>)
         requires { at < length self.bytes.now }
         ensures { (span_of result.0, span_of result.1)
@@ -58,7 +58,7 @@ impl<'a> Piece<'a> {
         (front, behind)
     }
 
-    /// What stands before the first `mark` and after it, where there is one.
+    /// The pieces before and after the first `mark`, if there is one.
     #[tactic(auto, unfolding(asm_lines::specs::Text::cut_at))]
     pub fn cut(self, mark: u8) -> Option<(Piece<'a>, Piece<'a>)>
         ensures value { option_map (λ parts. (span_of parts.0, span_of parts.1)) result
@@ -73,7 +73,7 @@ impl<'a> Piece<'a> {
         }
     }
 
-    /// What stands before the first blank and after it; the whole piece and nothing, where there is none.
+    /// The pieces before and after the first blank; without a blank, the whole piece and an empty one.
     #[tactic(auto, unfolding(asm_lines::specs::Text::cut_at))]
     pub fn cut_blank(self) -> (Piece<'a>, Piece<'a>)
         ensures { (span_of result.0, span_of result.1) ≡ statement_spans (span_of self.entry) }
@@ -84,7 +84,7 @@ impl<'a> Piece<'a> {
         }
     }
 
-    /// What stands before a bracket, and within it, without the blanks round them: the piece begins so.
+    /// The pieces `front`, at the start of this one, and `inside`, one byte after it, without the blanks around them.
     fn round_bracket(self, front: &'a [u8], inside: &'a [u8]) -> (Piece<'a>, Piece<'a>)
         requires { length front.now + 1 + length inside.now ≤ length self.bytes.now }
         ensures { (span_of result.0, span_of result.1)
@@ -101,7 +101,7 @@ impl<'a> Piece<'a> {
         (before.trimmed(), within.trimmed())
     }
 
-    /// What stands before and within the brackets with which the piece ends.
+    /// The pieces before and within the brackets at the end of this one.
     pub fn bracket_parts(self) -> Option<(Piece<'a>, Piece<'a>)>
         ensures { option_map (λ parts. (span_of parts.0, span_of parts.1)) result
             ≡ bracketed_span (span_of self.entry) }

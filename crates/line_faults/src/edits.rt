@@ -1,4 +1,4 @@
-//! How far a word is from a name.
+//! The number of edits between a word and a name.
 
 ghost use Rattle.std.specs.Prelude.{◌≡◌, IfOk};
 ghost use Rattle.line_faults.specs.FirstWords.{few_edits, most_edits};
@@ -6,10 +6,10 @@ ghost use Rattle.line_faults.specs.FirstWords.{few_edits, most_edits};
 use std::alloc::{AllocError, Global};
 use strsim::generic_levenshtein;
 
-/// Names that are longer than that are near to no word.
+/// Longer names are near to no word.
 const MAX_NAME_BYTES: usize = 32;
 
-/// How many edits a word of this many bytes may be away from the name that was meant.
+/// The most edits by which a word of this many bytes may differ from the name that was meant.
 fn most_edits(count: usize) -> usize
     ensures { result ≡ most_edits count }
 {
@@ -20,7 +20,7 @@ fn most_edits(count: usize) -> usize
     }
 }
 
-/// How many edits lead from a word to a name, where they are few: a byte put in, left out or changed.
+/// The number of edits from a word to a name, if they are few. An edit inserts, deletes or changes a byte.
 pub fn few_edits(alloc: Global, word: &[u8], name: &[u8]) -> Result<Option<usize>, AllocError>
     ensures { IfOk result (λ found. found ≡ few_edits word.now name.now) }
 {

@@ -6,8 +6,8 @@ ghost use Rattle.line_faults.specs.Advice.{advice_of};
 
 use crate::hint::Hint;
 
-/// A word that other assemblers have, and this one has not. Those of instructions stand in the table of
-/// pseudoinstructions of the RISC-V manual, or are its assemblers' own; those with a dot are directives.
+/// A word that other assemblers have and this one does not. Words with a dot are directives. The others are in the
+/// RISC-V manual's table of pseudoinstructions, or are known only to its assemblers.
 #[derive(Clone, Copy, Debug, Drop)]
 pub enum Foreign {
     /// `nop`.
@@ -140,7 +140,7 @@ impl Foreign {
         Foreign::DotSize,
     ];
 
-    /// How the word is written.
+    /// The text of the word.
     fn name(self) -> &'static str
         ensures { result.now ≡ foreign_name self }
     {
@@ -189,7 +189,7 @@ impl Foreign {
         }
     }
 
-    /// What does the same here, or that nothing is needed.
+    /// Advice on what does the same here, or that nothing is needed.
     pub fn advice(self) -> Hint<'static>
         ensures { advice_of result ≡ foreign_advice self }
     {
@@ -235,7 +235,7 @@ impl Foreign {
         }
     }
 
-    /// The word that is written so.
+    /// The word of other assemblers that is written as `word`.
     #[tactic(auto, unfolding(crate::specs::FirstWords::foreign_of))]
     pub fn find(word: &[u8]) -> Option<Foreign>
         ensures { result ≡ foreign_of word.now }

@@ -1,4 +1,4 @@
-//! What would be right.
+//! Advice on what would be right.
 
 use crate::shape::Wanted;
 use asm_lines::Section;
@@ -8,13 +8,13 @@ use asm_lines::Section;
 pub enum Hint<'a> {
     /// There is no such instruction or directive.
     NoWord,
-    /// This instruction or directive is written almost so.
+    /// This instruction or directive is written almost the same.
     NearWord(&'static str),
-    /// This does what other assemblers have the word for.
+    /// This does what the word does in other assemblers.
     Instead(&'static str),
     /// Other assemblers have the word; here nothing is needed, for this reason.
     NotNeeded(&'static str),
-    /// A label's name is not written so.
+    /// This is not how a label's name is written.
     LabelName,
     /// A label ends with a colon.
     Colon,
@@ -22,9 +22,9 @@ pub enum Hint<'a> {
     Operands(&'static str),
     /// A comma is missing; the operands are these.
     Comma(&'static str),
-    /// No operand stands here.
+    /// There is no operand here.
     NoOperand,
-    /// This stands here.
+    /// This is wanted here.
     Wants(Wanted),
     /// A bracket is missing.
     Bracket,
@@ -32,21 +32,21 @@ pub enum Hint<'a> {
     OutOfRange(Wanted),
     /// The number is a word, and these are its upper 20 bits.
     UpperBits(u64),
-    /// Instructions stand in code alone.
+    /// Instructions belong only in code.
     OutsideCode,
-    /// The line's place has this address, which is not divisible by 4.
+    /// The line has this address, which is not divisible by 4.
     Unaligned(u64),
-    /// A target is at an even distance.
+    /// The distance of a target must be even.
     Odd,
     /// The target is this many bytes away.
     Far(u64, Wanted),
-    /// The label stands on this line already, counted from 1.
+    /// The label is already on this line, counted from 1.
     StandsOn(usize),
     /// There is no such label.
     NoLabel,
-    /// This label is written almost so.
+    /// This label is written almost the same.
     NearLabel(&'a [u8]),
-    /// The section has room for this many bytes, and this many stand there.
+    /// The section has room for `room` bytes, and has `taken` bytes so far.
     Full {
         section: Section,
         room: u32,

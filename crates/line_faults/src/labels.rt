@@ -11,36 +11,36 @@ use asm_lines::Section;
 use std::alloc::{AllocError, Global};
 use std::collections::BTreeMap;
 
-/// What a label stands for.
+/// What is known of a label.
 #[derive(Clone, Copy, Drop)]
 pub struct Label {
     /// The section of the label's last line.
     pub section: Section,
-    /// The address of the section's next byte at the label's line: the last of its lines.
+    /// The address of the section's next byte at the label's last line.
     pub address: u64,
     /// The first line with the label, counted from 1.
     pub line: usize,
 }
 
-/// A search for labels that are near to others. It looks at this many names and no more, so that a text of many labels
-/// that stand nowhere does not take long.
+/// A search for labels that are near to a word. It looks at a limited number of names, so that a text with many missing
+/// labels does not take long.
 #[derive(Drop)]
 pub struct Search {
     left: usize,
 }
 
 impl Search {
-    /// How many names are looked at for one text.
+    /// The most names that the search looks at for one text.
     const MAX_NAMES: usize = 262_144;
 
-    /// A search that has looked at no name.
+    /// A search that has not looked at a name yet.
     pub fn new() -> Search {
         Search {
             left: Search::MAX_NAMES,
         }
     }
 
-    /// A label to which the fewest edits lead, if few do.
+    /// A label that is nearest to a word, if few edits lead to it.
     pub fn near<'a>(
         &mut self,
         alloc: Global,
@@ -65,7 +65,7 @@ impl Search {
     }
 }
 
-/// The nearer of a label and the one that was nearest before it.
+/// The nearer of a label and the nearest one so far.
 fn nearer<'a>(
     alloc: Global,
     word: &[u8],

@@ -1,11 +1,11 @@
-//! The fault of a line at its place in a text, as `assemble` knows it, the word at which it lies, and what would be
+//! The fault of a line at its place in a text, as `assemble` reports it, the word at fault, and advice on what would be
 //! right.
 //!
-//! What is kept of the lines before is a [`Cursor`], which may go after lines that have a fault too.
-//! `specs/Places.antt` says what it means, `specs/Faults.antt` which fault a line has, `specs/WordAtFault.antt` at
-//! which word it lies, and `specs/AdviceAtFault.antt` what is advised there: `specs/FirstWords.antt` in place of a
-//! first word that is none, else by the table of operands in `specs/Wants.antt`, by the line's place, and by the
-//! labels that the text has.
+//! A [`Cursor`] keeps what matters of the lines before, and can also pass lines that have a fault. `specs/Places.antt`
+//! defines what a cursor means, `specs/Faults.antt` which fault a line has, `specs/WordAtFault.antt` which word is at
+//! fault, and `specs/AdviceAtFault.antt` what is advised. For an unknown first word the advice is that of
+//! `specs/FirstWords.antt`; otherwise it depends on the table of operands in `specs/Wants.antt`, on the line's place,
+//! and on the labels of the text.
 #![tactic(auto)]
 
 mod cursor;

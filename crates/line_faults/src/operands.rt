@@ -1,4 +1,4 @@
-//! Operands that are not what they have to be.
+//! Wrong operands.
 
 ghost use Rattle.std.specs.Prelude.{◌≡◌, ◌==◌, ◌&&◌, not, IfOk, map, length, find, slice_get, if◌then◌else◌, Some};
 ghost use Rattle.std.specs.Prelude.{None};
@@ -30,7 +30,7 @@ use crate::spot::Spot;
 use asm_lines::{LineFault, is_name, number_within, register_named};
 use std::alloc::{AllocError, Global};
 
-/// The first operand that is not what it has to be, or that is missing.
+/// The first operand that is wrong or missing.
 pub fn wrong_operand<'a>(alloc: Global, parts: &Parts<'a>) -> Result<Option<Spot<'a>>, AllocError>
     ensures spot { IfOk result (λ found. option_map spot_span found ≡ form_fault (line_spans parts.now)) }
     ensures advice { IfOk result (λ found. option_map spot_advice found ≡ form_advice (line_spans parts.now)) }
@@ -41,7 +41,7 @@ pub fn wrong_operand<'a>(alloc: Global, parts: &Parts<'a>) -> Result<Option<Spot
     }
 }
 
-/// What is wrong with operands that are to have this shape.
+/// What is wrong with operands that have to have this shape.
 fn wrong_for<'a>(
     alloc: Global,
     shape: &Shape,
@@ -73,7 +73,7 @@ fn wrong_among<'a>(shape: &Shape, rest: Piece<'a>, operands: &[Piece<'a>]) -> Op
     }
 }
 
-/// The first operand that is not what it has to be.
+/// The first operand that is wrong.
 fn first_wrong<'a>(shape: &Shape, operands: &[Piece<'a>]) -> Option<Spot<'a>>
     ensures spot { option_map spot_span result
         ≡ first_in fault_within (shape_wants shape.now) 0 (map span_of operands.now) }
@@ -93,7 +93,7 @@ fn first_wrong<'a>(shape: &Shape, operands: &[Piece<'a>]) -> Option<Spot<'a>>
     None
 }
 
-/// What is wrong with the operand that has this number.
+/// What is wrong with the operand with this number.
 fn wrong_at<'a>(shape: &Shape, number: usize, operand: Piece<'a>) -> Option<Spot<'a>>
     ensures spot { option_map spot_span result
         ≡ option_and_then (λ wanted. fault_within wanted (span_of operand.entry))
@@ -108,7 +108,7 @@ fn wrong_at<'a>(shape: &Shape, number: usize, operand: Piece<'a>) -> Option<Spot
     }
 }
 
-/// Where an operand is too many, or one is missing.
+/// What is wrong with the number of operands.
 fn wrong_count<'a>(shape: &Shape, rest: Piece<'a>, operands: &[Piece<'a>]) -> Option<Spot<'a>>
     ensures spot { option_map spot_span result ≡ (if shape.now.is_list then None
         else count_fault (length shape.now.operands.now) (span_of rest.entry) (map span_of operands.now)) }
@@ -127,7 +127,7 @@ fn wrong_count<'a>(shape: &Shape, rest: Piece<'a>, operands: &[Piece<'a>]) -> Op
     })
 }
 
-/// The first operand that is too many, or else the first that is two.
+/// The first operand too many, or else the first in which a comma is missing.
 fn extra_or_parted<'a>(shape: &Shape, operands: &[Piece<'a>]) -> Option<Spot<'a>>
     ensures spot { option_map spot_span result
         ≡ option_or (slice_get (map span_of operands.now) (length shape.now.operands.now))
@@ -159,7 +159,7 @@ pub fn operand_at<'a>(operands: &[Piece<'a>], number: usize) -> Option<Piece<'a>
     operands.get(number).copied()
 }
 
-/// The first operand within which a comma is missing.
+/// The first operand in which a comma is missing.
 fn first_parted<'a>(operands: &[Piece<'a>]) -> Option<Piece<'a>>
     ensures { option_map span_of result ≡ find is_parted (map span_of operands.now) }
 {
@@ -173,7 +173,7 @@ fn first_parted<'a>(operands: &[Piece<'a>]) -> Option<Piece<'a>>
     None
 }
 
-/// Whether a blank stands within an operand that has no brackets.
+/// Whether an operand has a blank but no bracket.
 fn is_parted(operand: &[u8]) -> bool
     ensures { result ≡ (list_any is_blank operand.now && not (list_any (λ b. b == 40) operand.now)) }
 {
@@ -181,7 +181,7 @@ fn is_parted(operand: &[u8]) -> bool
 }
 
 impl Wanted {
-    /// What of an operand is not as it has to be.
+    /// What is wrong with an operand.
     fn look<'a>(self, operand: Piece<'a>) -> Option<Spot<'a>>
         ensures spot { option_map spot_span result ≡ fault_within self (span_of operand.entry) }
         ensures advice { option_map spot_advice result ≡ advice_within self (span_of operand.entry) }
@@ -194,7 +194,7 @@ impl Wanted {
         }
     }
 
-    /// The label that an operand names in the form that stands here.
+    /// The label that an operand names, in the form that is wanted.
     pub fn label_in<'a>(self, operand: Piece<'a>) -> Option<Piece<'a>>
         ensures { option_map span_of result ≡ label_within self (span_of operand.entry) }
     {
@@ -230,7 +230,7 @@ impl Wanted {
         })
     }
 
-    /// What would be right in place of a number that is out of range.
+    /// What would be right in place of a number out of range.
     fn range_hint<'a>(self, operand: Piece<'a>) -> Hint<'a>
         ensures { advice_of result
             ≡ range_advice self (number_within (pos 0) (pos 4294967295) operand.entry.bytes.now) }
@@ -242,7 +242,7 @@ impl Wanted {
     }
 }
 
-/// The label that an operand is.
+/// The operand, if it is a label.
 fn name_in(operand: Piece<'_>) -> Option<Piece<'_>>
     ensures { option_map span_of result
         ≡ (if is_name operand.entry.bytes.now then Some (span_of operand.entry) else None) }
@@ -310,7 +310,7 @@ fn look_at_base<'a>(operand: Piece<'a>) -> Option<Spot<'a>>
     look_at_register(base)
 }
 
-/// One bracket is missing, or both are.
+/// The fault of an operand in which one bracket is missing, or both are.
 fn without_brackets<'a>(operand: Piece<'a>, wanted: Wanted) -> Spot<'a>
     ensures spot { spot_span result ≡ span_of operand.entry }
     ensures advice { spot_advice result ≡ brackets_advice wanted (span_of operand.entry) }

@@ -10,19 +10,19 @@ use crate::piece::Piece;
 use asm_lines::is_name;
 use std::alloc::{AllocError, Global};
 
-/// A line taken apart, without its comment.
+/// The parts of a line, without its comment.
 #[derive(Drop)]
 pub struct Parts<'a> {
     /// The label's name.
     pub label: Option<Piece<'a>>,
     /// The statement's first word.
     pub word: Piece<'a>,
-    /// What stands after that.
+    /// The text after that.
     pub rest: Piece<'a>,
 }
 
 impl<'a> Parts<'a> {
-    /// The parts of a line; a comment is none of them.
+    /// The parts of a line, without its comment.
     #[tactic(auto, unfolding(crate::specs::WordAtFault::spans_of_line))]
     pub fn of(line: &'a [u8]) -> Parts<'a>
         ensures { line_spans result ≡ spans_of_line line.now }
@@ -32,7 +32,7 @@ impl<'a> Parts<'a> {
         Parts { label, word, rest }
     }
 
-    /// The statement's operands, which are one at least, be it empty.
+    /// The statement's operands. There is at least one, which may be empty.
     pub fn operands(&self, alloc: Global) -> Result<Vec<Piece<'a>>, AllocError>
         ensures { IfOk result (λ operands. map span_of operands.items ≡ operand_spans (span_of self.now.rest)) }
     {
@@ -47,7 +47,7 @@ impl<'a> Parts<'a> {
     }
 }
 
-/// What stands before the comment.
+/// The text before the comment.
 fn text_of(line: &[u8]) -> Piece<'_>
     ensures { span_of result ≡ text_span line.now }
 {
@@ -58,7 +58,7 @@ fn text_of(line: &[u8]) -> Piece<'_>
     }
 }
 
-/// The label before the colon and what stands after it.
+/// The label before the colon, and the text after it.
 fn cut_label(text: Piece<'_>) -> (Option<Piece<'_>>, Piece<'_>)
     ensures { (option_map span_of result.0, span_of result.1)
         ≡ label_spans (span_of text.entry) (cut_span (λ b. b == 58) (span_of text.entry)) }

@@ -5,7 +5,7 @@ ghost use Rattle.std.specs.Prelude.{◌≤◌, ◌+◌, ◌^◌, length};
 /// A piece of a line.
 #[derive(Clone, Copy, Drop)]
 pub struct Piece<'a> {
-    /// Where it begins in the line, counted in bytes from 0.
+    /// The position of its first byte in the line, from 0.
     pub start: usize,
     /// Its bytes.
     pub bytes: &'a [u8],

@@ -1,4 +1,4 @@
-//! Where the next line of a text stands, for any lines before it.
+//! The place of the next line of a text, after any lines.
 
 ghost use Rattle.std.specs.Prelude.{◌≡◌, ◌≤◌, ◌+◌, ◌-◌, ◌^◌, IfOk, IfErr, OnOk, Ok, Err, Some};
 ghost use Rattle.asm_lines.specs.Statements.{stmt_of, said_of};
@@ -16,10 +16,10 @@ use assembler::{AsmFault, base_of, misplacement, room_of, size_of};
 use std::alloc::{AllocError, Global};
 use std::collections::BTreeMap;
 
-/// More bytes than a text that fits into memory gives a section.
+/// More bytes than a text that fits in memory can give a section.
 const MOST: u64 = 0x4000_0000_0000_0000;
 
-/// How many bytes there are with this many more.
+/// The number of bytes with this many more.
 fn more(count: u64, size: u64) -> Result<u64, AllocError>
     ensures sum { IfOk result (λ sum. sum ≡ count + size) }
     ensures small { IfOk result (λ sum. sum ≤ 2 ^ 62) }
@@ -31,7 +31,7 @@ fn more(count: u64, size: u64) -> Result<u64, AllocError>
 }
 
 impl<'a> Cursor<'a> {
-    /// The beginning of a text.
+    /// The cursor at the beginning of a text.
     pub fn new(alloc: Global) -> Cursor<'a>
         ensures { place_of result ≡ start }
     {
@@ -44,7 +44,7 @@ impl<'a> Cursor<'a> {
         }
     }
 
-    /// How many bytes the section has.
+    /// The number of bytes in the section.
     pub fn count(&self) -> u64
         ensures exact { result ≡ count_of self.now.section (place_of self.now) }
         ensures small { result ≤ 2 ^ 62 }
@@ -63,12 +63,12 @@ impl<'a> Cursor<'a> {
         u64::from(base_of(self.section)) + self.count()
     }
 
-    /// The first line of a label that stands on a line before, counted from 1.
+    /// The first line that has this label, counted from 1.
     pub fn line_of(&self, name: &'a [u8]) -> Option<usize> {
         self.labels.get(&name).map(|label| label.line)
     }
 
-    /// The address of a statement that may stand here.
+    /// The address of a statement, if it may be here.
     fn place_statement(&self, statement: &Statement<'_>) -> Result<u32, AsmFault>
         ensures ok { IfOk result (λ at. place_statement (place_of self.now) (Some (stmt_of statement.now))
             ≡ Ok (record { section = self.now.section; address = at; statement = Some (stmt_of statement.now) })) }
@@ -85,7 +85,7 @@ impl<'a> Cursor<'a> {
         Ok(base_of(self.section) + count as u32)
     }
 
-    /// The fault of a line that says this here.
+    /// The fault of a line that says this at the cursor.
     #[tactic(auto, unfolding(assembler::specs::Meaning::place_said, assembler::specs::Meaning::piece_of))]
     pub fn fault_of(&self, labels: &BTreeMap<&'a [u8], Label>, said: &Line<'a>) -> Option<AsmFault>
         ensures { result ≡ said_fault (label_values labels.now) (place_of self.now) (said_of said.now) }
@@ -104,7 +104,7 @@ impl<'a> Cursor<'a> {
         }
     }
 
-    /// Takes the label of a line, which has this number.
+    /// Adds the label of the line with this number.
     fn add_label(&mut self, name: Option<&'a [u8]>, number: usize) -> Result<(), AllocError>
         ensures { OnOk result (place_of self.new ≡ labelled (name_of name.entry) (place_of self.old)) }
     {
@@ -120,7 +120,7 @@ impl<'a> Cursor<'a> {
         Ok(())
     }
 
-    /// Goes after a statement.
+    /// Moves past a statement.
     fn pass_statement(&mut self, statement: &Statement<'_>) -> Result<(), AllocError>
         ensures { OnOk result (place_of self.new ≡ after_statement (place_of self.old) (stmt_of statement.now)) }
     {
@@ -136,7 +136,7 @@ impl<'a> Cursor<'a> {
         Ok(())
     }
 
-    /// Goes after a line that says this and has this number.
+    /// Moves past the line with this number, which says this.
     #[tactic(auto, unfolding(assembler::specs::Meaning::after_said))]
     pub fn pass(&mut self, said: &Line<'a>, number: usize) -> Result<(), AllocError>
         ensures { OnOk result (place_of self.new ≡ after_said (place_of self.old) (said_of said.now)) }

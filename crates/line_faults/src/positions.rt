@@ -1,4 +1,4 @@
-//! Where bytes stand in a text.
+//! Positions of bytes in a text.
 
 ghost use Rattle.std.specs.Prelude.{◌≡◌, ◌==◌, not, position};
 ghost use Rattle.std.specs.List.{list_any};
@@ -12,14 +12,14 @@ pub fn is_blank(byte: u8) -> bool
     byte == b' ' || byte == b'\t'
 }
 
-/// Where the first byte stands that is no blank.
+/// The position of the first byte that is not a blank.
 fn solid_position(bytes: &[u8]) -> Option<usize>
     ensures { result ≡ position (λ b. not (is_blank b)) bytes.now }
 {
     bytes.iter().position(|byte| !is_blank(*byte))
 }
 
-/// How many blanks a text begins with.
+/// The number of blanks at the beginning of a text.
 pub fn blanks_before(bytes: &[u8]) -> usize
     ensures { result ≡ blanks_before bytes.now }
 {
@@ -29,14 +29,14 @@ pub fn blanks_before(bytes: &[u8]) -> usize
     }
 }
 
-/// Where the first `mark` stands.
+/// The position of the first `mark`.
 pub fn position_of(bytes: &[u8], mark: u8) -> Option<usize>
     ensures { result ≡ position (λ b. b == mark) bytes.now }
 {
     bytes.iter().position(|byte| *byte == mark)
 }
 
-/// Where the first blank stands.
+/// The position of the first blank.
 pub fn blank_position(bytes: &[u8]) -> Option<usize>
     ensures { result ≡ position is_blank bytes.now }
 {

@@ -15,9 +15,9 @@ pub enum Wanted {
     Lower,
     /// The upper 20 bits of a word, or `%hi(label)`.
     Upper,
-    /// By how many bits is shifted.
+    /// The number of bits of a shift.
     Shift,
-    /// What a fence orders.
+    /// The ordering of a fence.
     Fence,
     /// The target of a branch: a label, or the distance.
     Branch,
@@ -31,12 +31,12 @@ pub enum Wanted {
     Word,
     /// The value of a byte.
     Byte,
-    /// How many bytes are zero.
+    /// A number of zero bytes.
     Count,
 }
 
 impl Wanted {
-    /// The least and the most that a number may be here.
+    /// The least and the greatest number that is allowed here.
     pub fn range(self) -> (i64, i64)
         ensures value { result ≡ range_of self }
         ensures least { negsuc (2 ^ 32) ≤ℤ result.0 }
@@ -57,14 +57,14 @@ impl Wanted {
     }
 }
 
-/// The operands of a statement by its first word.
+/// The operands that the first word of a statement takes.
 #[derive(Drop)]
 pub struct Shape {
     /// How they are written.
     pub form: &'static str,
     /// What each has to be.
     pub operands: &'static [Wanted],
-    /// Whether there may be any number like the first.
+    /// Whether there may be any number of operands like the first.
     pub is_list: bool,
 }
 
@@ -75,7 +75,7 @@ const NONE: Shape = Shape {
 };
 
 impl Shape {
-    /// The operands after a first word.
+    /// The operands that this first word takes.
     #[tactic(auto, unfolding(crate::specs::Wants::wants_of))]
     pub fn of(word: &[u8]) -> Option<Shape>
         ensures { option_map shape_wants result ≡ wants_of word.now }

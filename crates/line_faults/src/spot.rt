@@ -1,4 +1,4 @@
-//! Where the fault of a line lies, and what would be right.
+//! The word at fault in a line, and what would be right.
 
 ghost use Rattle.std.specs.Prelude.{◌≡◌, ◌%◌, ◌==◌, IfOk, Some, map, unwrap_or, option_and_then, if◌then◌else◌};
 ghost use Rattle.std.specs.Option.{option_map};
@@ -35,7 +35,7 @@ pub struct Spot<'a> {
 }
 
 impl<'a> Spot<'a> {
-    /// The spot, unless all is right there.
+    /// The spot, unless everything is right there.
     pub fn unless(is_right: bool, piece: Piece<'a>, hint: Hint<'a>) -> Option<Spot<'a>>
         ensures spot { option_map spot_span result ≡ unless is_right (span_of piece.entry) }
         ensures advice { option_map spot_advice result ≡ unless is_right (advice_of hint.entry) }
@@ -48,7 +48,7 @@ impl<'a> Spot<'a> {
     }
 }
 
-/// What is known of a line when its fault is looked for.
+/// What is known of a line when the search for its fault begins.
 #[derive(Drop)]
 pub struct Around<'v, 'a> {
     /// The place of the line.
@@ -57,11 +57,11 @@ pub struct Around<'v, 'a> {
     pub labels: &'v BTreeMap<&'a [u8], Label>,
 }
 
-/// Where a line's fault lies.
+/// The spot of a line's fault.
 ///
 /// # Errors
 ///
-/// [`AllocError`] where memory is short.
+/// [`AllocError`] if memory is short.
 #[tactic(auto, unfolding(crate::specs::WordAtFault::word_at_fault, crate::specs::AdviceAtFault::IsAdvised))]
 pub fn spot_of<'a>(
     alloc: Global,
@@ -81,7 +81,7 @@ pub fn spot_of<'a>(
     spot_within(alloc, around, search, &Parts::of(line), fault)
 }
 
-/// Where the fault of a line with these parts lies.
+/// The spot of the fault of a line with these parts.
 fn spot_within<'a>(
     alloc: Global,
     around: &Around<'_, 'a>,
@@ -122,7 +122,7 @@ fn spot_within<'a>(
     }
 }
 
-/// A statement whose numbers are right, and that may not stand where it stands, or whose target cannot be reached.
+/// The spot of a statement that has right numbers, but may not be at its place or cannot reach its target.
 fn misplacement<'a>(
     alloc: Global,
     around: &Around<'_, 'a>,
@@ -158,7 +158,7 @@ fn target_of<'a>(alloc: Global, parts: &Parts<'a>) -> Result<Piece<'a>, AllocErr
     }
 }
 
-/// Whether a target is odd or too far from the instruction at this address.
+/// Advice on a target that is odd, or too far from the instruction at this address.
 fn target_hint<'a>(
     around: &Around<'_, 'a>,
     parts: &Parts<'a>,
@@ -173,7 +173,7 @@ fn target_hint<'a>(
     distance_hint(wanted, label, address)
 }
 
-/// What is wrong with a target, of which this is wanted, that is a label, from the instruction at this address.
+/// Advice on a target that is a label, for the instruction at this address.
 fn distance_hint<'a>(wanted: Option<Wanted>, label: Option<Label>, address: u64) -> Hint<'a>
     ensures { advice_of result ≡ distance_advice wanted (option_map symbol_of label) address }
 {
@@ -193,7 +193,7 @@ fn last_wanted(word: &[u8]) -> Option<Wanted>
     }
 }
 
-/// That a target that can be reached is odd, or how far it is from the instruction at this address.
+/// Advice that a target within reach is odd, or how far the target is from the instruction at this address.
 fn far_or_odd<'a>(wanted: Wanted, target: u64, address: u64) -> Hint<'a>
     ensures { advice_of result ≡ far_or_odd wanted target address }
 {
@@ -207,7 +207,7 @@ fn far_or_odd<'a>(wanted: Wanted, target: u64, address: u64) -> Hint<'a>
     }
 }
 
-/// A label that stands on a line before.
+/// The spot of a label that an earlier line has too.
 fn twice<'a>(around: &Around<'_, 'a>, parts: &Parts<'a>) -> Spot<'a>
     ensures spot { spot_span result ≡ unwrap_or (line_spans parts.now).label (span_of parts.now.word) }
     ensures advice { IsStanding (spot_advice result) }
@@ -223,7 +223,7 @@ fn twice<'a>(around: &Around<'_, 'a>, parts: &Parts<'a>) -> Spot<'a>
     }
 }
 
-/// The first label that stands on no line.
+/// The spot of the first label that no line has.
 fn missing<'a>(
     alloc: Global,
     around: &Around<'_, 'a>,
@@ -247,7 +247,7 @@ fn missing<'a>(
     Ok(Spot { piece, hint })
 }
 
-/// The first label after a line's first word that stands on no line.
+/// The first label after a line's first word that no line has.
 fn missing_label<'a>(
     alloc: Global,
     labels: &BTreeMap<&'a [u8], Label>,
@@ -265,7 +265,7 @@ fn missing_label<'a>(
     }
 }
 
-/// The first of these operands whose label stands on no line: that label.
+/// The first label of these operands that no line has.
 fn first_missing<'a>(
     labels: &BTreeMap<&'a [u8], Label>,
     shape: &Shape,
@@ -287,7 +287,7 @@ fn first_missing<'a>(
     None
 }
 
-/// The label of the operand that has this number, where it stands on no line.
+/// The label of the operand with this number, if no line has it.
 fn missing_at<'a>(
     labels: &BTreeMap<&'a [u8], Label>,
     shape: &Shape,
@@ -304,7 +304,7 @@ fn missing_at<'a>(
     }
 }
 
-/// The label that an operand names, where it stands on no line.
+/// The label that an operand names, if no line has it.
 fn missing_in<'a>(
     labels: &BTreeMap<&'a [u8], Label>,
     wanted: Wanted,

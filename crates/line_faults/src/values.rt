@@ -1,4 +1,4 @@
-//! Faults of values: labels that stand on no line, and targets that are odd or too far.
+//! Faults of values: labels that no line has, and targets that are odd or too far.
 
 ghost use Rattle.std.specs.Prelude.{◌≡◌, ◌^◌, ◌≤ℤ◌, ℕ, ℤ, pos, Some, Ok, IfOk, IfErr, map};
 ghost use Rattle.asm_lines.specs.Statements.{val_of, stmt_of, instr_of};
@@ -11,7 +11,7 @@ use asm_lines::{Instruction, Statement, Value, low_bits};
 use assembler::AsmFault;
 use std::collections::BTreeMap;
 
-/// The fault of a number or a label, of whose value a part is taken.
+/// The fault of a number or a label of which only a part of the value is used.
 fn value_fault<'a>(labels: &BTreeMap<&'a [u8], Label>, value: &Value<'a>) -> Option<AsmFault>
     ensures { (part : ℕ → ℤ) → result ≡ fault_in (part_of part (label_values labels.now) (val_of value.now)) }
 {
@@ -24,7 +24,7 @@ fn value_fault<'a>(labels: &BTreeMap<&'a [u8], Label>, value: &Value<'a>) -> Opt
     }
 }
 
-/// How far a target is from an instruction at this address.
+/// The distance of a target from an instruction at this address.
 #[tactic(auto, unfolding(assembler::specs::Meaning::offset_of))]
 fn distance<'a>(
     labels: &BTreeMap<&'a [u8], Label>,
@@ -41,7 +41,7 @@ fn distance<'a>(
             let Some(label) = labels.get(name).copied() else {
                 return Err(AsmFault::LabelMissing);
             };
-            // What is farther than all ranges.
+            // Such an address is farther than all ranges.
             let Ok(address) = i64::try_from(label.address) else {
                 return Err(AsmFault::Range);
             };
@@ -50,7 +50,7 @@ fn distance<'a>(
     }
 }
 
-/// The fault of a target of an instruction at this address, which is even and from `least` to `most`.
+/// The fault of a target of an instruction at this address. Its distance has to be even and from `least` to `most`.
 #[tactic(auto, unfolding(assembler::specs::Meaning::offset_of))]
 fn target_fault<'a>(
     least: i64,

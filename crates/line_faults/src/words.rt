@@ -1,4 +1,4 @@
-//! First words that are none.
+//! Unknown first words.
 
 ghost use Rattle.std.specs.Prelude.{◌≡◌, ◌==◌, ◌&&◌, IfOk, length, map};
 ghost use Rattle.std.specs.Char.{to_ascii_lowercase};
@@ -20,7 +20,7 @@ use crate::spot::Spot;
 use asm_lines::{Directive, Mnemonic, is_name};
 use std::alloc::{AllocError, Global};
 
-/// A statement whose first word is no instruction and no directive.
+/// The spot of a statement whose first word is neither an instruction nor a directive.
 pub fn unknown_word<'a>(alloc: Global, parts: &Parts<'a>) -> Result<Spot<'a>, AllocError>
     ensures named { IfOk result (λ spot. spot_span spot ≡ span_of parts.now.word) }
     ensures advised { IfOk result (λ spot. spot_advice spot ≡ word_advice_in (line_spans parts.now)) }
@@ -33,7 +33,7 @@ pub fn unknown_word<'a>(alloc: Global, parts: &Parts<'a>) -> Result<Spot<'a>, Al
     })
 }
 
-/// What is advised in place of a first word that is none, with these bytes after it.
+/// What is advised for an unknown first word with these bytes after it.
 #[tactic(auto, unfolding(crate::specs::FirstWords::advice_on))]
 fn hint_on<'a>(alloc: Global, word: &[u8], rest: &[u8]) -> Result<Hint<'a>, AllocError>
     ensures { IfOk result (λ hint. advice_of hint ≡ advice_on word.now rest.now) }
@@ -48,7 +48,7 @@ fn hint_on<'a>(alloc: Global, word: &[u8], rest: &[u8]) -> Result<Hint<'a>, Allo
     Ok(hint_by(nearest, rest.is_empty() && is_name(word)))
 }
 
-/// A word that is near, or else that a colon may be missing.
+/// Advice of a near word, or else that a colon may be missing.
 fn hint_by<'a>(nearest: Option<&'static str>, is_label: bool) -> Hint<'a>
     ensures { advice_of result ≡ advice_by None (option_map (λ name. name.now) nearest.entry) is_label }
 {
@@ -59,7 +59,7 @@ fn hint_by<'a>(nearest: Option<&'static str>, is_label: bool) -> Hint<'a>
     }
 }
 
-/// The instruction or directive to which the fewest edits lead, in letters of either case, if few do.
+/// The instruction or directive that is nearest to a word, in letters of either case, if few edits lead to it.
 #[tactic(auto, unfolding(crate::specs::FirstWords::nearest_word))]
 fn near_word(alloc: Global, word: &[u8]) -> Result<Option<&'static str>, AllocError>
     ensures { IfOk result (λ found. option_map (λ name. name.now) found ≡ nearest_word word.now) }
@@ -97,7 +97,7 @@ fn near_mnemonic(alloc: Global, word: &[u8]) -> Result<Option<(usize, &'static s
     Ok(nearest)
 }
 
-/// The nearest directive, where it is nearer than what was nearest before.
+/// The nearest directive, if it is nearer than what was nearest before.
 fn near_directive(
     alloc: Global,
     word: &[u8],
@@ -115,7 +115,7 @@ fn near_directive(
     Ok(nearest)
 }
 
-/// The nearer of a name and the one that was nearest before it.
+/// The nearer of a name and the nearest one so far.
 fn nearer(
     alloc: Global,
     word: &[u8],

@@ -2,7 +2,7 @@ use Rattle.std.proofs.Common.{◌≡◌, ◌++◌, length, map}
 use Rattle.line_faults.specs.Spans.{span_of, operand_spans}
 use Rattle.line_faults.proofs.parts.Parts.operands.Given as goal
 
--- the operands so far, and those of the rest, are all
+-- The operands so far, followed by those of the rest, are all operands.
 abbrev pub invariant-loop-operand : goal.invariant-loop-operand
 invariant-loop-operand l = map span_of l.operands.items ++ operand_spans (span_of l.rest) ≡ operand_spans (span_of l.self.rest)
 
