@@ -1,4 +1,4 @@
--- What an output does with a request, by whether some entry combines with it and by room.
+-- What an output does with a request, by whether some entry combines with it and whether there is room.
 use Rattle.std.proofs.Common.{◌≡◌, ◌⊎◌, inl, inr, ℕ, zero, suc, ◌<◌, ◌≤◌, List, [], ◌∷◌, ◌++◌}
 use Rattle.std.proofs.Common.{length, Option, Some, None, refl, sym, ap, ◌∙◌, arith, Bool}
 use Rattle.std.proofs.Common.{true, false, ◌&&◌, nat_lt, ltb-true, eqb-true, eq-eqb}
@@ -25,7 +25,8 @@ joint_is r x e phi few same composes =
     let word : (e.word == x.word) ≡ true = eq-eqb e.word x.word same in
     ap (λ b. if (b && (e.word == x.word)) then composed e.phi x.phi else None) fewer ∙ ap (λ b. if b then composed e.phi x.phi else None) word ∙ composes
 
--- the parts of the test
+-- If an entry and a request have a joint function, the entry may be combined, has the same word, and its function
+-- composes.
 joint_parts : (r : ℕ) (x e : Request) (phi : Phi) → joint r x e ≡ Some phi → (e.marks < r) × (e.word ≡ x.word) × (composed e.phi x.phi ≡ Some phi)
 unfolding joint
 joint_parts r x e phi is = go (nat_lt e.marks r) refl (e.word == x.word) refl
@@ -66,7 +67,7 @@ behind_at : (r : ℕ) (d : Request) (ds : List Request) (x : Request) (i : ℕ) 
     CombinesAt r (d ∷ ds) x (suc i) e phi
 behind_at r d ds x i e phi at = record { there = at.there; fewer = at.fewer; same_word = at.same_word; composes = at.composes }
 
--- an entry that does not combine is put in front
+-- If an entry that does not combine is put in front, still no entry before the place combines.
 none_behind : (r : ℕ) (d : Request) (ds : List Request) (x : Request) (i : ℕ) → joint r x d ≡ None → NoneInFront r ds x i → NoneInFront r (d ∷ ds) x (suc i)
 none_behind r d ds x i is none zero e phi below at =
     let there : d ≡ e = let some : Some d ≡ Some e = at.there in cc in
@@ -76,7 +77,7 @@ none_behind r d ds x i is none zero e phi below at =
 none_behind r d ds x i is none (suc j) e phi below at =
     none j e phi (omega arith) (record { there = at.there; fewer = at.fewer; same_word = at.same_word; composes = at.composes })
 
--- one entry is the first that combines, or none combines
+-- Either some entry is the first that combines, or none combines.
 first_or_none : (r : ℕ) (queue : List Request) (x : Request) → First r queue x ⊎ NoneInFront r queue x (length queue)
 first_or_none r [] x = inr (λ i e phi below at. absurd (omega arith))
 first_or_none r (d ∷ ds) x = go (joint r x d) refl (first_or_none r ds x)
@@ -121,7 +122,7 @@ with_the_first o x i e phi free at none =
     accepted_is o x (Some (record { queue = slice_set o.requests i (merged e phi); made = record_of x e }))
     (with_a_record o x free ∙ combined_at o.r x o.requests i e phi at.there (none_joint o.r o.requests x i none) joins)
 
--- the first entry that combines, with a record that is free, or no combination
+-- A record is free and some entry is the first that combines, or there is no combination.
 data Decided (o : OutputLists) (x : Request) : Type 0 where
   can : length o.records < o.b → First o.r o.requests x → Decided o x
   cannot : (CanCombine o x → ⊥) → combination o.b o.r x o.requests o.records ≡ None → Decided o x
@@ -141,7 +142,7 @@ decided o x = go (nat_lt (length o.records) o.b) refl (first_or_none o.r o.reque
 can_combine : (o : OutputLists) (x : Request) → length o.records < o.b → First o.r o.requests x → CanCombine o x
 can_combine o x free f = record { free = free; place = f.place; entry = f.entry; phi = f.phi; combines = f.combines }
 
--- how it is queued
+-- the output with the request as the last of its queue
 abbrev behind_all : OutputLists → Request → OutputLists
 behind_all o x = record { c = o.c; b = o.b; r = o.r; requests = o.requests ++ unmarked x ∷ []; records = o.records }
 
@@ -179,7 +180,7 @@ combines_where_it_can o x = (
         sym (ap (λ (r : Accepted × OutputLists). r.0) (refused_without o x is (ltb-false (length o.requests) o.c f))) ∙ made in
         cc
 
--- where it is not combined, room decides
+-- If the answer is not a combination, the request cannot combine.
 not_combined : (o : OutputLists) (x : Request) (a : Accepted) → (accepted o x).0 ≡ a → ((leader : ℕ) → a ≡ Combined leader → ⊥) →
     (CanCombine o x → ⊥) × (combination o.b o.r x o.requests o.records ≡ None)
 not_combined o x a is other = elim (decided o x) [

@@ -1,4 +1,4 @@
--- What is answered to a reply, by the test of room for the replies themselves.
+-- The answer to a reply, by the test of room for its replies.
 use Rattle.std.proofs.Common.{◌≡◌, ℕ, Bool, true, false, List, [], ◌∷◌, refl, sym, ap, ◌∙◌}
 use Rattle.std.specs.Prelude.{if◌then◌else◌}
 use Rattle.messages.specs.declared.message.Record.{Record}
@@ -10,7 +10,7 @@ use Rattle.combining_switch.specs.declared.answers.Answered.{Answered}
 use Rattle.combining_switch.specs.declared.answers.Answered.TheVariants.{One, Many, NoRoom}
 use Rattle.combining_switch.specs.Switches.{SwitchState, answered, answered_for, has_room, put_replies, records_at, with_records}
 
--- the answer, the switch and the pool where there is room for these replies, and where there is none
+-- the answer, the switch and the pool if there is room for these replies, and if there is none
 abbrev pub answered_by : SwitchState → PoolLists → (out : ℕ) → Reply → List Reply → Bool → Answered × SwitchState × PoolLists
 answered_by s pool out x ys b =
     if b
@@ -21,7 +21,7 @@ answered_by s pool out x ys b =
     )
     else (NoRoom, s, pool)
 
--- What a switch does with a reply is settled by whether there is room for all the replies that it gives.
+-- What a switch does with a reply depends on whether there is room for all the replies that it gives.
 pub by_room : (s : SwitchState) (pool : PoolLists) (out : ℕ) (x : Reply) (ys : List Reply) (b : Bool)
     → ys ≡ answers (records_of x.leader (records_at s out)) x
     → has_room s.c s.its_bit s.inputs (put_replies s.its_bit s.inputs ys pool) ys ≡ b → answered s pool out x ≡ answered_by s pool out x ys b
@@ -37,7 +37,7 @@ never_none (f ∷ es) e = let no : Many (answered_seconds f es) ≡ NoRoom = e i
 abbrev answer_of : Answered × SwitchState × PoolLists → Answered
 answer_of r = r.0
 
--- whether there is room
+-- The test of room holds exactly if the answer is not that there is no room.
 pub room_holds : (s : SwitchState) (pool : PoolLists) (out : ℕ) (x : Reply) (ys : List Reply) (b : Bool)
     → ys ≡ answers (records_of x.leader (records_at s out)) x → has_room s.c s.its_bit s.inputs (put_replies s.its_bit s.inputs ys pool) ys ≡ b
     → (b ≡ true → (answered s pool out x).0 ≡ NoRoom → ⊥) × (((answered s pool out x).0 ≡ NoRoom → ⊥) → b ≡ true)

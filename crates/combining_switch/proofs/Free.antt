@@ -1,11 +1,11 @@
--- What is free stays free when a queue gets messages of others.
+-- Cells that stay free if a queue gets messages of other leaders.
 use Rattle.std.proofs.Common.{◌≡◌, ℕ, zero, suc, List, [], ◌∷◌, map, get_or, set, ◌⊎◌, inl, inr, refl, subst}
 use Rattle.messages.specs.declared.message.Request.{Request}
 use Rattle.messages.specs.declared.message.Reply.{Reply}
 use Rattle.messages.specs.Places.{In}
 use Rattle.combining_switch.specs.Pools.{IsFree, PoolLists, leader_of_reply, leader_of_request, with_replies, with_requests}
 
--- a queue after a change of one is that one, or as it was
+-- After one queue is replaced, each queue is the new one or as before.
 pub one_or_other : {X : Type 0} (queues : List (List X)) (q r : ℕ) (xs : List X) →
     (get_or (set queues q xs) r [] ≡ xs) ⊎ (get_or (set queues q xs) r [] ≡ get_or queues r [])
 one_or_other [] q r xs = inr refl

@@ -1,4 +1,4 @@
--- The lemmas that crates above may cite: they name no other file of these proofs.
+-- The only proofs that crates above may cite.
 
--- What is free stays free when a queue gets messages of others.
+-- Cells that stay free if a queue gets messages of other leaders.
 pub use Rattle.combining_switch.proofs.Free.{free_of_replies, free_of_requests, one_or_other}

@@ -1,4 +1,4 @@
--- What the lists of queues are after a write to the ends of one queue and to the table, and that they are linked then.
+-- The lists of queues after a write to the ends of one queue and to the table, which are still linked.
 use Rattle.std.proofs.Common.{◌≡◌, ℕ, zero, suc, ◌+◌, ◌-◌, ◌<◌, ◌≤◌, List, [], ◌∷◌, ◌++◌, map}
 use Rattle.std.proofs.Common.{length, get_or, set, drop, Some, None, inl, inr, refl, sym, ap, ◌∙◌}
 use Rattle.std.proofs.Common.{subst, arith, get_or-set_same, get_or-set_other, length-set}
@@ -71,7 +71,7 @@ behind_some next queues v q e i p d is there at stands more below read =
 pub behind_none : (ps : List ℕ) (n i : ℕ) → n ≡ length ps → n ≤ i + 1 → None ≡ slice_get ps (suc i)
 behind_none ps n i is none = sym (slice_get_past ps (suc i) (omega arith))
 
--- a number of a queue has a row in the table
+-- A number of a queue has a row in the table.
 pub row_within : (next : List ℕ) (queues : List Ends) (v : LinkLists) (q i p : ℕ) → lists_of next queues ≡ v → IsLinked next queues →
     slice_get (queue_at v q) i ≡ Some p → p < length next
 row_within next queues v q i p is linked stands =
@@ -89,14 +89,14 @@ few_in next queues v q is linked =
 
 -- ---- writing
 
--- the fields are linked, and read as these lists
+-- The table and the ends are linked, and are read as these lists.
 pub record Became (next : List ℕ) (queues : List Ends) (v : LinkLists) : Type 0 where
   -- the table and the ends are linked
   pub linked : IsLinked next queues
   -- they are read as these lists
   pub view : lists_of next queues ≡ v
 
--- one queue is read by other ends, and the walks of the others are as before
+-- The fields are linked if one queue is read by other ends, and the others are read as before.
 became : (next : List ℕ) (queues : List Ends) (next' : List ℕ) (q : ℕ) (e : Ends) (ps : List ℕ) → IsLinked next queues → length next' ≡ length next →
     q < length queues → walk_of next' e ≡ ps → ((r : ℕ) → (r ≡ q → ⊥) → walk_of next' (get_or queues r no_ends) ≡ walk_of next (get_or queues r no_ends)) →
     AreApart (with_queue (lists_of next queues) q ps) → KnowsLast next' e
@@ -121,7 +121,7 @@ became next queues next' q e ps linked long there walks others apart last = reco
           ∙ ap (set (map (walk_of next) queues) q) walks) i;
     }
 
--- what is put after the numbers of a queue
+-- A number is now the last of a queue, and the other queues are as before.
 abbrev Pushed : (next : List ℕ) (queues : List Ends) (q p : ℕ) → LinkLists → Type 0
 Pushed next queues q p v = Became next queues (with_queue v q (queue_at v q ++ p ∷ []))
 
@@ -140,7 +140,7 @@ pushed_first next queues v q p e is linked =
     became next queues next q (record { first = p; last = p; count = 1 }) (queue_at (lists_of next queues) q ++ p ∷ []) linked refl within
     (sym (ap (λ ps. ps ++ p ∷ []) empty)) (λ r n. refl) (AreApart-push (lists_of next queues) q p linked.apart there below free) refl)
 
--- the last number of a queue that has some
+-- The last number in the ends of a queue that is not empty is in the queue.
 pub last_inside : (next : List ℕ) (queues : List Ends) (v : LinkLists) (q : ℕ) (e : Ends) → lists_of next queues ≡ v → IsLinked next queues →
     q < length v.queues → e ≡ get_or queues q e → 0 < e.count → In e.last (queue_at v q)
 unfolding walk

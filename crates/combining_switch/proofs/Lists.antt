@@ -1,4 +1,4 @@
--- Lists of numbers without repetition, lists of queues of which one is replaced, and the last of a list.
+-- Lists of numbers without repetition, lists of queues of which one is replaced, and the last element of a list.
 use Rattle.std.proofs.Common.{◌≡◌, ℕ, zero, suc, ◌<◌, ◌≤◌, Bool, true, false, ◌||◌, eqb, List, [], ◌∷◌, ◌++◌}
 use Rattle.std.proofs.Common.{map, length, get_or, set, take, drop, ◌-◌, ◌⊎◌, inl, inr, refl, sym, ap, ◌∙◌, subst}
 use Rattle.std.proofs.Common.{arith, Some, None, eqb-true, ne_eqb, get_or-set_same, get_or-set_other}
@@ -61,13 +61,13 @@ unfolding IsDistinct
 is_distinct [] d = tt
 is_distinct (p ∷ ps) d = each_other p ps d.0 (is_distinct ps d.1)
 
--- numbers below n, no two of them equal, are n at most
+-- There are at most n numbers below n, if no two of them are equal.
 pub few_below : (ps : List ℕ) (n : ℕ) → Distinct ps → ((p : ℕ) → In p ps → p < n) → length ps ≤ n
 few_below ps n d below = length-le_from_distinct_below ps n (is_distinct ps d) (λ q h. below q (In_any q ps h))
 
 -- ---- one queue is replaced
 
--- Numbers of the queue itself, and such that no queue had, are apart from those of the other queues.
+-- If a queue gets numbers that it had, or that no queue had, no number is in the queues twice.
 pub AreApart-with : (l : LinkLists) (q : ℕ) (ps : List ℕ) → AreApart l → q < length l.queues → Distinct ps →
     ((p : ℕ) → In p ps → In p (queue_at l q) ⊎ ((p < l.cells) × IsUnlinked l p)) → AreApart (with_queue l q ps)
 AreApart-with l q ps apart there once from = record {
@@ -130,7 +130,7 @@ slice_get_In [] x m = elim m [ ]
 slice_get_In (y ∷ xs) x (inl e) = (0, omega arith, ap Some (sym e))
 slice_get_In (y ∷ xs) x (inr m) = let h = slice_get_In xs x m in (suc h.0, omega (arith, h.1), h.2)
 
--- nothing stands after a place where nothing stands
+-- A list that has nothing at a place has nothing at a later place.
 pub none_behind : {X : Type 0} (xs : List X) (i j : ℕ) → slice_get xs i ≡ None → i ≤ j → slice_get xs j ≡ None
 none_behind [] i j none le = refl
 none_behind (x ∷ xs) zero j none le = cc
@@ -140,7 +140,7 @@ none_behind (x ∷ xs) (suc i) (suc j) none le = none_behind xs i j none (omega 
 -- ---- one element of a mapped list is replaced
 
 module _ {X Y : Type 0} where
-  -- an element past the end is the one that is given
+  -- An element read from a mapped list is the mapped element, even past the end.
   pub get_or-map_past : (f : X → Y) (xs : List X) (i : ℕ) (d : X) → get_or (map f xs) i (f d) ≡ f (get_or xs i d)
   get_or-map_past f [] i d = refl
   get_or-map_past f (x ∷ xs) zero d = refl
@@ -151,7 +151,7 @@ module _ {X Y : Type 0} where
   map_same f g [] d same = refl
   map_same f g (x ∷ xs) d same = (λ k. same 0 k ∷ map_same f g xs d (λ j. same (suc j)) k)
 
-  -- where two functions agree on the others, it does not matter which maps them
+  -- If two functions differ at most at one place, replacing the element there makes the mapped lists equal.
   pub set-map_same : (f g : X → Y) (xs : List X) (i : ℕ) (d : X) (y : Y) → ((j : ℕ) → (j ≡ i → ⊥) → g (get_or xs j d) ≡ f (get_or xs j d)) →
       set (map g xs) i y ≡ set (map f xs) i y
   set-map_same f g [] i d y same = refl
@@ -160,13 +160,13 @@ module _ {X Y : Type 0} where
       (λ k. same 0 (λ e. omega arith) k ∷ set-map_same f g xs i d y (λ j n. same (suc j) (λ e. n (omega arith))) k)
 
 module _ {X : Type 0} where
-  -- a function that is another at one number
+  -- Two functions that differ at most at p map a list without p to the same.
   pub map_outside : (f g : ℕ → X) (p : ℕ) (ps : List ℕ) → ((r : ℕ) → (r ≡ p → ⊥) → g r ≡ f r) → (In p ps → ⊥) → map g ps ≡ map f ps
   map_outside f g p [] same out = refl
   map_outside f g p (r ∷ ps) same out =
       (λ k. same r (λ e. out (inl (sym e))) k ∷ map_outside f g p ps same (λ m. out (inr m)) k)
 
-  -- which has one place in a list
+  -- Two functions that differ at most at p map a list with p to lists that differ at most at its place.
   pub map_at : (f g : ℕ → X) (p : ℕ) (ps : List ℕ) (i : ℕ) → ((r : ℕ) → (r ≡ p → ⊥) → g r ≡ f r) → Distinct ps → slice_get ps i ≡ Some p →
       map g ps ≡ set (map f ps) i (g p)
   map_at f g p [] i same once at = cc
@@ -176,7 +176,7 @@ module _ {X : Type 0} where
   map_at f g p (r ∷ ps) (suc i) same once at =
       (λ k. same r (λ e. once.0 (subst (λ x. In x ps) (sym e) (In-slice_get ps i p at))) k ∷ map_at f g p ps i same once.1 at k)
 
--- where a queue is empty, taking its first changes nothing
+-- Taking the first number of an empty queue changes nothing.
 pub nothing_taken : (l : LinkLists) (q n : ℕ) → n ≡ length (queue_at l q) → n ≡ 0 → l ≡ with_queue l q (drop 1 (queue_at l q))
 nothing_taken l q n is none = λ i. record {
   cells = l.cells;
@@ -188,7 +188,7 @@ nothing_taken l q n is none = λ i. record {
     empty [] e = refl
     empty (p ∷ ps) e = absurd (omega arith)
 
--- an empty list is made longer
+-- An empty list made longer has only copies of the new element.
 pub resized : {X : Type 0} (n m k : ℕ) (x : X) (old new : List X) → new ≡ take m old ++ replicate (m - k) x → old ≡ [] → k ≡ 0 → m ≡ n → new ≡ replicate n x
 resized {X} n m k x old new is empty none same =
     is ∙ ap (λ xs. take m xs ++ replicate (m - k) x) empty ∙ ap (λ xs. xs ++ replicate (m - k) x) (nothing m) ∙ ap (λ j. replicate j x) (omega arith)
@@ -197,7 +197,7 @@ resized {X} n m k x old new is empty none same =
     nothing zero = refl
     nothing (suc j) = refl
 
--- no queue has a number that none of the queues has that there are
+-- If none of the queues that exist has a number, no queue has it.
 pub no_queue_has : (l : LinkLists) (p n : ℕ) → ((q : ℕ) → q < n → In p (queue_at l q) → ⊥) → length l.queues ≤ n → IsUnlinked l p
 no_queue_has l p n out all q i = elim (decide q n) [
   | inl lt ↦ out q lt i
@@ -209,7 +209,7 @@ no_queue_has l p n out all q i = elim (decide q n) [
     decide zero (suc b) = inl (omega arith)
     decide (suc a) (suc b) = elim (decide a b) [ inl lt ↦ inl (omega arith) | inr le ↦ inr (omega arith) ]
 
--- a number that is taken from the front of its queue stands in none
+-- The first number of a list without repetition is not in the rest.
 front_leaves : (p : ℕ) (ps : List ℕ) → Distinct ps → slice_get ps 0 ≡ Some p → In p (drop 1 ps) → ⊥
 front_leaves p [] d first m = m
 front_leaves p (x ∷ xs) d first m = let same : x ≡ p = same_Some x p first in d.0 (subst (λ v. In v xs) (sym same) m)

@@ -1,4 +1,4 @@
--- What the lists of a pool are, read off its cells and the lists of its links; and after a write to a cell and to one queue.
+-- The lists of a pool, read from its cells and links, and how they change if a cell and one queue are written.
 use Rattle.std.proofs.Common.{◌≡◌, ℕ, zero, suc, ◌+◌, ◌-◌, ◌<◌, ◌≤◌, List, [], ◌∷◌, ◌++◌, map}
 use Rattle.std.proofs.Common.{length, get_or, set, take, drop, Option, Some, None, refl, sym}
 use Rattle.std.proofs.Common.{ap, ◌∙◌, subst, arith, get_or-set_same, get_or-set_other}
@@ -33,7 +33,7 @@ module _ (cells : List Cell) (m : ℕ) (l : LinkLists) where
   replies_are : (q : ℕ) → replies_at (pool_lists cells m l) q ≡ map (reply_in cells) (queue_at l (m + q))
   replies_are q = get_or-map_past (map (reply_in cells)) (drop m l.queues) q [] ∙ ap (map (reply_in cells)) (get_or-drop m l.queues q [])
 
--- a queue of requests has its number among the links', and one of replies after those
+-- The number of a pool's queue of requests is below m, and is the number of a linked queue.
 pub request_queue : (cells : List Cell) (m : ℕ) (l : LinkLists) (v : PoolLists) (q : ℕ) → pool_lists cells m l ≡ v → IsPool cells m l → q < length v.requests →
     (q < m) × (q < length l.queues)
 request_queue cells m l v q is pool there =
@@ -71,7 +71,7 @@ pub reply_count : (cells : List Cell) (m : ℕ) (l : LinkLists) (v : PoolLists) 
 reply_count cells m l v q n is count =
     count ∙ sym (ap (λ p. length (replies_at p q)) (sym is) ∙ ap length (replies_are cells m l q) ∙ length-map (queue_at l (m + q)) (reply_in cells))
 
--- a message by its place
+-- The request at a place of a pool's queue is the one in the cell whose number is linked there, if any.
 pub request_get : (cells : List Cell) (m : ℕ) (l : LinkLists) (v : PoolLists) (q i : ℕ) (o : Option ℕ) → pool_lists cells m l ≡ v → q < m →
     o ≡ slice_get (queue_at l q) i → option_map (request_in cells) o ≡ slice_get (requests_at v q) i
 request_get cells m l v q i o is lt found =
@@ -85,7 +85,7 @@ reply_get cells m l v q i o is found =
     ap (option_map (reply_in cells)) found ∙ sym (slice_get-map (reply_in cells) (queue_at l (m + q)) i)
     ∙ ap (λ xs. slice_get xs i) (sym (replies_are cells m l q)) ∙ ap (λ p. slice_get (replies_at p q) i) is
 
--- where a request stands that has this leader, so does the leader's number
+-- If a request with this leader is at a place of a queue, the leader's number is linked there.
 pub leader_there : (cells : List Cell) (m : ℕ) (l : LinkLists) (v : PoolLists) (q i p : ℕ) → pool_lists cells m l ≡ v → q < m →
     option_map leader_of_request (slice_get (requests_at v q) i) ≡ Some p → slice_get (queue_at l q) i ≡ Some p
 unfolding request_in
@@ -96,7 +96,7 @@ leader_there cells m l v q i p is lt there =
     go None e = cc
     go (Some x) e = e
 
--- a linked number has a cell
+-- A linked number has a cell.
 pub cell_within : (cells : List Cell) (m : ℕ) (l : LinkLists) (q i p : ℕ) → IsPool cells m l → AreApart l → slice_get (queue_at l q) i ≡ Some p →
     p < length cells
 cell_within cells m l q i p pool apart found =
@@ -183,7 +183,7 @@ In_take m qs j p i = elim (side m j) [
 ]
 
 module _ (cells : List Cell) (m : ℕ) (l : LinkLists) (p : ℕ) (c : Cell) where
-  -- queues of requests that do not have the cell
+  -- Queues of requests that do not have the cell's number are read as before.
   request_same : (j : ℕ) → (In p (queue_at l j) → ⊥) →
       map (request_in (set cells p c)) (get_or (take m l.queues) j []) ≡ map (request_in cells) (get_or (take m l.queues) j [])
   request_same j out = map_outside (request_in cells) (request_in (set cells p c)) p (get_or (take m l.queues) j []) (request_other cells p c)
@@ -350,7 +350,7 @@ new_pool cells n a b l is =
 
 -- ---- a message is taken out
 
--- its cell is free then
+-- The leader of the first request of a queue is free after this request is taken from it.
 pub request_freed : (cells : List Cell) (m : ℕ) (l l' : LinkLists) (q p : ℕ) (x : Request) → AreApart l → q < length l.queues →
     slice_get (queue_at l q) 0 ≡ Some p → l' ≡ with_queue l q (drop 1 (queue_at l q)) → x ≡ request_in cells p → IsFree (pool_lists cells m l') x.leader
 unfolding request_in
@@ -368,7 +368,7 @@ reply_freed cells m l l' q p y apart there first after is =
     subst (IsFree (pool_lists cells m l')) (sym leader)
     (free_is cells m l' (pool_lists cells m l') p refl (subst (λ (k : LinkLists). IsUnlinked k p) (sym after) (unlinked_after l q p apart there first)))
 
--- and its leader is below the number of cells
+-- The leader of a queued request is below the number of the pool's cells.
 pub request_below : (cells : List Cell) (m : ℕ) (l : LinkLists) (v : PoolLists) (q i p : ℕ) (x : Request) → pool_lists cells m l ≡ v → AreApart l →
     slice_get (queue_at l q) i ≡ Some p → x ≡ request_in cells p → x.leader < v.cells
 unfolding request_in

@@ -1,4 +1,4 @@
--- Cells that stay free while replies are queued, and queues that stay in the pool.
+-- Cells that stay free after replies are queued, and queues that stay in the pool.
 use Rattle.std.proofs.Common.{◌≡◌, ℕ, ◌+◌, ◌<◌, List, [], ◌∷◌, ◌++◌, length, map, drop, get_or, ◌⊎◌, inl, inr, ap, subst, arith, length-set}
 use Rattle.std.proofs.lemmas.List.{drop_more, map-append, set-get_or}
 use Rattle.messages.specs.declared.message.Reply.{Reply}
@@ -9,11 +9,11 @@ use Rattle.combining_switch.proofs.Free.{free_of_replies}
 use Rattle.combining_switch.specs.Pools.{IsFree, PoolLists, leader_of_reply, replies_at, requests_at, with_replies, with_requests}
 use Rattle.combining_switch.specs.Switches.{CanBeQueued, StandsIn, SwitchState, input_for, put_reply}
 
--- a queue's own requests change nothing
+-- Putting a queue's own requests back changes nothing.
 pub put_back : (pool : PoolLists) (q : ℕ) → with_requests pool q (requests_at pool q) ≡ pool
 put_back pool q = ap (λ (rs : List (List Request)). record { cells = pool.cells; requests = rs; replies = pool.replies }) (set-get_or pool.requests q [])
 
--- a cell stays free when a reply of another leader is queued
+-- A cell stays free if a reply of another leader is queued.
 pub free_after : (pool : PoolLists) (q : ℕ) (y : Reply) (p : ℕ) → (p ≡ y.leader → ⊥) → IsFree pool p
     → IsFree (with_replies pool q (replies_at pool q ++ y ∷ [])) p
 free_after pool q y p other free = free_of_replies pool q p (replies_at pool q ++ y ∷ []) (λ m. none (In-append p (map leader_of_reply (replies_at pool q))
@@ -24,7 +24,7 @@ free_after pool q y p other free = free_of_replies pool q p (replies_at pool q +
     none (inr (inl e)) = other e
     none (inr (inr m)) = m
 
--- the others can still be queued when the first is
+-- After the first reply is queued, the others can still be queued.
 pub queue_next : (i : ℕ) (qs : List ℕ) (pool : PoolLists) (y : Reply) (ys : List Reply)
     → CanBeQueued pool (y ∷ ys) → CanBeQueued (put_reply i qs pool y) ys
 queue_next i qs pool y ys can = record {
@@ -42,7 +42,7 @@ stands_still s pool q ys stands = record {
   apart = stands.apart;
 }
 
--- what is left from place j on is the next and the others
+-- The replies from place j on are the next one and the others.
 pub next_of : (pool : PoolLists) (ys : List Reply) (j : ℕ) (d : Reply) → j < length ys → CanBeQueued pool (drop j ys)
     → CanBeQueued pool (get_or ys j d ∷ drop (j + 1) ys)
 next_of pool ys j d within can = subst (CanBeQueued pool) (drop_more ys j d within) can

@@ -1,4 +1,4 @@
--- The replies for a leader's reply, record by record: how many are for an input, and who is reported.
+-- The replies that a leader's reply gives, record by record: how many are for an input, and who is reported.
 use Rattle.std.proofs.Common.{◌≡◌, ℕ, ◌+◌, Bool, true, false, cond, List, [], ◌∷◌, ◌++◌, length, map, refl, sym, ap, ◌∙◌, arith}
 use Rattle.std.proofs.lemmas.List.{map-append}
 use Rattle.std.specs.Prelude.{◌==◌}
@@ -10,7 +10,7 @@ use Rattle.combining_switch.specs.Pools.{PoolLists}
 use Rattle.combining_switch.specs.Switches.{put_replies, put_reply, records_for, replies_for}
 use Rattle.combining_switch.proofs.Rooms.{put_replies-append}
 
--- one more reply is put
+-- Putting the replies of one more record is putting those before, and then the reply of this record.
 pub put_one_more : (i : ℕ) (qs : List ℕ) (y : ℕ) (es : List Record) (e : Record) (pool : PoolLists) →
     put_replies i qs (map (reply_of y) (es ++ e ∷ [])) pool ≡ put_reply i qs (put_replies i qs (map (reply_of y) es) pool) (reply_of y e)
 unfolding put_replies
@@ -38,7 +38,7 @@ seconds_counted i v p y (e ∷ es) = go (seconds_counted i v p y es) (e.leader =
     go rest true is false for_it = rw is (rw for_it rest)
     go rest false is d for_it = rw is rest
 
--- the leader's own reply, and those of its seconds
+-- The replies for an input are the leader's own, if it is for the input, and those of its seconds for it.
 pub counted : (i v p : ℕ) (es : List Record) (x : Reply) → x.leader ≡ p
     → cond (bit i p == v) 1 0 + length (records_for i v p es) ≡ length (replies_for i v (answers (records_of p es) x))
 counted i v p es x same = go (bit i x.leader == v) refl

@@ -1,4 +1,4 @@
--- Replies that are put to their inputs, and whether there is room for them.
+-- Replies that are put at their inputs, and whether there is room for them.
 use Rattle.std.proofs.Common.{◌≡◌, ℕ, zero, suc, ◌+◌, ◌-◌, ◌<◌, ◌≤◌, Bool, true, false, cond, ◌&&◌, List}
 use Rattle.std.proofs.Common.{[], ◌∷◌, ◌++◌, length, take, get_or, refl, sym, ap, ◌∙◌, subst, arith, eq-eqb}
 use Rattle.std.proofs.Common.{eqb-true, length-append, get_or-set_same, get_or-set_other, length-set}
@@ -10,7 +10,7 @@ use Rattle.messages.specs.declared.message.Reply.{Reply}
 use Rattle.combining_switch.specs.Pools.{PoolLists, replies_at, with_replies}
 use Rattle.combining_switch.specs.Switches.{StandsIn, SwitchState, has_room, input_for, input_of, put_replies, put_reply, replies_for}
 
--- the queues of two inputs in a pool
+-- The queues of two inputs are in the pool, and are different.
 pub record Inputs (qs : List ℕ) (pool : PoolLists) : Type 0 where
   pub there : (v : ℕ) → v < 2 → input_of qs v < length pool.replies
   pub apart : input_of qs 0 ≡ input_of qs 1 → ⊥
@@ -25,7 +25,7 @@ still qs pool q ys in_pool = record {
   apart = in_pool.apart;
 }
 
--- inputs with one queue are one
+-- Two inputs with the same queue are the same.
 one_input : (qs : List ℕ) (v w : ℕ) → (input_of qs 0 ≡ input_of qs 1 → ⊥) → v < 2 → w < 2 → input_of qs v ≡ input_of qs w → v ≡ w
 one_input qs zero zero apart l m e = refl
 one_input qs zero (suc zero) apart l m e = absurd (apart e)
@@ -43,7 +43,7 @@ unfolding put_replies
 put_replies-append i qs [] ys pool = refl
 put_replies-append i qs (x ∷ xs) ys pool = put_replies-append i qs xs ys (put_reply i qs pool x)
 
--- one more reply is put
+-- Putting one more reply of a list is putting the replies before it, and then this one.
 pub put_more : (i : ℕ) (qs : List ℕ) (ys : List Reply) (j : ℕ) (d : Reply) (pool : PoolLists) → j < length ys
     → put_replies i qs (take (j + 1) ys) pool ≡ put_reply i qs (put_replies i qs (take j ys) pool) (get_or ys j d)
 unfolding put_replies
@@ -65,7 +65,7 @@ length_after_one i qs y pool inp two in_pool false is =
     ap length (get_or-set_other pool.replies (input_for i qs y.leader) (input_of qs inp) (replies_at pool (input_for i qs y.leader) ++ y ∷ []) [] other)
     ∙ omega arith
 
--- an input has the replies for it after those that it had
+-- After replies are put, an input has those for it after those that it had.
 pub length_after : (i : ℕ) (qs : List ℕ) (ys : List Reply) (pool : PoolLists) (inp : ℕ) → inp < 2 → Inputs qs pool
     → length (replies_at (put_replies i qs ys pool) (input_of qs inp)) ≡ length (replies_at pool (input_of qs inp)) + length (replies_for i inp ys)
 unfolding put_replies
@@ -94,7 +94,7 @@ some_more i v y ys some = go (bit i y.leader == v)
     go true = omega arith
     go false = some
 
--- where each input that gets some is within c, all replies have their place
+-- If each input that gets a reply is within c, all replies have their place.
 all_within : (c i : ℕ) (qs : List ℕ) (pool : PoolLists) (ys : List Reply)
     → ((v : ℕ) → v < 2 → 0 < length (replies_for i v ys) → length (replies_at pool (input_of qs v)) ≤ c) → has_room c i qs pool ys ≡ true
 unfolding has_room
@@ -104,7 +104,7 @@ all_within c i qs pool (y ∷ ys) fits =
     (le-leb (length (replies_at pool (input_for i qs y.leader))) c (fits (bit i y.leader) (a_port i y.leader) (some_here i y ys)))
     ∙ all_within c i qs pool ys (λ v l some. fits v l (some_more i v y ys some))
 
--- where the input of one of them is not, not all have
+-- If the input of a reply is not within c, not all replies have their place.
 one_without : (c i : ℕ) (qs : List ℕ) (pool : PoolLists) (ys : List Reply) (inp : ℕ) → c < length (replies_at pool (input_of qs inp)) →
     0 < length (replies_for i inp ys) → has_room c i qs pool ys ≡ false
 unfolding has_room
@@ -125,14 +125,14 @@ one_without c i qs pool (y ∷ ys) inp over some =
         let later : 0 < length (replies_for i inp ys) = subst (λ v. 0 < length (cond v (y ∷ replies_for i inp ys) (replies_for i inp ys))) is some in
         ap (λ v. v && has_room c i qs pool ys) f ∙ rest later
 
--- there is no room for all where there is none at an input for those that are for it
+-- There is no room for all replies if an input has less room than it needs for its own.
 pub no_room : (c i : ℕ) (qs : List ℕ) (pool : PoolLists) (ys : List Reply) (inp left : ℕ) → inp < 2 → Inputs qs pool →
     left ≡ c - length (replies_at pool (input_of qs inp)) → left < length (replies_for i inp ys)
     → has_room c i qs (put_replies i qs ys pool) ys ≡ false
 no_room c i qs pool ys inp left two in_pool is many =
     one_without c i qs (put_replies i qs ys pool) ys inp (omega (arith, length_after i qs ys pool inp two in_pool)) (omega arith)
 
--- room for all is room at each input for those that are for it
+-- There is room for all replies exactly if each input has room for its own.
 pub room_is : (c i : ℕ) (qs : List ℕ) (pool : PoolLists) (ys : List Reply) (upper lower : ℕ) → Inputs qs pool →
     upper ≡ c - length (replies_at pool (input_of qs 0)) → lower ≡ c - length (replies_at pool (input_of qs 1))
     → (nat_le (length (replies_for i 0 ys)) upper && nat_le (length (replies_for i 1 ys)) lower) ≡ has_room c i qs (put_replies i qs ys pool) ys

@@ -1,4 +1,4 @@
--- Whether a request is taken, by room and by whether it combines.
+-- Whether a request is taken, by whether there is room and whether it combines.
 use Rattle.std.proofs.Common.{◌≡◌, ◌<◌, ◌≤◌, Bool, true, false, [], ◌∷◌, ◌++◌, length, Option, Some, None, refl, sym, ap, ◌∙◌, nat_lt, ◌⊎◌, inl, inr}
 use Rattle.std.specs.Prelude.{is_some, option_map, if◌then◌else◌}
 use Rattle.std.proofs.lemmas.Bool.{cases_lt, lt-ltb, le-ltb}
@@ -43,9 +43,9 @@ pub else_refused : (o : OutputLists) (x : Request) → o.c ≤ length o.requests
     (accepted o x).0 ≡ Full
 else_refused o x full none = as_is o x None none ∙ ap first_of (answer_of o x false (le-ltb (length o.requests) o.c full))
 
--- ---- as it is asked
+-- ---- for the code
 
--- no room, by a test that says of room
+-- If the test for room fails, there is no room.
 pub no_place : (o : OutputLists) (b : Bool) → (length o.requests < o.c → b ≡ true) → b ≡ false → o.c ≤ length o.requests
 no_place o b fact none = go (cases_lt (length o.requests) o.c)
   where

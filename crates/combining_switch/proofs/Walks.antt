@@ -1,4 +1,5 @@
--- Walks along a table: what a walk takes from it, and how a write at its end makes it longer. A write anywhere else does not matter.
+-- Walks along a table: what a walk takes from it, and how a write at its end makes it longer. Other writes do not
+-- change it.
 use Rattle.std.proofs.Common.{◌≡◌, ℕ, zero, suc, ◌<◌, List, [], ◌∷◌, ◌++◌, length, get_or, set, Some, inl}
 use Rattle.std.proofs.Common.{inr, refl, sym, ap, ◌∙◌, subst, arith, get_or-set_same, get_or-set_other}
 use Rattle.std.specs.Prelude.{slice_get}
@@ -11,7 +12,7 @@ unfolding walk
 length-walk next p zero = refl
 length-walk next p (suc n) = ap suc (length-walk next (get_or next p 0) n)
 
--- a write elsewhere
+-- A write outside a walk does not change it.
 pub walk_outside : (next : List ℕ) (a v p n : ℕ) → (In a (walk next p n) → ⊥) → walk (set next a v) p n ≡ walk next p n
 unfolding walk
 walk_outside next a v p zero out = refl
@@ -19,7 +20,7 @@ walk_outside next a v p (suc n) out =
     let same : get_or (set next a v) p 0 ≡ get_or next p 0 = get_or-set_other next a p v 0 (λ e. out (inl (sym e))) in
     ap (λ r. p ∷ walk (set next a v) r n) same ∙ ap (λ ps. p ∷ ps) (walk_outside next a v (get_or next p 0) n (λ m. out (inr m)))
 
--- a write at the last
+-- A write at the last number of a walk makes the walk longer by one.
 pub walk_longer : (next : List ℕ) (p f n : ℕ) → ((q : ℕ) → In q (walk next f (suc n)) → q < length next) → Distinct (walk next f (suc n)) →
     walk (set next (last_or f (walk next (get_or next f 0) n)) p) f (suc (suc n)) ≡ walk next f (suc n) ++ p ∷ []
 unfolding walk
@@ -33,7 +34,7 @@ walk_longer next p f (suc m) below once =
     ap (λ r. f ∷ walk (set next l p) r (suc (suc m))) same
     ∙ ap (λ ps. f ∷ ps) (walk_longer next p g m (λ q i. below q (inr i)) once.1)
 
--- what stands after one
+-- The number after another one of a walk is the one that the table has for it.
 pub walk_behind : (next : List ℕ) (f n i p : ℕ) → slice_get (walk next f n) i ≡ Some p → suc i < n →
     slice_get (walk next f n) (suc i) ≡ Some (get_or next p 0)
 unfolding walk

@@ -1,4 +1,4 @@
--- What an output does with a request that comes, case by case.
+-- What an output does with a request, case by case.
 use Rattle.std.specs.Prelude.{◌≡◌, ◌↔◌, ◌<◌, ◌≤◌, ℕ, suc, List, [], ◌∷◌, ◌++◌, length, slice_get, slice_set, Some}
 use Rattle.phi_algebra.specs.declared.phi.Phi.{Phi}
 use Rattle.phi_algebra.specs.Composition.{composed}
@@ -15,7 +15,7 @@ pub record CombinesAt (r : ℕ) (queue : List Request) (x : Request) (place : �
   pub same_word : entry.word ≡ x.word
   pub composes : composed entry.phi x.phi ≡ Some phi
 
--- a record is free, and some entry combines with the request
+-- A record is free, and some entry combines with the request.
 pub record CanCombine (o : OutputLists) (x : Request) : Type 0 where
   pub free : length o.records < o.b
   pub place : ℕ
@@ -23,17 +23,17 @@ pub record CanCombine (o : OutputLists) (x : Request) : Type 0 where
   pub phi : Phi
   pub combines : CombinesAt o.r o.requests x place entry phi
 
--- no entry before this place does
+-- No entry before this place combines with the request.
 abbrev pub NoneInFront : (r : ℕ) → List Request → Request → ℕ → Type 0
 NoneInFront r queue x place = (i : ℕ) (e : Request) (phi : Phi) → i < place → CombinesAt r queue x i e phi → ⊥
 
--- A request is combined exactly if a record is free and some entry combines with it,
+-- A request is combined exactly if a record is free and some entry combines with it.
 abbrev pub CombinesWhereItCan : Type 0
 CombinesWhereItCan = (o : OutputLists) (x : Request) →
     ((leader : ℕ) × ((accepted o x).0 ≡ Combined leader)) ↔ CanCombine o x
 
--- and with the first such entry, which leads both, has the function of both, and is marked once more. The record has
--- the function that the entry had, and who came second.
+-- It is combined with the first such entry, which leads both, has the function of both, and has one more mark. The
+-- record has the function that the entry had, and the leader of the request as the second.
 abbrev pub CombinesWithTheFirst : Type 0
 CombinesWithTheFirst = (o : OutputLists) (x : Request) (i : ℕ) (e : Request) (phi : Phi) →
     length o.records < o.b → CombinesAt o.r o.requests x i e phi → NoneInFront o.r o.requests x i →
@@ -48,7 +48,7 @@ CombinesWithTheFirst = (o : OutputLists) (x : Request) (i : ℕ) (e : Request) (
       },
     )
 
--- Else it goes after the others of the queue, not marked, exactly if there is room,
+-- A request that cannot combine goes after the others of the queue, not marked, exactly if there is room.
 abbrev pub QueuesWhereThereIsRoom : Type 0
 QueuesWhereThereIsRoom = (o : OutputLists) (x : Request) →
     (accepted o x ≡ (
@@ -62,7 +62,7 @@ QueuesWhereThereIsRoom = (o : OutputLists) (x : Request) →
       },
     )) ↔ ((CanCombine o x → ⊥) × (length o.requests < o.c))
 
--- and is refused exactly if there is none, and then nothing changes.
+-- A request that cannot combine is refused, and nothing changes, exactly if there is no room.
 abbrev pub RefusesWhereThereIsNone : Type 0
 RefusesWhereThereIsNone = (o : OutputLists) (x : Request) →
     (accepted o x ≡ (Full, o)) ↔ ((CanCombine o x → ⊥) × (o.c ≤ length o.requests))

@@ -1,4 +1,4 @@
--- How the lists of a pool's queues are read off its cells and links.
+-- How the lists of a pool's queues are read from its cells and links.
 use Rattle.std.specs.Prelude.{◌≡◌, ◌≤◌, ◌<◌, ℕ, List, length, map, take, drop, slice_index_or}
 use Rattle.phi_algebra.specs.declared.phi.Phi.TheVariants.{Add}
 use Rattle.messages.specs.declared.message.Request.{Request}
@@ -10,7 +10,7 @@ use Rattle.combining_switch.specs.Pools.{PoolLists}
 abbrev pub no_cell : Cell
 no_cell = record { word = 0; phi = Add 0; marks = 0; value = 0 }
 
--- the request that a cell holds, and the reply: the leader is the cell's number
+-- the request in a cell, and the reply; the leader is the cell's number
 unfoldable pub request_in : List Cell → (leader : ℕ) → Request
 request_in cells p =
     let c = slice_index_or cells p no_cell in
@@ -19,7 +19,7 @@ request_in cells p =
 unfoldable pub reply_in : List Cell → (leader : ℕ) → Reply
 reply_in cells p = record { leader = p; value = (slice_index_or cells p no_cell).value }
 
--- the first m queues are of requests, the others of replies
+-- the lists of a pool's queues: the first m are of requests, the others of replies
 abbrev pub pool_lists : List Cell → (m : ℕ) → LinkLists → PoolLists
 pool_lists cells m l = record {
   cells = l.cells;

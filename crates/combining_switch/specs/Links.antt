@@ -1,4 +1,4 @@
--- What a contract sees of `Links`, and what always holds of them.
+-- `Links` as contracts see them, and their invariant.
 use Rattle.std.specs.Prelude.{◌≡◌, ◌<◌, ℕ, List, [], slice_index_or, slice_set}
 use Rattle.messages.specs.Places.{In, Distinct}
 
@@ -13,11 +13,11 @@ queue_at l q = slice_index_or l.queues q []
 abbrev pub with_queue : LinkLists → (queue : ℕ) → List ℕ → LinkLists
 with_queue l q ps = record { cells = l.cells; queues = slice_set l.queues q ps }
 
--- no queue has the number
+-- No queue has the number.
 abbrev pub IsUnlinked : LinkLists → (number : ℕ) → Type 0
 IsUnlinked l p = (q : ℕ) → In p (queue_at l q) → ⊥
 
--- no number stands twice
+-- No number is in the queues twice.
 pub record AreApart (l : LinkLists) : Type 0 where
   pub within : (q p : ℕ) → In p (queue_at l q) → p < l.cells
   pub once : (q : ℕ) → Distinct (queue_at l q)

@@ -1,4 +1,4 @@
--- What a contract sees of an output of a switch, and what it does with a request.
+-- An output of a switch as contracts see it, and what it does with a request.
 use Rattle.std.specs.Prelude.{ℕ, List, [], ◌∷◌, ◌++◌, length, nat_lt, Option, Some, None, if◌then◌else◌}
 use Rattle.messages.specs.declared.message.Request.{Request}
 use Rattle.messages.specs.declared.message.Record.{Record}
@@ -15,7 +15,7 @@ pub record OutputLists : Type 0 where
   pub requests : List Request
   pub records : List Record
 
--- what an output has itself: its queue is the one of this number among a pool's queues of requests
+-- what an output has itself: its records, and the number of its queue among a pool's queues of requests
 pub record OutputState : Type 0 where
   pub c : ℕ
   pub b : ℕ
@@ -23,21 +23,21 @@ pub record OutputState : Type 0 where
   pub queue : ℕ
   pub records : List Record
 
--- an output's lists, its queue's requests read in the pool
+-- an output's lists, with its queue's requests read from the pool
 abbrev pub output_in : PoolLists → OutputState → OutputLists
 output_in pool o = record { c = o.c; b = o.b; r = o.r; requests = requests_at pool o.queue; records = o.records }
 
 abbrev pub output_with : OutputState → List Record → OutputState
 output_with o es = record { c = o.c; b = o.b; r = o.r; queue = o.queue; records = es }
 
--- the request goes after those of the queue, if there is room
+-- the answer if the request does not combine: it goes after those of the queue if there is room
 abbrev pub queued : OutputLists → Request → Accepted × OutputLists
 queued o x =
     if nat_lt (length o.requests) o.c
     then (Queued, record { c = o.c; b = o.b; r = o.r; requests = o.requests ++ unmarked x ∷ []; records = o.records })
     else (Full, o)
 
--- the queue has the entry that stands for the two, and the record is the newest
+-- the answer if the request combines: the queue has the entry for both, and the record is the newest
 abbrev pub combined : OutputLists → Combination → Accepted × OutputLists
 combined o j = (
   Combined j.made.leader,
@@ -55,7 +55,7 @@ abbrev pub accepted_as : OutputLists → Request → Option Combination → Acce
 accepted_as o x None = queued o x
 accepted_as o x (Some j) = combined o j
 
--- A request that comes to an output is combined where it can be, else queued where there is room, else refused: what is
--- answered, and the output then.
+-- what an output answers to a request, and the output then: the request is combined if possible, else queued if there
+-- is room, else refused
 unfoldable pub accepted : OutputLists → Request → Accepted × OutputLists
 accepted o x = accepted_as o x (combination o.b o.r x o.requests o.records)

@@ -1,4 +1,4 @@
--- What a contract sees of a `Pool`.
+-- A `Pool` as contracts see it.
 use Rattle.std.specs.Prelude.{ℕ, List, [], map, replicate, slice_index_or, slice_set}
 use Rattle.messages.specs.declared.message.Request.{Request}
 use Rattle.messages.specs.declared.message.Reply.{Reply}
@@ -31,7 +31,7 @@ leader_of_request x = x.leader
 abbrev pub leader_of_reply : Reply → ℕ
 leader_of_reply y = y.leader
 
--- no message stands in a queue that the processor leads
+-- No queue has a message that the processor leads.
 pub record IsFree (l : PoolLists) (leader : ℕ) : Type 0 where
   pub no_request : (q : ℕ) → In leader (map leader_of_request (requests_at l q)) → ⊥
   pub no_reply : (q : ℕ) → In leader (map leader_of_reply (replies_at l q)) → ⊥

@@ -1,4 +1,4 @@
--- What a contract sees of a `Switch`, and what it does with a reply.
+-- A `Switch` as contracts see it, and what it does with a reply.
 use Rattle.std.specs.Prelude.{◌≡◌, ◌==◌, ◌<◌, ℕ, Bool, true, ◌&&◌, filter, nat_le, List, [], ◌∷◌, ◌++◌, length}
 use Rattle.std.specs.Prelude.{slice_index_or, slice_set, if◌then◌else◌}
 use Rattle.omega_wires.specs.Wires.{bit}
@@ -12,8 +12,8 @@ use Rattle.combining_switch.specs.Outputs.{OutputState, output_with}
 use Rattle.combining_switch.specs.declared.answers.Answered.{Answered}
 use Rattle.combining_switch.specs.declared.answers.Answered.TheVariants.{One, Many, NoRoom}
 
--- Two outputs, and two inputs, each with the number of its queue among a pool's queues of replies, of up to c each. A
--- reply goes to the input that a bit of its leader's number names.
+-- two outputs, and two inputs, each with the number of its queue among a pool's queues of replies, which hold up to c
+-- each; a reply goes to the input that a bit of its leader's number names
 pub record SwitchState : Type 0 where
   pub c : ℕ
   pub its_bit : ℕ
@@ -57,19 +57,19 @@ with_records s out es =
 abbrev pub input_of : List ℕ → (inp : ℕ) → ℕ
 input_of inputs inp = slice_index_or inputs inp 0
 
--- the queues are in the pool, and those of the inputs are two
+-- The switch's queues are in the pool, and those of its inputs are different.
 pub record StandsIn (s : SwitchState) (pool : PoolLists) : Type 0 where
   pub outputs : (out : ℕ) → out < 2 → (output_of s out).queue < length pool.requests
   pub inputs : (inp : ℕ) → inp < 2 → input_of s.inputs inp < length pool.replies
   pub apart : input_of s.inputs 0 ≡ input_of s.inputs 1 → ⊥
 
--- ---- replies are put to inputs
+-- ---- replies are put at inputs
 
--- the number of the queue where a leader's replies go
+-- the number of the queue for a leader's replies
 abbrev pub input_for : (its_bit : ℕ) → List ℕ → (leader : ℕ) → ℕ
 input_for i inputs p = input_of inputs (bit i p)
 
--- a reply is put after those at its leader's input
+-- the pool after a reply is appended at its leader's input
 abbrev pub put_reply : (its_bit : ℕ) → List ℕ → PoolLists → Reply → PoolLists
 put_reply i inputs pool y =
     with_replies pool (input_for i inputs y.leader) (replies_at pool (input_for i inputs y.leader) ++ y ∷ [])
@@ -78,22 +78,22 @@ put_reply i inputs pool y =
 abbrev pub replies_for : (its_bit inp : ℕ) → List Reply → List Reply
 replies_for i inp ys = filter (λ (y : Reply). bit i y.leader == inp) ys
 
--- the records of a leader with a second whose reply is for an input
+-- the records of a leader whose second gets its reply at an input
 abbrev pub records_for : (its_bit inp leader : ℕ) → List Record → List Record
 records_for i inp p es = filter (λ (e : Record). e.leader == p && bit i e.second == inp) es
 
--- one after another
+-- the pool after these replies are put, one after another
 unfoldable pub put_replies : (its_bit : ℕ) → List ℕ → List Reply → PoolLists → PoolLists
 put_replies i inputs [] pool = pool
 put_replies i inputs (y ∷ ys) pool = put_replies i inputs ys (put_reply i inputs pool y)
 
--- whether each of these replies, now put, has its place within c
+-- whether each of these replies, once put, has its place within c
 unfoldable pub has_room : (c its_bit : ℕ) → List ℕ → PoolLists → List Reply → Bool
 has_room c i inputs pool [] = true
 has_room c i inputs pool (y ∷ ys) = nat_le (length (replies_at pool (input_for i inputs y.leader))) c
     && has_room c i inputs pool ys
 
--- the leaders of these replies differ, and their cells are free
+-- These replies have different leaders, whose cells are free.
 pub record CanBeQueued (pool : PoolLists) (ys : List Reply) : Type 0 where
   pub cells : (y : Reply) → In y ys → y.leader < pool.cells
   pub free : (y : Reply) → In y ys → IsFree pool y.leader
@@ -105,8 +105,8 @@ abbrev pub answered_for : List Record → Answered
 answered_for [] = One
 answered_for (e ∷ es) = Many (answered_seconds e es)
 
--- The leader's reply and those of its seconds are put, in the order of the combinations, and its records go; or there
--- is no room for all of them, and nothing changes.
+-- The leader's reply and those of its seconds are put, in the order of the combinations, and its records are dropped;
+-- or there is no room for all of them, and nothing changes.
 abbrev pub answered_from : SwitchState → PoolLists → (out : ℕ) → Reply → List Record →
     Answered × SwitchState × PoolLists
 answered_from s pool out x records =
@@ -115,6 +115,6 @@ answered_from s pool out x records =
     then (answered_for records, with_records s out (records_but x.leader (records_at s out)), all)
     else (NoRoom, s, pool)
 
--- what is answered to a reply that comes back to an output, and the switch and the pool then
+-- what a switch answers to a reply that comes back to an output, and the switch and the pool then
 unfoldable pub answered : SwitchState → PoolLists → (out : ℕ) → Reply → Answered × SwitchState × PoolLists
 answered s pool out x = answered_from s pool out x (records_of x.leader (records_at s out))

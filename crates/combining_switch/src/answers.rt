@@ -1,4 +1,4 @@
-//! What a switch answers.
+//! The answers of a switch.
 
 ghost use Rattle.std.specs.Prelude.{List, ◌≡◌, [], ◌∷◌, ◌++◌};
 ghost use Rattle.messages.specs.declared.message.Record.{Record};
@@ -6,36 +6,37 @@ ghost use Rattle.combining_switch.specs.Switches.{answered_for};
 
 use messages::Seconds;
 
-/// What became of a request.
+/// What happened to a request.
 #[derive(Clone, Copy, Debug, PartialEq, Eq, Drop)]
 pub enum Accepted {
-    /// It stands at the end of the queue.
+    /// The request is now the last in the queue.
     Queued,
-    /// It was combined with an entry of the queue.
+    /// The request was combined with an entry of the queue.
     Combined {
         /// The leader of the entry, which leads both.
         first: u8,
     },
-    /// Nothing: it does not combine, and the queue is full.
+    /// Nothing happened: the request does not combine, and the queue is full.
     Full,
 }
 
-/// What became of a reply.
+/// What happened to a reply.
 #[derive(Clone, Copy, Debug, PartialEq, Eq, Drop)]
 pub enum Answered {
-    /// It went on alone.
+    /// The reply went on alone.
     One,
-    /// It went on, and so did the replies for the seconds that were combined with its leader.
+    /// The reply went on, and so did the replies for the seconds that were combined with its
+    /// leader.
     Many {
         /// The seconds.
         seconds: Seconds,
     },
-    /// Nothing: there is no room for all replies.
+    /// Nothing happened: there is no room for all replies.
     NoRoom,
 }
 
 impl Answered {
-    /// The same, where one more second is answered: three at most are reported.
+    /// The same answer with one more second. At most three are reported.
     pub(crate) fn and(self, second: u8) -> Self
         ensures { (records : List Record) (last : Record) → self ≡ answered_for records → second ≡ last.second
             → result ≡ answered_for (records ++ last ∷ []) }

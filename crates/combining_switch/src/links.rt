@@ -11,18 +11,18 @@ use std::marker::Model;
 /// The ends of a queue.
 #[derive(Clone, Copy, Debug, Drop)]
 struct Ends {
-    /// The first number, where there is one.
+    /// The first number, if there is one.
     first: u8,
-    /// The last number, where there is one.
+    /// The last number, if there is one.
     last: u8,
-    /// How many numbers there are.
+    /// The number of numbers in the queue.
     count: u8,
 }
 
-/// Queues of numbers, no number twice, seen as their lists.
+/// Queues of numbers, seen as their lists. No number is in them twice.
 #[derive(Drop)]
 pub struct Links {
-    /// For each number that one stands after, in the queue where it stands, which that is.
+    /// For each number, the one after it in its queue, if there is one.
     next: Vec<u8>,
     queues: Vec<Ends>,
 }
@@ -40,7 +40,7 @@ impl Model for Links {
 }
 
 impl Links {
-    /// This many empty queues, of numbers below `cells`.
+    /// `queues` empty queues of numbers below `cells`.
     pub fn new(alloc: Global, cells: u8, queues: usize) -> Result<Self, AllocError>
         requires { cells ≤ 64 }
         ensures { IfOk result (λ l. l ≡ record { cells = cells; queues = replicate queues [] }) }
@@ -57,7 +57,7 @@ impl Links {
         Ok(Links { next, queues: ends })
     }
 
-    /// No number stands twice.
+    /// A law: no number is in the queues twice.
     #[inline(always)]
     pub fn are_apart(&self)
         ensures { AreApart self.now }
@@ -65,7 +65,7 @@ impl Links {
         let _ = &self.next;
     }
 
-    /// Puts a number after those of a queue.
+    /// Appends a number to a queue.
     pub fn push(&mut self, queue: usize, number: u8)
         requires queue { queue < length self.old.queues }
         requires number { number < self.old.cells }
@@ -107,14 +107,14 @@ impl Links {
         Some(ends.first)
     }
 
-    /// How many queues there are.
+    /// The number of queues.
     fn queue_count(&self) -> usize
         ensures { result ≡ length self.now.queues }
     {
         self.queues.len()
     }
 
-    /// How many numbers a queue has.
+    /// The number of numbers in a queue.
     pub fn count(&self, queue: usize) -> u8
         requires { queue < length self.now.queues }
         ensures { result ≡ length (queue_at self.now queue) }
@@ -135,7 +135,7 @@ impl Links {
         }
     }
 
-    /// The number after one of a queue that stands at `place`.
+    /// The number after the one at `place` of a queue.
     pub fn behind(&self, queue: usize, place: usize, number: u8) -> Option<u8>
         requires queue { queue < length self.now.queues }
         requires there { slice_get (queue_at self.now queue) place ≡ Some number }
@@ -149,7 +149,7 @@ impl Links {
         }
     }
 
-    /// The number of a queue that stands at `place`.
+    /// The number at `place` of a queue.
     pub fn get(&self, queue: usize, place: usize) -> Option<u8>
         requires { queue < length self.now.queues }
         ensures { result ≡ slice_get (queue_at self.now queue) place }
@@ -161,7 +161,7 @@ impl Links {
         found
     }
 
-    /// Whether a queue has a number.
+    /// Whether a queue has this number.
     fn has(&self, queue: usize, number: u8) -> bool
         requires { queue < length self.now.queues }
         ensures { IsTrue result ↔ In number (queue_at self.now queue) }
@@ -176,7 +176,7 @@ impl Links {
         false
     }
 
-    /// Whether no queue has a number.
+    /// Whether no queue has this number.
     pub fn is_unlinked(&self, number: u8) -> bool
         ensures { IsTrue result ↔ IsUnlinked self.now number }
     {

@@ -15,12 +15,12 @@ use phi_algebra::{Phi, compose};
 use std::marker::Model;
 use wait_buffers::WaitBuffer;
 
-/// The number of a queue of requests in the pool, and the records of those that were combined in it.
+/// An output: the number of its queue of requests in the pool, and the records of what was combined there.
 #[derive(Drop)]
 pub struct Output {
     queue: u16,
     capacity: u8,
-    /// How often an entry of the queue is combined.
+    /// How often an entry of the queue may be combined.
     most_marks: u8,
     waiting: WaitBuffer,
 }
@@ -51,8 +51,8 @@ struct Partner {
 }
 
 impl Output {
-    /// An output with the queue of this number, of up to `c` requests, each of which is combined up to `r` times, and
-    /// an empty wait buffer of up to `b` records.
+    /// An output whose queue has this number in the pool. The queue holds up to `c` requests, each combined up to `r`
+    /// times. The wait buffer is empty and holds up to `b` records.
     pub fn new(c: u8, b: u8, r: u8, queue: u16) -> Self
         requires records { b ≤ 16 }
         requires combinations { r ≤ 3 }
@@ -113,7 +113,7 @@ impl Output {
         }
     }
 
-    /// Puts a request after the others, if there is room.
+    /// Appends a request to the queue, if there is room.
     fn enqueue(&self, pool: &mut Pool, request: Request) -> Accepted
         requires queue { self.now.queue < length pool.old.requests }
         requires cell { request.leader < pool.old.cells }
@@ -134,7 +134,7 @@ impl Output {
         Accepted::Queued
     }
 
-    /// Puts the entry that stands for both into its partner's place, and keeps the record.
+    /// Puts the entry for both requests into its partner's place, and adds the record.
     fn combine(&mut self, pool: &mut Pool, partner: Partner, request: &Request) -> Accepted
         requires queue { self.old.queue < length pool.old.requests }
         requires partner { IsPartner self.old.r (requests_at pool.old self.old.queue) partner }
@@ -227,7 +227,7 @@ fn first_partner(pool: &Pool, queue: usize, most_marks: u8, request: &Request) -
     None
 }
 
-/// The function of an entry and a request together, where the two combine: the entry was combined fewer than
+/// The function of an entry and a request together, if they combine. The entry must have been combined fewer than
 /// `most_marks` times.
 #[tactic(auto, unfolding(messages::specs::Queues::joint))]
 fn joint(most_marks: u8, entry: &Request, request: &Request) -> Option<Phi>

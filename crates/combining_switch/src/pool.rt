@@ -12,29 +12,29 @@ use phi_algebra::Phi;
 use std::alloc::{AllocError, Global};
 use std::marker::Model;
 
-/// How many cells the largest pool has.
+/// The most cells that a pool may have.
 pub const MAX_CELLS: u8 = 64;
 
-/// What a message says, but for its leader, which is the number of its cell.
+/// A message without its leader, which is the number of the cell.
 #[derive(Clone, Copy, Debug, Drop)]
 struct Cell {
     /// The number of a request's word.
     word: u32,
-    /// What becomes of that word.
+    /// The function that changes that word.
     phi: Phi,
-    /// How often a request was combined in the queue where it stands.
+    /// How often a request was combined in its queue.
     marks: u8,
     /// The value of a reply.
     value: u32,
 }
 
-/// A cell for each processor, and queues of requests and of replies that lie in them, seen as the
-/// lists of the queues. Both kinds of queues are numbered from 0.
+/// A cell for each processor, and queues of requests and of replies in these cells, seen as the lists of the queues.
+/// Queues of both kinds are numbered from 0.
 #[derive(Drop)]
 pub struct Pool {
     cells: Vec<Cell>,
     links: Links,
-    /// How many of the links' queues are of requests. They come first.
+    /// How many of the links' queues are for requests. They come first.
     request_queues: usize,
 }
 
@@ -55,7 +55,7 @@ impl Pool {
     ///
     /// # Errors
     ///
-    /// `AllocError` where there is no memory for it.
+    /// `AllocError` if there is no memory for it.
     pub fn new(alloc: Global, cells: u8, requests: u16, replies: u16) -> Result<Self, AllocError>
         requires { cells ≤ 64 }
         ensures { IfOk result (λ l. l ≡ empty_pool cells requests replies) }
@@ -76,7 +76,7 @@ impl Pool {
         })
     }
 
-    /// Puts a request after those of a queue. No message that its leader leads may stand in a queue.
+    /// Appends a request to a queue. No queue may have a message that its leader leads.
     pub fn push_request(&mut self, queue: usize, request: Request)
         requires queue { queue < length self.old.requests }
         requires cell { request.leader < self.old.cells }
@@ -87,7 +87,7 @@ impl Pool {
         self.links.push(queue, request.leader);
     }
 
-    /// Puts a reply after those of a queue. No message that its leader leads may stand in a queue.
+    /// Appends a reply to a queue. No queue may have a message that its leader leads.
     pub fn push_reply(&mut self, queue: usize, reply: Reply)
         requires queue { queue < length self.old.replies }
         requires cell { reply.leader < self.old.cells }
@@ -98,7 +98,7 @@ impl Pool {
         self.links.push(self.request_queues + queue, reply.leader);
     }
 
-    /// Takes the first request of a queue. Its cell is free then.
+    /// Takes the first request of a queue. Its cell is then free.
     pub fn pop_request(&mut self, queue: usize) -> Option<Request>
         requires { queue < length self.old.requests }
         ensures first { result ≡ slice_get (requests_at self.old queue) 0 }
@@ -111,7 +111,7 @@ impl Pool {
         Some(request_in(&self.cells, leader))
     }
 
-    /// Takes the first reply of a queue. Its cell is free then.
+    /// Takes the first reply of a queue. Its cell is then free.
     pub fn pop_reply(&mut self, queue: usize) -> Option<Reply>
         requires { queue < length self.old.replies }
         ensures first { result ≡ slice_get (replies_at self.old queue) 0 }
@@ -124,7 +124,7 @@ impl Pool {
         Some(reply_in(&self.cells, leader))
     }
 
-    /// Puts a request into the place of one that has the same leader.
+    /// Replaces the request at `place` of a queue by one with the same leader.
     pub fn replace(&mut self, queue: usize, place: usize, request: Request)
         requires queue { queue < length self.old.requests }
         requires there { option_map leader_of_request (slice_get (requests_at self.old queue) place)
@@ -135,7 +135,7 @@ impl Pool {
         self.cells[usize::from(request.leader)] = cell_of(&request);
     }
 
-    /// How many requests a queue has.
+    /// The number of requests in a queue.
     pub fn request_count(&self, queue: usize) -> u8
         requires { queue < length self.now.requests }
         ensures { result ≡ length (requests_at self.now queue) }
@@ -143,7 +143,7 @@ impl Pool {
         self.links.count(queue)
     }
 
-    /// How many replies a queue has.
+    /// The number of replies in a queue.
     pub fn reply_count(&self, queue: usize) -> u8
         requires { queue < length self.now.replies }
         ensures { result ≡ length (replies_at self.now queue) }
@@ -171,7 +171,7 @@ impl Pool {
         Some(reply_in(&self.cells, leader))
     }
 
-    /// The request after one of a queue, which stands at `place` and has this leader.
+    /// The request after the one at `place` of a queue, which has this leader.
     pub fn request_behind(&self, queue: usize, place: usize, leader: u8) -> Option<Request>
         requires queue { queue < length self.now.requests }
         requires there { option_map leader_of_request (slice_get (requests_at self.now queue) place) ≡ Some leader }
@@ -182,7 +182,7 @@ impl Pool {
         Some(request_in(&self.cells, next))
     }
 
-    /// The request of a queue that stands at `place`, found from the first on.
+    /// The request at `place` of a queue, found by a walk from the first.
     pub fn request(&self, queue: usize, place: usize) -> Option<Request>
         requires { queue < length self.now.requests }
         ensures { result ≡ slice_get (requests_at self.now queue) place }
@@ -192,7 +192,7 @@ impl Pool {
         Some(request_in(&self.cells, leader))
     }
 
-    /// The reply of a queue that stands at `place`, found from the first on.
+    /// The reply at `place` of a queue, found by a walk from the first.
     pub fn reply(&self, queue: usize, place: usize) -> Option<Reply>
         requires { queue < length self.now.replies }
         ensures { result ≡ slice_get (replies_at self.now queue) place }
@@ -202,7 +202,7 @@ impl Pool {
         Some(reply_in(&self.cells, leader))
     }
 
-    /// Whether no message stands in a queue that the processor leads. It looks through all queues.
+    /// Whether no queue has a message that the processor leads. It looks through all queues.
     pub fn is_free(&self, leader: u8) -> bool
         ensures { IsTrue result ↔ IsFree self.now leader }
     {
@@ -210,7 +210,7 @@ impl Pool {
     }
 }
 
-/// What a cell has of a request.
+/// The cell for a request.
 fn cell_of(request: &Request) -> Cell
     ensures { result ≡ record { word = request.now.word; phi = request.now.phi; marks = request.now.marks; value = 0 } }
 {

@@ -20,10 +20,10 @@ use messages::{Record, Reply, Request};
 use omega_wires::bit;
 use std::marker::Model;
 
-/// How many messages the largest queue has.
+/// The most messages that a queue may hold.
 pub const MAX_QUEUE: u8 = 16;
 
-/// A switch with two inputs and two outputs, each numbered 0 and 1. Its queues stand in a pool, the same at each call.
+/// A switch with two inputs and two outputs, each numbered 0 and 1. Its queues are in a pool, the same at each call.
 #[derive(Drop)]
 pub struct Switch {
     outputs: [Output; 2],
@@ -45,9 +45,9 @@ impl Model for Switch {
 }
 
 impl Switch {
-    /// A switch with queues of up to `c` messages and wait buffers of up to `b` records, which are empty, whose
-    /// replies go by bit `its_bit` of their leaders' numbers. An entry of a queue of requests is combined up to `r`
-    /// times. `outputs` and `inputs` are the numbers of its queues of requests and of replies.
+    /// A switch with queues of up to `c` messages and empty wait buffers of up to `b` records. A reply goes to the
+    /// input that is bit `its_bit` of its leader's number. An entry of a queue of requests is combined up to `r` times.
+    /// `outputs` and `inputs` are the numbers of the queues of requests and of replies.
     pub fn new(c: u8, b: u8, r: u8, its_bit: u8, outputs: (u16, u16), inputs: (u16, u16)) -> Self
         requires queues { (2 ≤ c) × (c ≤ 16) }
         requires records { b ≤ 16 }
@@ -87,7 +87,7 @@ impl Switch {
         ensures requests { pool.new ≡ with_requests pool.old (output_of self.old out).queue
             (accepted (output_in pool.old (output_of self.old out)) request).1.requests }
     {
-        // The proof needs the type of this field named.
+        // The proof needs this field's type to be named.
         let _phi = request.phi;
         self.outputs[usize::from(out)].accept(pool, request)
     }
@@ -101,7 +101,7 @@ impl Switch {
         self.outputs[usize::from(out)].front(pool)
     }
 
-    /// The records of an output's wait buffer, from the first combination on.
+    /// The records of an output's wait buffer, in the order of their combinations.
     pub fn records(&self, out: u8) -> &[Record]
         requires { out < 2 }
         ensures records { result.now ≡ records_at self.now out }
@@ -122,7 +122,7 @@ impl Switch {
         self.outputs[usize::from(out)].take(pool)
     }
 
-    /// Whether there is room for all replies for a reply that comes back to an output.
+    /// Whether there is room for all replies that a reply gives at an output.
     pub fn would_answer(&self, pool: &Pool, out: u8, reply: &Reply) -> bool
         requires out { out < 2 }
         requires queues { StandsIn self.now pool.now }
@@ -132,8 +132,8 @@ impl Switch {
         self.has_room(pool, reply.leader, records)
     }
 
-    /// Answers a reply that comes back to an output: the leader's own reply and those of its seconds are
-    /// put to their inputs, the leader's first, or none is. The cells of all must be free.
+    /// Answers a reply that comes back to an output: the leader's own reply and those of its seconds are put at their
+    /// inputs, the leader's first, or none is. The cells of all must be free.
     pub fn answer(&mut self, pool: &mut Pool, out: u8, reply: Reply) -> Answered
         requires out { out < 2 }
         requires queues { StandsIn self.old pool.old }
@@ -172,7 +172,7 @@ impl Switch {
             && count_for(self.its_bit, 1, leader, records) <= self.room_at(pool, 1)
     }
 
-    /// How many replies still fit at an input.
+    /// The number of replies that still fit at an input.
     fn room_at(&self, pool: &Pool, inp: usize) -> usize
         requires input { inp < 2 }
         requires queues { StandsIn self.now pool.now }
@@ -182,8 +182,7 @@ impl Switch {
         usize::from(self.capacity.saturating_sub(queued))
     }
 
-    /// Puts a leader's reply and those of its seconds, each after those at its own leader's input, and says who is
-    /// answered.
+    /// Puts a leader's reply and those of its seconds, each at its own leader's input, and returns who is answered.
     fn put_all(&self, pool: &mut Pool, reply: Reply, records: &[Record]) -> Answered
         requires queues { StandsIn self.now pool.old }
         requires leaders { CanBeQueued pool.old (answers (records_of reply.leader records.now) reply) }
@@ -203,7 +202,7 @@ impl Switch {
         answered
     }
 
-    /// Puts a reply after those at its leader's input.
+    /// Appends a reply at its leader's input.
     fn put(&self, pool: &mut Pool, reply: Reply)
         requires queue { input_for self.now.its_bit self.now.inputs reply.leader < length pool.old.replies }
         requires cell { reply.leader < pool.old.cells }
@@ -236,7 +235,7 @@ impl Switch {
     }
 }
 
-/// The reply that the second of a record gets, where the leader gets this value.
+/// The reply for the second of a record, if the leader gets this value.
 fn second_reply(made: &Record, value: u32) -> Reply
     ensures { result ≡ reply_of value made.now }
 {
@@ -246,7 +245,7 @@ fn second_reply(made: &Record, value: u32) -> Reply
     }
 }
 
-/// How many of the replies for a leader's reply are for an input.
+/// How many of the replies that a leader's reply gives are for an input.
 fn count_for(its_bit: u8, inp: u8, leader: u8, records: &[Record]) -> usize
     requires bits { its_bit < 8 }
     requires records { length records.now ≤ 16 }

@@ -1,4 +1,4 @@
--- All seconds are reported, where there are three at most.
+-- A move names all seconds if there are at most three.
 use Rattle.std.proofs.Common.{◌≡◌, ◌≤◌, ℕ, suc, Bool, true, false, List, [], ◌∷◌, map, length, nat_lt, Some, refl, sym, ap, ◌∙◌, subst, arith}
 use Rattle.std.specs.Prelude.{if◌then◌else◌, slice_get}
 use Rattle.omega_wires.specs.Wires.{wire_before}

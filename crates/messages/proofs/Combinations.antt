@@ -16,7 +16,7 @@ first_is : (r : ℕ) (x e : Request) (es : List Request) → combined_in r x (e 
 unfolding combined_in
 first_is r x e es = refl
 
--- none before place i combines with it
+-- No entry before place i combines with the request.
 abbrev pub NoneBefore : ℕ → Request → List Request → ℕ → Type 0
 NoneBefore r x queue i = (j : ℕ) (e : Request) → j < i → slice_get queue j ≡ Some e → joint r x e ≡ None
 
@@ -42,7 +42,7 @@ combined_nowhere r x (d ∷ ds) before =
     first_is r x d ds ∙ ap (with_first r x d ds) (before 0 d (omega arith) refl)
     ∙ ap (behind d) (combined_nowhere r x ds (λ j y below there. before (suc j) y (omega arith) there))
 
--- an entry that is combined was combined fewer than r times
+-- An entry with which a request combines was combined fewer than r times.
 pub joint_fewer : (r : ℕ) (x e : Request) (phi : Phi) → joint r x e ≡ Some phi → e.marks < r
 unfolding joint
 joint_fewer r x e phi is = go (nat_lt e.marks r) refl is

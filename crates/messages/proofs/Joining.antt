@@ -1,4 +1,4 @@
--- What a combination is.
+-- What a combination consists of.
 use Rattle.std.proofs.Common.{◌≡◌, ℕ, ◌<◌, Bool, true, false, ◌&&◌, List, [], ◌∷◌, ◌++◌, length, ◌==◌}
 use Rattle.std.proofs.Common.{nat_lt, Option, Some, None, refl, sym, ap, ◌∙◌, ltb-true, eqb-true}
 use Rattle.std.specs.Prelude.{if◌then◌else◌}
@@ -69,7 +69,7 @@ combine_joins r x (e ∷ es) j s = go (combine_joins r x es) (joint r x e) refl 
         let a = joint_is r x e h t in
         record { front = []; entry = e; behind = es; function = h; was = refl; is = cc; law = a.0; same_word = a.1; fewer = a.2 }
 
--- the combination at an output, where a record is free
+-- A combination at an output joins the request with an entry of the queue.
 pub combination_joins : (b r : ℕ) (x : Request) (q : List Request) (records : List Record) (j : Combination) → combination b r x q records ≡ Some j
     → Joins r x q j
 combination_joins b r x q records j f = go (nat_lt (length records) b) f

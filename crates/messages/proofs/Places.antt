@@ -1,4 +1,4 @@
--- Functions from places with one place changed, and what stands in lists.
+-- Functions of places with one place changed, and elements of lists.
 use Rattle.std.proofs.Common.{◌≡◌, ℕ, Bool, true, false, cond, eqb, List, [], ◌∷◌, ◌++◌, map, filter}
 use Rattle.std.proofs.Common.{◌⊎◌, inl, inr, refl, sym, ap, ◌∙◌, subst, eq-eqb, eqb-true, ne_eqb}
 use Rattle.std.proofs.lemmas.Bool.{cases_eq}
@@ -21,7 +21,7 @@ put2_other f d w x d' w' away = go (eqb d' d) (eqb w' w) refl refl
     go true false p q = simp (p, q)
     go false b p q = simp p
 
--- a place is the one that was put, or another
+-- Each place is the one at which x was put, or another, which is as before.
 pub at_put2 : {X : Type 0} (f : ℕ → ℕ → X) (d w : ℕ) (x : X) (d' w' : ℕ) →
     ((d' ≡ d) × (w' ≡ w) × (put2 f d w x d' w' ≡ x)) ⊎ ((d' ≡ d → w' ≡ w → ⊥) × (put2 f d w x d' w' ≡ f d' w'))
 at_put2 {X} f d w x d' w' = go (cases_eq d' d) (cases_eq w' w)
@@ -35,7 +35,7 @@ at_put2 {X} f d w x d' w' = go (cases_eq d' d) (cases_eq w' w)
     go (inl p) (inr n) = inr ((λ _ b. n b), put2_other f d w x d' w' (λ _ b. n b))
     go (inr n) e = inr ((λ a _. n a), put2_other f d w x d' w' (λ a _. n a))
 
--- what stands at a place after a put
+-- An element at a place after a put is one that was put there, or one of another place, as before.
 pub In-put2 : {X : Type 0} (f : ℕ → ℕ → List X) (d w : ℕ) (xs : List X) (d' w' : ℕ) (y : X) → In y (put2 f d w xs d' w') →
     ((d' ≡ d) × (w' ≡ w) × In y xs) ⊎ ((d' ≡ d → w' ≡ w → ⊥) × In y (f d' w'))
 In-put2 {X} f d w xs d' w' y m = go (at_put2 f d w xs d' w')
@@ -45,7 +45,7 @@ In-put2 {X} f d w xs d' w' y m = go (at_put2 f d w xs d' w')
     go (inl h) = inl (h.0, h.1, subst (In y) h.2 m)
     go (inr h) = inr (h.0, subst (In y) h.1 m)
 
--- a fact of every place after a put
+-- If a property holds of x and of every place, it holds of every place after x is put.
 pub each_put2 : {X : Type 0} (P : X → Type 0) (f : ℕ → ℕ → X) (d w : ℕ) (x : X) → P x → ((d' w' : ℕ) → P (f d' w')) → (d' w' : ℕ) → P (put2 f d w x d' w')
 each_put2 {X} P f d w x h others d' w' = go (at_put2 f d w x d' w')
   where
@@ -54,7 +54,7 @@ each_put2 {X} P f d w x h others d' w' = go (at_put2 f d w x d' w')
     go (inr e) = subst P (sym e.1) (others d' w')
 
 module _ {X : Type 0} where
-  -- a function that has x there, and is the same elsewhere, is the put
+  -- A function that has x at a place, and is the same elsewhere, is the old one with x put there.
   pub is_put2 : (f g : ℕ → ℕ → X) (d w : ℕ) (x : X) → g d w ≡ x → ((d' w' : ℕ) → (d' ≡ d → w' ≡ w → ⊥) → g d' w' ≡ f d' w') → g ≡ put2 f d w x
   is_put2 f g d w x here others = fun_ext (λ d'. fun_ext (λ w'. go d' w' (at_put2 f d w x d' w')))
     where
@@ -63,11 +63,11 @@ module _ {X : Type 0} where
       go d' w' (inl h) = (λ i. g (h.0 i) (h.1 i)) ∙ here ∙ sym h.2
       go d' w' (inr h) = others d' w' h.0 ∙ sym h.1
 
-  -- what stands there already is put
+  -- Putting what is at a place already changes nothing.
   pub put2_id : (f : ℕ → ℕ → X) (d w : ℕ) → put2 f d w (f d w) ≡ f
   put2_id f d w = sym (is_put2 f f d w (f d w) refl (λ d' w' away. refl))
 
-  -- puts at two depths
+  -- Puts at two depths can be done in either order.
   pub put2_comm : (f : ℕ → ℕ → X) (d w : ℕ) (x : X) (e v : ℕ) (y : X) → (d ≡ e → ⊥) → put2 (put2 f d w x) e v y ≡ put2 (put2 f e v y) d w x
   put2_comm f d w x e v y apart = sym (is_put2 (put2 f d w x) (put2 (put2 f e v y) d w x) e v y
       (put2_other (put2 f e v y) d w x e v (λ a b. apart (sym a)) ∙ put2_same f e v y)
@@ -116,7 +116,7 @@ In-map f x [] m = elim m [ ]
 In-map f x (y ∷ xs) (inl e) = inl (ap f e)
 In-map f x (y ∷ xs) (inr m) = inr (In-map f x xs m)
 
--- where an element of a map comes from
+-- An element of a mapped list comes from an element of the list.
 pub In-map_from : {X : Type 0} (f : X → ℕ) (j : ℕ) (xs : List X) → In j (map f xs) → (x : X) × In x xs × (f x ≡ j)
 In-map_from f j [] m = elim m [ ]
 In-map_from f j (y ∷ xs) (inl e) = (y, inl refl, sym e)
@@ -141,7 +141,7 @@ ApartBy-filter {X} f p (y ∷ xs) a = go (ApartBy-filter f p xs a.1) (p y)
         ((λ m. let h = In-map_from f (f y) (filter p xs) m in a.0 (subst (λ z. In z (map f xs)) h.2 (In-map f h.0 xs ((In-filter p h.0 xs h.1).0)))), rec)
     go rec false = rec
 
--- one f, one element
+-- If no two elements have the same f, elements with the same f are equal.
 pub ApartBy-same : {X : Type 0} (f : X → ℕ) (x y : X) (xs : List X) → ApartBy f xs → In x xs → In y xs → f x ≡ f y → x ≡ y
 ApartBy-same f x y [] a m o e = elim m [ ]
 ApartBy-same f x y (z ∷ xs) a (inl m) (inl o) e = m ∙ sym o
@@ -149,7 +149,7 @@ ApartBy-same f x y (z ∷ xs) a (inl m) (inr o) e = absurd (a.0 (subst (λ j. In
 ApartBy-same f x y (z ∷ xs) a (inr m) (inl o) e = absurd (a.0 (subst (λ j. In j (map f xs)) (e ∙ ap f o) (In-map f x xs m)))
 ApartBy-same f x y (z ∷ xs) a (inr m) (inr o) e = ApartBy-same f x y xs a.1 m o e
 
--- nothing passes
+-- If no element passes, the filtered list is empty.
 pub filter_none : {X : Type 0} (p : X → Bool) (xs : List X) → ((x : X) → In x xs → p x ≡ true → ⊥) → filter p xs ≡ []
 filter_none p [] h = refl
 filter_none {X} p (y ∷ xs) h = go (filter_none p xs (λ x m. h x (inr m))) (p y) refl

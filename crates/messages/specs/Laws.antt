@@ -1,4 +1,4 @@
--- What holds of every move of a message.
+-- Laws of every move of a message.
 use Rattle.std.specs.Prelude.{◌≡◌, ◌≤◌, ℕ, suc, [], length, map, slice_get, Some}
 use Rattle.messages.specs.declared.message.Record.{Record}
 use Rattle.messages.specs.declared.message.Reply.{Reply}
@@ -10,7 +10,7 @@ use Rattle.messages.specs.Queues.{records_of}
 use Rattle.messages.specs.Seconds.{seconds_of}
 use Rattle.messages.specs.Moves.{moved_down, moved_up}
 
--- Where no message stands, a move stalls, and the network is as before.
+-- A move from a place without a message stalls, and the network is as before.
 abbrev pub NothingMovesUp : Type 0
 NothingMovesUp = (z : Sizes) (net : Net) (s w : ℕ) → net.requests s w ≡ [] → moved_up z net s w ≡ (up.Stalled, net)
 
@@ -18,8 +18,8 @@ abbrev pub NothingMovesDown : Type 0
 NothingMovesDown = (z : Sizes) (net : Net) (s w : ℕ) → net.replies (suc s) w ≡ [] →
     moved_down z net s w ≡ (down.Stalled, net)
 
--- Where the leader of the first reply has three records at most, a move of the reply that is answered with more than
--- it says all of their seconds, in the order of the records.
+-- If the leader of the first reply has at most three records, a move that answers seconds names those of all its
+-- records, in order.
 abbrev pub SecondsAreAnswered : Type 0
 SecondsAreAnswered = (z : Sizes) (net : Net) (s w : ℕ) (x : Reply) (to : Seconds) →
     slice_get (net.replies (suc s) w) 0 ≡ Some x →

@@ -1,4 +1,4 @@
--- The network as data: what stands at each place.
+-- The network as data: the messages and records at each place.
 use Rattle.std.specs.Prelude.{◌≡◌, ℕ, suc, ◌^◌, List, []}
 use Rattle.messages.specs.declared.message.Request.{Request}
 use Rattle.messages.specs.declared.message.Reply.{Reply}
@@ -13,14 +13,13 @@ pub record Sizes : Type 0 where
   pub b : ℕ
   pub r : ℕ
 
--- how many wires go to a stage: as many as there are processors, and modules
+-- the number of wires to a stage, which is also that of processors and of modules
 abbrev pub wires : Sizes → ℕ
 wires z = 2 ^ z.k
 
 -- Places go by depth and wire. `requests 0 w` is the slot of processor w, and `requests (d + 1) w` the queue at output
--- w of stage d: both stand before the stage of their depth, and at depth k before module w. `records s w` is the wait
--- buffer of output w of stage s. `replies d w` stands before stage d on wire w, and at depth k it is the slot of
--- module w.
+-- w of stage d: each is before the stage of its depth, or at depth k before module w. `records s w` is the wait buffer
+-- of output w of stage s. `replies d w` is before stage d on wire w, or at depth k the slot of module w.
 pub record Net : Type 0 where
   pub requests : ℕ → ℕ → List Request
   pub records : ℕ → ℕ → List Record
@@ -29,7 +28,7 @@ pub record Net : Type 0 where
 abbrev pub empty_net : Net
 empty_net = record { requests = λ d w. []; records = λ s w. []; replies = λ d w. [] }
 
--- nothing stands anywhere
+-- No place has a message or a record.
 abbrev pub IsEmptyNet : Net → Type 0
 IsEmptyNet net = (d w : ℕ) → (net.requests d w ≡ []) × (net.records d w ≡ []) × (net.replies d w ≡ [])
 

@@ -2,29 +2,29 @@
 
 use phi_algebra::Phi;
 
-/// A reference to a shared word, or several that were combined, on its way to the module.
+/// A reference to a shared word, or several that were combined, on the way to the module.
 #[derive(Clone, Copy, Debug, PartialEq, Eq, Drop)]
 pub struct Request {
     /// The processor that gets the reply: 0 to 63.
     pub leader: u8,
     /// The number of the shared word.
     pub word: u32,
-    /// What becomes of the word.
+    /// The function that changes the word.
     pub phi: Phi,
-    /// How often it was combined in the queue where it stands.
+    /// How often the request was combined in its queue.
     pub marks: u8,
 }
 
-/// The value that a word had, on its way back.
+/// The value that a word had, on the way back.
 #[derive(Clone, Copy, Debug, Default, PartialEq, Eq, Drop)]
 pub struct Reply {
-    /// The processor that gets it: 0 to 63.
+    /// The processor that gets the reply: 0 to 63.
     pub leader: u8,
-    /// The word before the leader's function.
+    /// The value of the word before the leader's function.
     pub value: u32,
 }
 
-/// What a combination leaves at its output, until the reply comes back: the leader then gets the
+/// What an output keeps of a combination until the reply comes back. The leader then gets the
 /// reply's value, and the second what the leader's function makes of it.
 #[derive(Clone, Copy, Debug, PartialEq, Eq, Drop)]
 pub struct Record {

@@ -1,7 +1,7 @@
-//! Who is answered beside a leader.
+//! The seconds that are answered along with a leader.
 
-/// The processors that get a reply beside its leader, in the order of their combinations: those that were combined
-/// with it in one queue, three at most.
+/// The processors that get a reply along with its leader, in the order of their combinations. They were combined with
+/// it in one queue; there are at most three.
 #[derive(Clone, Copy, Debug, PartialEq, Eq, Drop)]
 pub enum Seconds {
     /// One.

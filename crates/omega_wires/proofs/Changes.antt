@@ -1,4 +1,4 @@
--- Sets after a wire comes in or goes out.
+-- Sets after a wire is added or removed.
 use Rattle.std.proofs.Common.{◌≡◌, ℕ, ◌<◌, ◌≤◌, ◌*◌, ◌%◌, ◌^◌, ◌/◌, true, false, ◌⊎◌, inl, inr, sym, ap, ◌∙◌, arith, bit_and, bit_or, eq-eqb}
 use Rattle.std.specs.Prelude.{◌==◌, if◌then◌else◌}
 use Rattle.std.specs.Int.{bit_at, bit_not, w64}

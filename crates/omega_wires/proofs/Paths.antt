@@ -13,12 +13,12 @@ pub path_zero : (k p m : ℕ) → path k p m 0 ≡ p
 unfolding path
 path_zero k p m = refl
 
--- A message's wire after a stage is the one that the stage takes its wire before it to.
+-- A message's wire after a stage is the one to which the stage takes its wire before it.
 pub path_suc : (k p m s : ℕ) → path k p m (suc s) ≡ wire_after k s (path k p m s) m
 unfolding path
 path_suc k p m s = refl
 
--- a wire of k bits is its first bit and the rest. H is half of the path
+-- A rotation to the left moves the first bit of a wire to the end. H is half of 2 ^ k.
 rotated_is : (k H top L : ℕ) → 2 ^ k ≡ 2 * H → L < H → rotated_left k (top * H + L) ≡ 2 * L + top
 rotated_is k H top L e l =
     let low : 2 * L < 2 ^ k = omega arith in
@@ -34,7 +34,7 @@ odd_of L b l = ap (λ n. (n + b) % 2) (mul_comm 2 L) ∙ mod-mul-add L 2 b l
 bit-lt : (i m : ℕ) → bit i m < 2
 bit-lt i m = mod_below (m / 2 ^ i) 2 (omega arith)
 
--- what stands on a wire of p's path before stage s, where t bits of p are still to be replaced after the first
+-- The wire on p's path before stage s, by its first bit and the rest; t more bits of p are still to be replaced.
 first_bit : (p s t Q : ℕ) → Q < 2 ^ s → ((p % 2 ^ (suc t)) * 2 ^ s + Q ≡ bit t p * (2 ^ t * 2 ^ s) + ((p % 2 ^ t) * 2 ^ s + Q))
     × ((p % 2 ^ t) * 2 ^ s + Q < 2 ^ t * 2 ^ s)
 first_bit p s t Q q =
@@ -89,7 +89,7 @@ shape k p m h (suc s) t e =
     regroup : (a c q b : ℕ) → 2 * (a * c + q) + b ≡ a * (c * 2) + (2 * q + b)
     regroup a c q b = omega arith
 
--- A stage takes a reply from the wire after it on the leader's way to the wire before it.
+-- A stage takes a reply on its leader's path from the wire after it to the wire before it.
 pub before_path : (k p m s : ℕ) → s < k → p < 2 ^ k → wire_before k s (path k p m (suc s)) p ≡ path k p m s
 unfolding wire_before
 before_path k p m s l h =
@@ -111,7 +111,7 @@ before_path k p m s l h =
     turned : (a b : ℕ) → a + b ≡ b + a
     turned a b = omega arith
 
--- each place of a path is a wire
+-- Each place of a path is a wire of the network.
 pub path_lt : (k p m s : ℕ) → s ≤ k → p < 2 ^ k → path k p m s < 2 ^ k
 path_lt k p m zero l h = subst (λ n. n < 2 ^ k) (sym (path_zero k p m)) h
 path_lt k p m (suc s) l h =
@@ -127,7 +127,7 @@ path_lt k p m (suc s) l h =
     let low = f.1 in
     omega arith
 
--- what the module's number has put after p's bits
+-- The low bits of a wire on a path are the high bits of the module's number.
 low_is : (k p m : ℕ) → p < 2 ^ k → m < 2 ^ k → (s t : ℕ) → s + suc t ≡ k → path k p m s ≡ (p % 2 ^ suc t) * 2 ^ s + m / 2 ^ suc t
 unfolding path
 low_is k p m h b zero t e =
@@ -160,7 +160,7 @@ low_is k p m h b (suc s) t e =
     two_of m t = ap (λ n. 2 * n + bit t m) (ap (λ n. m / 2 ^ n) (one_more t) ∙ sym (shr-shr m t 1)) ∙ ap (λ n. n + bit t m) (mul_comm 2 (m / 2 ^ t / 2))
         ∙ div-add-mod' (m / 2 ^ t) 2
 
--- each path ends at its module
+-- Each path ends at its module.
 pub path_end : (k p m : ℕ) → p < 2 ^ k → m < 2 ^ k → path k p m k ≡ m
 path_end zero p m h b = path_zero 0 p m ∙ omega arith
 path_end (suc s) p m h b =
@@ -181,7 +181,7 @@ path_end (suc s) p m h b =
 
 -- ---- rotations
 
--- a wire by its highest bit and the rest, and by its lowest bit and the rest
+-- The rotations of a wire, by its highest bit and the rest, and by its lowest bit and the rest.
 rotations : (k L top : ℕ) → L < 2 ^ k → top < 2 →
     (rotated_left (suc k) (top * 2 ^ k + L) ≡ 2 * L + top) × (rotated_right (suc k) (2 * L + top) ≡ top * 2 ^ k + L)
 rotations k L top l b = (
@@ -195,7 +195,7 @@ rotations k L top l b = (
     one_less : (k : ℕ) → suc k - 1 ≡ k
     one_less k = omega arith
 
--- a number below 2 ^ (k + 1) by its highest bit
+-- A number below 2 ^ (k + 1) is its highest bit and the rest.
 by_highest : (k wire : ℕ) → wire < 2 ^ suc k → (wire / 2 ^ k < 2) × (wire % 2 ^ k < 2 ^ k) × (wire ≡ (wire / 2 ^ k) * 2 ^ k + wire % 2 ^ k)
 by_highest k wire h = (
   shr_below wire 1 k (subst (λ n. wire < 2 ^ n) (one_more k) h),
@@ -206,7 +206,7 @@ by_highest k wire h = (
     one_more : (k : ℕ) → suc k ≡ 1 + k
     one_more k = omega arith
 
--- and by its lowest
+-- A number below 2 ^ (k + 1) is its lowest bit and the rest.
 by_lowest : (k wire : ℕ) → wire < 2 ^ suc k → (wire % 2 < 2) × (wire / 2 < 2 ^ k) × (wire ≡ 2 * (wire / 2) + wire % 2)
 by_lowest k wire h = (
   mod_below wire 2 (omega arith),
@@ -260,9 +260,9 @@ rotations_small (suc k) wire h =
         by_bit n m L (suc zero) e l b = omega arith
         by_bit n m L (suc (suc t)) e l b = absurd (omega arith)
 
--- ---- whole ways
+-- ---- whole paths
 
--- the wire by the two numbers, after any number of stages
+-- After s stages the wire has the low bits of the processor's number, followed by the high bits of the module's.
 pub path_is : (k p m s : ℕ) → p < 2 ^ k → m < 2 ^ k → s ≤ k → path k p m s ≡ (p % 2 ^ (k - s)) * 2 ^ s + m / 2 ^ (k - s)
 path_is k p m s h b l = elim (cases_lt s k) [
   | inl less ↦ (let t : ℕ = k - 1 - s in
@@ -281,7 +281,7 @@ path_is k p m s h b l = elim (cases_lt s k) [
         none : (n m : ℕ) → 0 * n + m ≡ m
         none n m = omega arith
 
--- If two ways to one module meet before a stage, they stay together from there on.
+-- If two paths to one module meet before a stage, they stay together from there on.
 pub meet : PathsThatMeetStayTogether
 unfolding path
 meet k p q m s zero e = let z : s + 0 ≡ s = omega arith in ap (path k p m) z ∙ e ∙ ap (path k q m) (sym z)
@@ -297,7 +297,7 @@ way_back_is k p m h b (suc i) l =
     ap (λ w. wire_before k (k - suc i) w p) (way_back_is k p m h b i (omega arith) ∙ ap (path k p m) e)
     ∙ before_path k p m (k - suc i) (omega arith) h
 
--- A reply passes the wires of its leader's way in reverse, and ends on the leader's wire.
+-- A reply passes the wires of its leader's path in reverse, and ends on the leader's wire.
 pub go_back : RepliesEndAtTheirLeader
 go_back k p m h b =
     let z : k - k ≡ 0 = omega arith in
@@ -319,7 +319,7 @@ bits_moved k p s six l =
     let e : 0 < 2 ^ s = pow_pos s in
     omega arith
 
--- In a network of at most 6 stages, the wire that shifts of a byte compute is the one on the way.
+-- In a network of at most 6 stages, shifts of a byte compute the wire on the path.
 pub path_by_shifts : (k p m s : ℕ) → k ≤ 6 → s ≤ k → p < 2 ^ k → m < 2 ^ k → (p % 2 ^ (k - s)) * 2 ^ s % 256 + m / 2 ^ (k - s) ≡ path k p m s
 path_by_shifts k p m s six l h b =
     ap (λ n. n + m / 2 ^ (k - s)) (mod-eq_of_lt (let a = bits_moved k p s six l in omega arith)) ∙ sym (path_is k p m s h b l)

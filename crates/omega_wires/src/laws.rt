@@ -1,17 +1,16 @@
-//! What holds of every way through the network. Each is the contract of a function that does
-//! nothing.
+//! Laws of every path through the network, each the contract of a function that does nothing.
 
 ghost use Rattle.omega_wires.specs.Laws.{PathEndsAtTheModule, PathsStayOnWires, PathsThatMeetStayTogether};
 ghost use Rattle.omega_wires.specs.Laws.{RepliesEndAtTheirLeader, RepliesGoBackTheSameWay, RotationsAreInverse};
 ghost use Rattle.omega_wires.specs.Laws.{RotationsStayOnWires};
 
-/// Each rotation undoes the other, and both give wires.
+/// Each rotation undoes the other, and both take wires to wires.
 pub fn rotations_are_inverse()
     ensures inverse { RotationsAreInverse }
     ensures small { RotationsStayOnWires }
 {}
 
-/// Each place of a way is a wire.
+/// Each place of a path is a wire of the network.
 pub fn paths_stay_on_wires()
     ensures { PathsStayOnWires }
 {}
@@ -21,13 +20,13 @@ pub fn path_ends_at_the_module()
     ensures { PathEndsAtTheModule }
 {}
 
-/// A reply goes back over the wires that the request came on, and ends at its leader.
+/// A reply passes the wires of its request's path in reverse, and ends at its leader.
 pub fn replies_go_back_the_same_way()
     ensures each { RepliesGoBackTheSameWay }
     ensures end { RepliesEndAtTheirLeader }
 {}
 
-/// Two messages to one module that are on one wire have the rest of the way in common.
+/// Two messages to one module that are on the same wire have the rest of their paths in common.
 pub fn paths_that_meet_stay_together()
     ensures { PathsThatMeetStayTogether }
 {}

@@ -5,7 +5,7 @@ ghost use Rattle.omega_wires.specs.Members.{HasNoneIn, IsFirst, members};
 
 use std::marker::Model;
 
-/// A set of wires, which are numbered 0 to 63.
+/// A set of wires, numbered 0 to 63.
 #[derive(Clone, Copy, Debug, Drop)]
 pub struct WireSet {
     /// A bit for each wire, wire 0 lowest.
@@ -25,14 +25,14 @@ impl Model for WireSet {
 }
 
 impl WireSet {
-    /// The set with no wire.
+    /// The empty set.
     pub const fn new() -> Self
         ensures { (w : ℕ) → members result w ≡ false }
     {
         WireSet { bits: 0 }
     }
 
-    /// Whether the set has a wire.
+    /// Whether the set has this wire.
     pub fn contains(self, wire: u8) -> bool
         requires { wire < 64 }
         ensures { result ≡ members self wire }
@@ -40,7 +40,7 @@ impl WireSet {
         self.bits >> wire & 1 == 1
     }
 
-    /// Adds a wire, which may be there.
+    /// Adds a wire, which may be in the set already.
     pub fn insert(&mut self, wire: u8)
         requires { wire < 64 }
         ensures { (w : ℕ) → members self.new w ≡ (if w == wire then true else members self.old w) }
@@ -48,7 +48,7 @@ impl WireSet {
         self.bits |= 1 << wire;
     }
 
-    /// Takes a wire out, which need not be there.
+    /// Removes a wire, which need not be in the set.
     pub fn remove(&mut self, wire: u8)
         requires { wire < 64 }
         ensures { (w : ℕ) → members self.new w ≡ (if w == wire then false else members self.old w) }
@@ -56,7 +56,7 @@ impl WireSet {
         self.bits &= !(1 << wire);
     }
 
-    /// The first wire of the set, this one or one of a higher number. None where there is none.
+    /// The first wire of the set from `wire` on, or `None` if there is none.
     pub fn first_from(self, wire: u8) -> Option<u8>
         ensures first { IfSome result (IsFirst (members self) wire) }
         ensures none { result ≡ None → HasNoneIn (members self) wire 64 }

@@ -1,4 +1,4 @@
-//! Wires as numbers of `k` bits: rotations, and the way through a stage.
+//! Wires as numbers of `k` bits: rotations, and the path through a stage.
 
 ghost use Rattle.std.specs.Prelude.{◌≡◌, ◌<◌, ◌≤◌, ◌^◌, ◌%◌, suc};
 ghost use Rattle.omega_wires.specs.Wires.{bit, input_port, path, rotated_left, rotated_right, switch_of, wire_after};
@@ -43,7 +43,7 @@ pub fn switch_of(k: u8, wire: u8) -> u8
     rotate_left(k, wire) >> 1
 }
 
-/// The port of that switch at which the wire goes in, 0 or 1.
+/// The input port of that switch for the wire, 0 or 1.
 pub fn input_port(k: u8, wire: u8) -> u8
     requires stages { k ≤ 6 }
     requires on_a_wire { wire < 2 ^ k }
@@ -53,7 +53,7 @@ pub fn input_port(k: u8, wire: u8) -> u8
     rotate_left(k, wire) & 1
 }
 
-/// The wire after a stage, of a message that comes on `wire` and goes to the module `to_module`.
+/// The wire after a stage, for a message that arrives on `wire` and goes to module `to_module`.
 #[tactic(auto, unfolding(crate::specs::Wires::wire_after))]
 pub fn wire_after(k: u8, stage: u8, wire: u8, to_module: u8) -> u8
     requires stages { k ≤ 6 }
@@ -65,7 +65,7 @@ pub fn wire_after(k: u8, stage: u8, wire: u8, to_module: u8) -> u8
     2 * switch_of(k, wire) + bit(k - 1 - stage, to_module)
 }
 
-/// The wire before a stage, of a reply that comes on `wire` after it and goes to `processor`.
+/// The wire before a stage, for a reply that arrives on `wire` after it and goes to `processor`.
 #[tactic(auto, unfolding(crate::specs::Wires::wire_before))]
 pub fn wire_before(k: u8, stage: u8, wire: u8, processor: u8) -> u8
     requires stages { k ≤ 6 }
@@ -77,7 +77,7 @@ pub fn wire_before(k: u8, stage: u8, wire: u8, processor: u8) -> u8
     rotate_right(k, 2 * (wire >> 1) + bit(k - 1 - stage, processor))
 }
 
-/// The module that has a shared word: word numbers go round the modules.
+/// The module that has a shared word. Words are interleaved over the modules.
 pub fn module_of(word: u32, k: u8) -> u8
     requires { k ≤ 6 }
     ensures exact { result ≡ word % 2 ^ k }
@@ -86,9 +86,9 @@ pub fn module_of(word: u32, k: u8) -> u8
     (word & ((1 << k) - 1)) as u8
 }
 
-/// The wire of a message from `processor` to the module `to_module` before the stage of this number, and after
-/// the last one for `stage` equal to `k`: the low bits of the processor's number, and after them the
-/// bits of the module's that the stages have put in.
+/// The wire of a message from `processor` to module `to_module` before this stage, or after the last one if `stage` is
+/// `k`. Its number is the low bits of the processor's number, followed by the bits of the module's number that the
+/// stages have put in.
 pub fn path(k: u8, processor: u8, to_module: u8, stage: u8) -> u8
     requires stages { k ≤ 6 }
     requires by_a_stage { stage ≤ k }
@@ -101,7 +101,7 @@ pub fn path(k: u8, processor: u8, to_module: u8, stage: u8) -> u8
     (low_bits(processor, left) << stage) + (to_module >> left)
 }
 
-/// The number of the lowest bits.
+/// The lowest bits of a number, as a number.
 fn low_bits(number: u8, bits: u8) -> u8
     requires { bits < 8 }
     ensures { result ≡ number % 2 ^ bits }

@@ -1,8 +1,8 @@
--- What a contract sees of a `WaitBuffer`.
+-- A `WaitBuffer` as contracts see it.
 use Rattle.std.specs.Prelude.{ℕ, List}
 use Rattle.messages.specs.declared.message.Record.{Record}
 
--- the records, in the order of their combinations, and how many there may be
+-- the records, in the order of their combinations, and the most that there may be
 pub record Waiting : Type 0 where
   pub limit : ℕ
   pub records : List Record

@@ -1,7 +1,7 @@
 //! Wait buffers: the records that one output of a combining switch keeps of its combinations.
 //!
-//! A record says which request was combined with which, and what its reply is. It stays in the buffer until the reply
-//! of the request that went on comes back. `specs/Waiting.antt` says what a contract sees of a buffer. No call takes
+//! A record says which request was combined with which, and what the second's reply will be. It stays in the buffer
+//! until the reply for both comes back. `specs/Waiting.antt` defines a buffer as contracts see it. No call allocates
 //! memory.
 //!
 //! Source: the wait buffer is that of Gottlieb et al., "The NYU Ultracomputer", IEEE Transactions on Computers

@@ -8,7 +8,7 @@ use arrayvec::ArrayVec;
 use messages::Record;
 use std::marker::Model;
 
-/// How many records the largest wait buffer has.
+/// The most records that a wait buffer may have.
 pub const MAX_RECORDS: u8 = 16;
 
 /// The records of one output of a switch, in the order of their combinations.
@@ -41,7 +41,7 @@ impl WaitBuffer {
         }
     }
 
-    /// The records, from the first combination on.
+    /// The records, in the order of their combinations.
     pub fn records(&self) -> &[Record]
         ensures records { result.now ≡ self.now.records }
         ensures few { length result.now ≤ 16 }
@@ -61,7 +61,7 @@ impl WaitBuffer {
         requires { length self.old.records < self.old.limit }
         ensures { self.new ≡ waiting self.old.limit (self.old.records ++ made ∷ []) }
     {
-        // The proof needs the type of this field named.
+        // The proof needs this field's type to be named.
         let _phi = made.phi;
         self.records.push(made);
     }

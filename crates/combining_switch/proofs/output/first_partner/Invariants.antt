@@ -4,7 +4,7 @@ use Rattle.combining_switch.specs.Pools.{requests_at}
 use Rattle.messages.proofs.Lemmas.{NoneBefore}
 use Rattle.combining_switch.proofs.output.first_partner.Given as goal
 
--- the next entry is at hand, and none before it combines with the request
+-- The next entry is at hand, and no entry before it combines with the request.
 abbrev pub invariant-loop-place : goal.invariant-loop-place
 invariant-loop-place l = record {
   here : l.next ≡ slice_get (requests_at l.pool l.queue) l.place;

@@ -8,7 +8,7 @@ use Rattle.combining_switch.specs.Switches.{SwitchState, answered, answered_for,
 use Rattle.combining_switch.proofs.Answering.{answered_by, by_room}
 use Rattle.combining_switch.proofs.switch.Switch.answer.Goals as goal
 
--- what is answered, by the room for the replies that these records give
+-- The answer depends on whether there is room for the replies that these records give.
 by_records : (s : SwitchState) (pool : PoolLists) (out : ℕ) (x : Reply) (es : List Record) (b : Bool) → es ≡ records_at s out
     → b ≡ has_room s.c s.its_bit s.inputs (put_replies s.its_bit s.inputs (answers (records_of x.leader es) x) pool) (answers (records_of x.leader es) x)
     → (came : Bool) → b ≡ came → answered_by s pool out x (answers (records_of x.leader es) x) came ≡ answered s pool out x

@@ -24,7 +24,7 @@ put-requires-clause-cell c = c.requires.leaders.cells c.args.reply (inl refl)
 pub put-requires-clause-free : goal.put-requires-clause-free
 put-requires-clause-free c = c.requires.leaders.free c.args.reply (inl refl)
 
--- a reply that is put leaves the queues in the pool
+-- After a reply is put, the switch's queues are still in the pool.
 still_there : (s : SwitchState) (pool after : PoolLists) (y : Reply) → after ≡ put_reply s.its_bit s.inputs pool y → StandsIn s pool → StandsIn s after
 still_there s pool after y is stands =
     subst (StandsIn s) (sym is)
@@ -47,7 +47,7 @@ pub put-requires-then-record-reply-clause-queue : goal.put-requires-then-record-
 put-requires-then-record-reply-clause-queue c =
     c.loop-record.invariant.stands.inputs (bit c.args.self.now.its_bit c.second_reply.result.leader) (omega arith)
 
--- the second's reply is the next
+-- The reply of the next record's second can be queued, and then those of the others.
 next_of : (x : Reply) (records : List Record) (j : ℕ) (e : Record) (pool : PoolLists) → j < length records → e ≡ get_or records j e → e.leader ≡ x.leader
     → CanBeQueued pool (map (reply_of x.value) (records_of x.leader (drop j records)))
     → CanBeQueued pool (reply_of x.value e ∷ map (reply_of x.value) (records_of x.leader (drop (j + 1) records)))

@@ -3,7 +3,7 @@ use Rattle.messages.specs.Queues.{records_of, reply_of}
 use Rattle.combining_switch.specs.Switches.{CanBeQueued, StandsIn, answered_for, put_replies}
 use Rattle.combining_switch.proofs.switch.Switch.put_all.Given as goal
 
--- the replies of the seconds so far are put, and those of the others can be
+-- The replies of the seconds so far are put, and those of the others can be.
 abbrev pub invariant-loop-record : goal.invariant-loop-record
 invariant-loop-record l = record {
   so_far : l.pool ≡ put_replies l.self.its_bit l.self.inputs
