@@ -22,11 +22,11 @@ impl Model for Module {
 }
 
 impl Module {
-    /// A module of this many words, which are all zero.
+    /// A module with this many words, all zero.
     ///
     /// # Errors
     ///
-    /// [`AllocError`] where there is no memory for them.
+    /// [`AllocError`] if there is no memory for them.
     pub fn new(alloc: Global, words: u32) -> Result<Self, AllocError>
         ensures { IfOk result (λ m. m ≡ replicate words 0) }
     {
@@ -35,15 +35,15 @@ impl Module {
         Ok(Module { words: module })
     }
 
-    /// A module of these words.
+    /// A module with these words.
     pub fn of_words(words: Vec<u32>) -> Self
         ensures { result ≡ words.items }
     {
         Module { words }
     }
 
-    /// Executes a request: answers the word at a place, and leaves there the word that the function
-    /// makes of it. No other place changes.
+    /// Executes a request: returns the word at a place, and replaces it by the word that the
+    /// function makes of it. No other place changes.
     pub fn serve(&mut self, place: u32, phi: &Phi) -> u32
         requires { place < length self.old }
         ensures old_word { result ≡ slice_index self.old place }
@@ -56,7 +56,7 @@ impl Module {
         old
     }
 
-    /// How many words the module has.
+    /// The number of words in the module.
     pub fn len(&self) -> usize
         ensures { result ≡ length self.now }
     {

@@ -1,4 +1,4 @@
--- What a call says of a reply that was answered at a switch.
+-- What a call returns for a reply that was answered at a switch.
 use Rattle.std.proofs.Common.{◌≡◌, ℕ, ◌%◌, ◌/◌, Bool, set, refl, sym, ap, ◌∙◌, subst}
 use Rattle.std.specs.Prelude.{IsTrue, ◌↔◌}
 use Rattle.messages.specs.declared.message.Reply.{Reply}

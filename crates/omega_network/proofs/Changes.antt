@@ -30,7 +30,7 @@ same_on_wire {X} k w xs ys same = go (cases_lt w (2 ^ k))
     go (inl l) = ap (on_wire k w) (same l)
     go (inr p) = outside k w xs p ∙ sym (outside k w ys p)
 
--- what is read of the queues, one of which is replaced
+-- the queues after one of them is replaced
 module _ {X : Type 0} (queues : List (List X)) (k d w : ℕ) (xs : List X) (wire : w < 2 ^ k) (there : place k d w < length queues) where
   abbrev before : ℕ → ℕ → List X
   before d' w' = on_wire k w' (get_or queues (place k d' w') [])
@@ -76,7 +76,7 @@ small_rest w = omega arith
 same_wire : (w v : ℕ) → w / 2 ≡ v / 2 → w % 2 ≡ v % 2 → w ≡ v
 same_wire w v e f = omega arith
 
--- the records at the outputs of one with its records replaced
+-- After a switch's records at an output are replaced, they are what is read there.
 pub records_here : (t : SwitchState) (out : ℕ) (es : List Record) → out < length t.outputs → records_at (with_records t out es) out ≡ es
 records_here t out es l = ap (λ (o : OutputState). o.records) (get_or-set_same t.outputs out (output_with (output_of t out) es) no_output l)
 
@@ -127,7 +127,7 @@ module _ (n : NetworkLists) (is : IsNetwork n) (s w : ℕ) (stage : s < n.k) (wi
   unfolding requests_before replies_before
   switch_records_put = λ j. record { requests = requests_before n; records = records_put j; replies = replies_before n }
 
--- ---- what stands at an output
+-- ---- the lists at a place
 
 -- The records at the place of a wire are those at the wire's output of its switch.
 pub at_output : (n : NetworkLists) (s w : ℕ) → w < 2 ^ n.k → records_behind n s w ≡ records_at (switch_at n s (w / 2)) (w % 2)

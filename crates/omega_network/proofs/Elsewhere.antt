@@ -1,4 +1,4 @@
--- What a move leaves as it was.
+-- Places that a move does not change.
 use Rattle.std.proofs.Common.{◌≡◌, ℕ, zero, suc, ◌+◌, ◌*◌, ◌/◌, ◌%◌, ◌<◌, Bool, true, false, ◌⊎◌, inl, inr, nat_lt}
 use Rattle.std.proofs.Common.{List, [], ◌∷◌, ◌++◌, length, Option, Some, None, refl, ap, ◌∙◌, arith}
 use Rattle.std.specs.Prelude.{if◌then◌else◌}
@@ -13,7 +13,7 @@ use Rattle.messages.specs.Network.{Net, Sizes, put_records, put_replies, put_req
 use Rattle.messages.specs.Moves.{accepted, answer, down_from, has_room, moved_down, moved_up, push_all, up_from}
 use Rattle.messages.proofs.Lemmas.{put2_other}
 
--- what holds of both holds of either
+-- What holds of both results holds of the chosen one.
 either : {X : Type 0} (P : X → Type 0) (b : Bool) (x y : X) → P x → P y → P (if b then x else y)
 either P true x y p q = p
 either P false x y p q = q
@@ -21,7 +21,7 @@ either P false x y p q = q
 -- ---- up
 
 module _ (z : Sizes) (net : Net) (s w : ℕ) where
-  -- Requests change at most where one is taken, and at the outputs of the switch that the wire goes into.
+  -- The place is not the wire whose request is taken, nor an output of the switch that the wire goes into.
   abbrev Away : ℕ → ℕ → Type 0
   Away d v = (d ≡ s → v ≡ w → ⊥) × (d ≡ suc s → v / 2 ≡ rotated_left z.k w / 2 → ⊥)
 
@@ -72,7 +72,7 @@ module _ (z : Sizes) (net : Net) (s w : ℕ) where
 
 -- ---- down
 
--- replies that are put change the wires of their leaders alone
+-- Putting replies changes only the wires that lead to their leaders.
 pushed_elsewhere : (wire : ℕ → ℕ) (s : ℕ) (ys : List Reply) (net : Net) (d v : ℕ) → ((p : ℕ) → d ≡ s → v ≡ wire p → ⊥) →
     (push_all wire s ys net).replies d v ≡ net.replies d v
 unfolding push_all
@@ -87,7 +87,7 @@ pushed_requests wire s [] net = refl
 pushed_requests wire s (y ∷ ys) net = pushed_requests wire s ys (put_replies net s (wire y.leader) (net.replies s (wire y.leader) ++ y ∷ []))
 
 module _ (z : Sizes) (net : Net) (s w : ℕ) where
-  -- Replies change at most where one is taken, and at the inputs of the switch that the wire comes from.
+  -- The place is not the wire whose reply is taken, nor an input of the switch that the wire comes from.
   abbrev AwayBack : ℕ → ℕ → Type 0
   AwayBack d v = (d ≡ suc s → v ≡ w → ⊥) × ((p : ℕ) → d ≡ s → v ≡ wire_before z.k s w p → ⊥)
 
@@ -129,7 +129,7 @@ module _ (z : Sizes) (net : Net) (s w : ℕ) where
   unfolding moved_down
   down_requests = either (λ (r : DownMove × Net). r.1.requests ≡ net.requests) (nat_lt s z.k) _ _ (requests_from (net.replies (suc s) w)) refl
 
-  -- the two inputs
+  -- A reply goes on to one of the two inputs of the switch.
   pub input_is : (p : ℕ) → (wire_before z.k s w p ≡ rotated_right z.k (2 * (w / 2))) ⊎ (wire_before z.k s w p ≡ rotated_right z.k (2 * (w / 2) + 1))
   unfolding wire_before
   input_is p = by (bit (bit_of_stage z.k s) p) (omega arith)

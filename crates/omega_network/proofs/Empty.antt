@@ -1,4 +1,4 @@
--- The numbers of the places of a network, and that nothing stands at a place where no queue and no wait buffer has anything.
+-- The numbers of the places of a network. A network is empty if no queue has a message and no wait buffer a record.
 use Rattle.std.proofs.Common.{◌≡◌, ℕ, zero, suc, ◌+◌, ◌-◌, ◌*◌, ◌/◌, ◌%◌, ◌^◌, ◌<◌, ◌≤◌, Bool, true, false, List}
 use Rattle.std.proofs.Common.{[], length, get_or, nat_lt, ◌⊎◌, inl, inr, refl, sym, ap, ◌∙◌, subst, arith}
 use Rattle.std.specs.Prelude.{All, IsTrue, ◌↔◌, if◌then◌else◌}
@@ -16,7 +16,7 @@ use Rattle.omega_network.proofs.Switches.{two_halves}
 
 -- ---- numbers of places
 
--- each number of a queue is that of a depth and a wire
+-- A network has a wire.
 pub some_wires : (k : ℕ) → 0 < 2 ^ k
 some_wires k = pow_pos k
 
@@ -28,7 +28,7 @@ place_of k q = div-add-mod' q (2 ^ k)
 pub on_a_wire : (k q : ℕ) → q % 2 ^ k < 2 ^ k
 on_a_wire k q = let l = some_wires k in omega arith
 
--- ---- nothing
+-- ---- places without messages and records
 
 nothing_on : {X : Type 0} (k w : ℕ) (xs : List X) → xs ≡ [] → on_wire k w xs ≡ []
 nothing_on {X} k w xs e = go (nat_lt w (2 ^ k))
@@ -37,7 +37,7 @@ nothing_on {X} k w xs e = go (nat_lt w (2 ^ k))
     go true = e
     go false = refl
 
--- what holds of all switches of a network, and where there is none, holds of each
+-- What holds of all switches of a network, and of the switch past the end, holds of the switch read at each place.
 pub each_switch : (P : SwitchState → Type 0) (n : NetworkLists) → All P n.switches → P no_switch → (s i : ℕ) → P (switch_at n s i)
 each_switch P n all none s i = go (cases_lt (s * half n.k + i) (length n.switches))
   where
@@ -83,7 +83,7 @@ module _ (n : NetworkLists) (is : IsNetwork n) (j : ℕ) (there : j < length n.s
   again : (j / half n.k) * half n.k + j % half n.k ≡ j
   again = div-add-mod' j (half n.k)
 
-  -- what stands at an output of it
+  -- The records at an output of the switch with this number are those at the place of the output.
   pub at_number : (d : SwitchState) (v : ℕ) → v < 2 → records_at (get_or n.switches j d) v ≡ records_behind n (j / half n.k) (2 * (j % half n.k) + v)
   at_number d v l =
       let e = two_halves n.k (j / half n.k) stage in
@@ -102,7 +102,7 @@ no_record_is n is empty j d l = (
   at_number n is j l d 1 (omega arith) ∙ (empty (j / half n.k) (2 * (j % half n.k) + 1)).1,
 )
 
--- ---- as the call reports it
+-- ---- for the call
 
 module _ (n m : NetworkLists) (view : n ≡ m) (is : IsNetwork n) (messages : Bool) (fact : IsTrue messages ↔ HasNoMessage n.pool) where
   -- If a queue has a message, the network is not empty, as the call answers.

@@ -1,4 +1,4 @@
--- What the outputs and inputs of a network's switch are, by its form.
+-- The outputs and inputs of a network's switch, by its form.
 use Rattle.std.proofs.Common.{◌≡◌, ℕ, zero, suc, ◌+◌, ◌*◌, ◌/◌, ◌%◌, ◌^◌, ◌<◌, [], ◌∷◌, length, get_or, sym, ap, ◌∙◌, subst, arith}
 use Rattle.omega_wires.specs.Wires.{bit, bit_of_stage, wire_before}
 use Rattle.combining_switch.specs.Outputs.{OutputState, output_in}
@@ -42,13 +42,13 @@ module _ (n : NetworkLists) (is : IsNetwork n) (s w : ℕ) (stage : s < n.k) (wi
   pub queue_is : (output_of (switch_at n s (w / 2)) (w % 2)).queue ≡ place n.k (suc s) w
   queue_is = ap (λ (o : OutputState). o.queue) the_output
 
-  -- the output's lists are what stands at its place
+  -- The lists of the wire's output are those at its place.
   pub lists_are : output_in n.pool (output_of (switch_at n s (w / 2)) (w % 2)) ≡ output_at (sizes_of n) (net_of n) s w
   lists_are =
       ap (output_in n.pool) the_output
       ∙ (λ j. record { c = n.c; b = n.b; r = n.r; requests = sym (at_queue n (suc s) w wire) j; records = sym (at_output n s w wire) j })
 
-  -- the queues of the switch stand in the pool
+  -- The queues of the switch are in the pool.
   pub in_pool : StandsIn (switch_at n s (w / 2)) n.pool
   in_pool = record {
     outputs = λ v l. subst (λ (o : OutputState). o.queue < length n.pool.requests) (sym (output_is n.k n.c n.b n.r s (w / 2) t form v l))
@@ -77,7 +77,7 @@ module _ (n : NetworkLists) (is : IsNetwork n) (s w : ℕ) (stage : s < n.k) (wi
       inp (suc zero) l = queue_within n.k s (w / 2 + half n.k) (length n.pool.replies) (omega arith) high is.all_replies
       inp (suc (suc v)) l = absurd (omega arith)
 
-  -- a reply for a leader goes on to the wire that leads to it
+  -- The wire on which a reply goes on to its leader is a wire of the network.
   pub on_way : (p : ℕ) → wire_before n.k s w p < 2 ^ n.k
   unfolding wire_before
   on_way p = go (bit (bit_of_stage n.k s) p) (omega arith)

@@ -1,4 +1,4 @@
--- The sets after each call: they are again the network's.
+-- After each call, the sets are again those of the network.
 use Rattle.std.proofs.Common.{◌≡◌, ℕ, zero, suc, ◌+◌, ◌*◌, ◌/◌, ◌%◌, ◌^◌, ◌<◌, ◌≤◌, Bool, true, false, not}
 use Rattle.std.proofs.Common.{◌⊎◌, inl, inr, List, [], ◌∷◌, refl, sym, ap, ◌∙◌, subst, arith, pow-suc}
 use Rattle.std.specs.Prelude.{IsTrue, is_some, slice_get, slice_index_or}
@@ -101,7 +101,8 @@ module _ (old new : NetworkLists) (rq rp : List ℕ) (is : IsIndexed old rq rp) 
       (λ knows. one_look new.k (net_of old).replies (net_of new).replies rp rp' 0 p knows
       (λ d w away. ap (λ (n : Net). n.replies d w) after ∙ put2_other (net_of old).replies 0 p _ d w away) look)
 
-  -- the outputs of the switch that the wire goes into
+  -- After a move up, the sets are the network's once the wire and the outputs of the switch that it goes into were
+  -- looked at.
   pub up_indexed : (s w out : ℕ) (rq1 rq2 rq3 : List ℕ) → net_of new ≡ (moved_up (sizes_of old) (net_of old) s w).1 → out ≡ 2 * (rotated_left old.k w / 2)
       → IsLookedAt new.k (net_of new).requests s w rq rq1 → IsLookedAt new.k (net_of new).requests (s + 1) out rq1 rq2 →
       IsLookedAt new.k (net_of new).requests (s + 1) (out + 1) rq2 rq3 → IsIndexed new rq3 rp
@@ -120,7 +121,8 @@ module _ (old new : NetworkLists) (rq rp : List ℕ) (is : IsIndexed old rq rp) 
       by v (suc zero) odd half few not_first not_second = not_second (omega (arith, odd, half, at))
       by v (suc (suc b)) other half few not_first not_second = omega (arith, few)
 
-  -- the inputs of the switch that the wire comes from
+  -- After a move down, the sets are the network's once the wire and the inputs of the switch that it comes from were
+  -- looked at.
   pub down_indexed : (s w first second : ℕ) (rp1 rp2 rp3 : List ℕ) → net_of new ≡ (moved_down (sizes_of old) (net_of old) s w).1 →
       first ≡ rotated_right old.k (2 * (w / 2)) → second ≡ rotated_right old.k (2 * (w / 2) + 1)
       → IsLookedAt new.k (net_of new).replies (s + 1) w rp rp1 → IsLookedAt new.k (net_of new).replies s first rp1 rp2 →
@@ -141,7 +143,7 @@ module _ (old new : NetworkLists) (rq rp : List ℕ) (is : IsIndexed old rq rp) 
           go (inl e) = not_first (is ∙ e ∙ sym at)
           go (inr e) = not_second (is ∙ e ∙ sym at')
 
--- ---- where nothing stands
+-- ---- places without a message
 
 -- If the test for a first element answers no, the list is empty.
 pub nothing_there : {X : Type 0} (q : List X) (b : Bool) → b ≡ is_some (slice_get q 0) → b ≡ false → q ≡ []
@@ -153,7 +155,7 @@ pub free_is : {X : Type 0} (q : List X) (b : Bool) → b ≡ is_some (slice_get 
 free_is {X} [] b e = ((λ t. refl), (λ g. ap not e))
 free_is {X} (y ∷ ys) b e = ((λ t. absurd (let g : false ≡ true = sym (ap not e) ∙ t in cc)), (λ g. absurd (let h : y ∷ ys ≡ [] = g in cc)))
 
--- the wire that shares a switch with an even one
+-- The odd wire that shares a switch with a wire is a wire of the network.
 pub second_wire : (k s w : ℕ) → s < k → w < 2 ^ k → 2 * (w / 2) + 1 < 2 ^ k
 second_wire zero s w some within = absurd (omega (arith, some))
 second_wire (suc k) s w some within = let twice = pow-suc 2 k in omega (arith, twice, within)

@@ -1,4 +1,4 @@
--- What stays of a network through a change of its pool or of the records of a switch.
+-- A network stays one through a change of its pool or of the records of a switch.
 use Rattle.std.proofs.Common.{◌≡◌, ℕ, zero, suc, ◌+◌, ◌*◌, ◌/◌, ◌%◌, ◌^◌, ◌<◌, List, length, ◌⊎◌, inl, inr, refl, sym, ◌∙◌, subst, arith, length-set}
 use Rattle.std.proofs.lemmas.Bool.{cases_eq}
 use Rattle.messages.specs.declared.message.Record.{Record}
@@ -9,7 +9,7 @@ use Rattle.omega_network.specs.Networks.{AreSeconds, IsNetwork, NetworkLists, ha
 use Rattle.omega_network.proofs.Changes.{records_put}
 use Rattle.omega_network.proofs.Switches.{half_of_wire, switch_kept, switch_put, with_pool, with_switch}
 
--- a pool with as many cells and queues
+-- The second pool has as many cells and queues as the first.
 pub record IsLike (pool pool' : PoolLists) : Type 0 where
   -- It has as many cells.
   pub cells : pool'.cells ≡ pool.cells
@@ -31,7 +31,7 @@ pool_kept n pool is like seconds = record {
   seconds = seconds;
 }
 
--- a switch keeps its form
+-- The switch has the form of its stage and number.
 abbrev HasForm : (k c b r s i : ℕ) → SwitchState → Type 0
 HasForm k c b r s i t = t ≡ the_switch k c b r s i (records_at t 0) (records_at t 1)
 

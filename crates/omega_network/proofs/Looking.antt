@@ -1,19 +1,19 @@
--- What is known after a change, once each wire is looked at that it may have changed.
+-- The sets are right after a change, once each wire that may have changed was looked at.
 use Rattle.std.proofs.Common.{◌≡◌, ℕ, ◌^◌, ◌<◌, ◌≤◌, ◌⊎◌, inl, inr, List, sym, ap, ◌∙◌, subst, arith, pow_mono}
 use Rattle.std.specs.Prelude.{is_some, slice_get}
 use Rattle.std.proofs.lemmas.Bool.{cases_eq}
 use Rattle.omega_network.specs.Index.{IsKnown, IsLookedAt, Knows}
 
--- the wires of few stages are few
+-- A wire of a network of at most six stages is below 64.
 pub few_wires : (k w : ℕ) → k ≤ 6 → w < 2 ^ k → w < 64
 few_wires k w few within = (let most : 2 ^ k ≤ 2 ^ 6 = pow_mono few in omega (arith, within, most))
 
 module _ {X : Type 0} (k : ℕ) (before after : ℕ → ℕ → List X) where
-  -- what is elsewhere the same is known as before
+  -- If a place has the same messages as before, the sets are right there if they were.
   same_known : (sets : List ℕ) (d w : ℕ) → after d w ≡ before d w → IsKnown before sets d w → IsKnown after sets d w
   same_known sets d w same is = is ∙ ap (λ xs. is_some (slice_get xs 0)) (sym same)
 
-  -- a place is this one, or another
+  -- After a place was looked at, the sets are right there, and elsewhere if they were.
   here : (sets sets' : List ℕ) (d' w' d w : ℕ) → IsLookedAt k after d' w' sets sets' → ((d ≡ d' → w ≡ w' → ⊥) → IsKnown after sets d w) →
       IsKnown after sets' d w
   here sets sets' d' w' d w look others = by (cases_eq d d') (cases_eq w w')
@@ -43,6 +43,6 @@ module _ {X : Type 0} (k : ℕ) (before after : ℕ → ℕ → List X) where
     few = λ d w past. three.few d w past (two.few d w past (one.few d w past (knows.few d w past)));
   }
 
-  -- where nothing changes, nothing is to be looked at
+  -- If no message changed, the sets are still right.
   pub no_look : (sets : List ℕ) → after ≡ before → Knows k before sets → Knows k after sets
   no_look sets same knows = subst (λ messages. Knows k messages sets) (sym same) knows

@@ -1,4 +1,4 @@
--- A move is what the switch does with a message that was taken out of its place, if the switch, asked before, would take it.
+-- A move is what the switch does with a message that was taken out of its place, if the switch would take the message.
 use Rattle.std.proofs.Common.{◌≡◌, ℕ, suc, ◌^◌, ◌%◌, ◌<◌, Bool, true, false, ◌&&◌, List, [], ◌∷◌, ◌++◌, length, drop}
 use Rattle.std.proofs.Common.{nat_lt, Option, Some, None, ◌⊎◌, inl, inr, refl, sym, ap, ◌∙◌, arith, lt-ltb}
 use Rattle.std.specs.Prelude.{IsTrue, is_some, nat_le, not, slice_get, if◌then◌else◌}
@@ -18,7 +18,7 @@ use Rattle.messages.specs.Moves as moves
 use Rattle.messages.proofs.Lemmas.{put2_comm, put2_other}
 use Rattle.omega_network.specs.Networks.{NetworkLists, net_of, sizes_of}
 
--- the first of a list
+-- A list with a first element is this element, followed by the rest.
 pub first_is : {X : Type 0} (q : List X) (x : X) → slice_get q 0 ≡ Some x → q ≡ x ∷ drop 1 q
 first_is [] x e = cc
 first_is (y ∷ ys) x e = let same : y ≡ x = cc in ap (λ z. z ∷ ys) same
@@ -28,7 +28,7 @@ pub none_is : {X : Type 0} (q : List X) → slice_get q 0 ≡ None → q ≡ []
 none_is [] e = refl
 none_is (y ∷ ys) e = cc
 
--- whether a list has no first
+-- The test for a first element decides whether a list is empty.
 pub free_is : {X : Type 0} (q : List X) (o : Option X) (b : Bool) → o ≡ slice_get q 0 → is_some o ≡ not b → (IsTrue b → q ≡ []) × (q ≡ [] → IsTrue b)
 free_is {X} [] o true e f = ((λ t. refl), (λ g. refl))
 free_is {X} [] o false e f = absurd (let g : false ≡ true = sym (ap is_some e) ∙ f in cc)
@@ -38,14 +38,14 @@ free_is {X} (y ∷ ys) o false e f = ((λ t. absurd (let h : false ≡ true = t 
 apart : (s : ℕ) → s ≡ suc s → ⊥
 apart s e = omega arith
 
--- where one of two results stalls and the other does not
+-- If one of two results stalls and the other does not, the outcome tells which one it is.
 either_case : {Kind : Type 0} (b : Bool) (stalled : Kind) (went : Kind × Net) (net taken : Net) → (went.0 ≡ stalled → ⊥) →
     ((if b then went else (stalled, net)).0 ≡ stalled → (if b then went else (stalled, net)) ≡ (stalled, net))
     × (((if b then went else (stalled, net)).0 ≡ stalled → ⊥) → (if b then went else (stalled, net)) ≡ (if b then went else (stalled, taken)))
 either_case true stalled went net taken moves = ((λ e. absurd (moves e)), (λ n. refl))
 either_case false stalled went net taken moves = ((λ e. refl), (λ n. absurd (n refl)))
 
--- what is not reported to move stalls
+-- If the test says that a message does not move, the move stalls.
 stalls : {Kind : Type 0} (stalled answer : Kind) (b : Bool) → (answer ≡ stalled) ⊎ (answer ≡ stalled → ⊥) → ((answer ≡ stalled → ⊥) → IsTrue b) → b ≡ false
     → answer ≡ stalled
 stalls stalled answer b (inl e) fact none = e
@@ -59,7 +59,7 @@ up_stalls_or_not (up.Combined p q) = inr (λ e. cc)
 up_stalls_or_not up.Stalled = inl refl
 
 module _ (z : Sizes) (s out : ℕ) (x : Request) where
-  -- what is answered, by the queue and the combination
+  -- the answer to the request, by the queue and the combination
   answer_by : List Request → Option Combination → UpMove
   answer_by q None = if nat_lt (length q) z.c then up.Moved else up.Stalled
   answer_by q (Some j) = up.Combined j.made.leader j.made.second
@@ -87,7 +87,7 @@ module _ (z : Sizes) (s out : ℕ) (x : Request) where
         × (((moves.offered z net taken s out x).0 ≡ up.Stalled → ⊥) → moves.offered z net taken s out x ≡ moves.offered z taken taken s out x)
     offered_cases = by_combination (combination z.b z.r x (taken.requests (suc s) out) (taken.records s out))
 
-  -- the answer is that of the network with the request in its place
+  -- The answer is the same in the network with the request still in its place.
   pub same_answer : (net : Net) (w : ℕ) (rest : List Request) →
       (moves.offered z net (put_requests net s w rest) s out x).0 ≡ (moves.offered z net net s out x).0
   same_answer net w rest =
@@ -113,7 +113,7 @@ down_stalls_or_not (down.Answered p) = inr (λ e. cc)
 down_stalls_or_not down.Stalled = inl refl
 
 module _ (wire : ℕ → ℕ) (s w : ℕ) (rest : List Reply) where
-  -- what is put before a stage leaves what is after it
+  -- Replacing the replies on a wire after a stage leaves those before the stage.
   before_same : (net : Net) (v : ℕ) → (put_replies net (suc s) w rest).replies s v ≡ net.replies s v
   before_same net v = put2_other net.replies (suc s) w rest s v (λ e _. apart s e)
 
@@ -177,7 +177,7 @@ down_is z net s w x stage found =
     ap (λ (b : Bool). if b then moves.down_from z net s w (net.replies (suc s) w) else (down.Stalled, net)) (lt-ltb s z.k stage)
     ∙ ap (moves.down_from z net s w) (first_is (net.replies (suc s) w) x found)
 
--- ---- as the calls say it
+-- ---- for the calls
 
 way_is : (m l : NetworkLists) (s w out target : ℕ) (x : Request) → l ≡ m → out ≡ wire_after l.k s w target →
     target ≡ x.word % 2 ^ l.k → out ≡ wire_after m.k s w (x.word % 2 ^ m.k)

@@ -1,4 +1,4 @@
--- Whether a message or a record names a processor, by a look through the pool and the switches.
+-- A look through the pool and the switches finds whether a message or a record names a processor.
 use Rattle.std.proofs.Common.{◌≡◌, ℕ, zero, suc, ◌+◌, ◌*◌, ◌/◌, ◌%◌, ◌^◌, ◌<◌, ◌≤◌, Bool, true, false, ◌||◌, List}
 use Rattle.std.proofs.Common.{[], ◌∷◌, length, map, get_or, ◌⊎◌, inl, inr, refl, sym, ap, ◌∙◌, subst, arith}
 use Rattle.std.specs.List.{list_any}
@@ -43,7 +43,7 @@ module _ {X : Type 0} (f : X → ℕ) (p : ℕ) where
       go (inr here) (inl h) = inl (suc h.0, h.1, h.2, h.3)
       go (inr here) (inr later) = inr (none_of here later)
 
--- a message that stands somewhere on a wire is in the pool
+-- A message on a wire is in the queue of the wire.
 in_queue : {X : Type 0} (k w : ℕ) (xs : List X) (x : X) → In x (on_wire k w xs) → In x xs
 in_queue k w xs x m = go (cases_lt w (2 ^ k))
   where
@@ -51,7 +51,7 @@ in_queue k w xs x m = go (cases_lt w (2 ^ k))
     go (inl l) = subst (In x) (inside k w xs l) m
     go (inr past) = absurd (subst (In x) (outside k w xs past) m)
 
--- p leads a request or a reply
+-- The processor leads a request or a reply.
 pub data Leads (n : NetworkLists) (p : ℕ) : Type 0 where
   by_request : (d w : ℕ) (x : Request) → In x (requests_before n d w) → x.leader ≡ p → Leads n p
   by_reply : (d w : ℕ) (y : Reply) → In y (replies_before n d w) → y.leader ≡ p → Leads n p
@@ -103,7 +103,7 @@ either : (a b : Bool) → (a || b) ≡ true → (a ≡ true) ⊎ (b ≡ true)
 either true b e = inl refl
 either false b e = inr e
 
--- a switch stands somewhere among all
+-- A switch of a list is at some place of it.
 stands_at : (switches : List SwitchState) (t : SwitchState) → In t switches → (j : ℕ) × (j < length switches) × (get_or switches j no_switch ≡ t)
 stands_at [] t m = elim m [ ]
 stands_at (u ∷ us) t (inl e) = (0, omega arith, sym e)

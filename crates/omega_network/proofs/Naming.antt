@@ -1,4 +1,4 @@
--- What the looks for a processor in the pool and in the records say of the whole network.
+-- What looks through the pool and the records tell of the whole network.
 use Rattle.std.proofs.Common.{◌≡◌, ℕ, Bool, true, false, ◌||◌, List, ◌⊎◌, inl, inr, refl, sym, ap, ◌∙◌, subst, eq-eqb, eqb-true}
 use Rattle.std.specs.Prelude.{IsTrue, ◌↔◌, ◌==◌, not}
 use Rattle.std.specs.List.{list_any}
@@ -76,7 +76,7 @@ module _ (n : NetworkLists) (is : IsNetwork n) (p : ℕ) where
       go : list_any (λ t. is_second p (records_at t 0) || is_second p (records_at t 1)) n.switches ≡ true → ⊥
       go holds = let no : true ≡ false = sym holds ∙ fact in cc
 
--- ---- as the calls say it
+-- ---- for the calls
 
 module _ (n m : NetworkLists) (view : n ≡ m) (is : IsNetwork n) (p : ℕ) (free : Bool) (fact : IsTrue free ↔ IsFree n.pool p) where
   in_view : Names (net_of n) p → Names (net_of m) p

@@ -1,4 +1,4 @@
--- The switches of a new network, and that nothing stands in it.
+-- The switches of a new network, which has no messages and no records.
 use Rattle.std.proofs.Common.{◌≡◌, ℕ, zero, suc, ◌+◌, ◌*◌, ◌/◌, ◌%◌, ◌^◌, ◌<◌, ◌≤◌, List, [], ◌∷◌, ◌++◌, length}
 use Rattle.std.proofs.Common.{get_or, Some, ◌⊎◌, inl, inr, refl, sym, ap, ◌∙◌, subst, arith, length-append}
 use Rattle.std.specs.Prelude.{All, replicate, slice_get}
@@ -18,7 +18,7 @@ use Rattle.omega_network.specs.Networks.{no_switch, records_behind, second_of, s
 use Rattle.omega_network.proofs.Empty.{empty_net}
 use Rattle.omega_network.proofs.Switches.{place_within}
 
--- the first switches of a new network
+-- The switches are the first `count` of a new network.
 pub record SoFar (k c b r count : ℕ) (switches : List SwitchState) : Type 0 where
   -- There are `count` switches.
   pub all : length switches ≡ count

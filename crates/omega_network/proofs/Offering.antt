@@ -1,4 +1,4 @@
--- The network after a request was offered to a switch, and what a call says of it.
+-- The network after a request is offered to a switch, as a call leaves it.
 use Rattle.std.proofs.Common.{◌≡◌, ℕ, suc, ◌+◌, ◌*◌, ◌/◌, ◌%◌, ◌^◌, ◌<◌, Bool, length, map, get_or}
 use Rattle.std.proofs.Common.{set, ◌⊎◌, inl, inr, refl, sym, ap, ◌∙◌, subst, arith, length-set}
 use Rattle.std.specs.Prelude.{IsTrue, ◌↔◌}
@@ -64,7 +64,7 @@ found_is {n} {m} {s} {w} {number} {u} view is stage wire exact at =
 abbrev pub left_by : NetworkLists → (number : ℕ) → PoolLists → SwitchState → NetworkLists
 left_by n number pool t = record { k = n.k; c = n.c; b = n.b; r = n.r; pool = pool; switches = set n.switches number t }
 
--- ---- the network then
+-- ---- the network after the offer
 
 module _ (n : NetworkLists) (is : IsNetwork n) (s w : ℕ) (stage : s < n.k) (wire : w < 2 ^ n.k) (x : Request) where
   abbrev t : SwitchState
@@ -97,7 +97,7 @@ module _ (n : NetworkLists) (is : IsNetwork n) (s w : ℕ) (stage : s < n.k) (wi
       ∙ requests_put n (suc s) w wire r.1.requests there
 
   module _ (may : MayLead n x.leader) where
-    -- who leads one of these requests is no second
+    -- A leader of a request that is queued after the offer is the second of no record.
     none : (s' w' : ℕ) (e : Record) → In e (records_behind n s' w') → IsFree n.pool e.second → In e.second (map leader_of_request r.1.requests) → ⊥
     none s' w' e m free o = go (fact.leaders e.second o)
       where
@@ -136,7 +136,7 @@ module _ (n : NetworkLists) (is : IsNetwork n) (s w : ℕ) (stage : s < n.k) (wi
     offered_net =
         switch_records_put first first_is s w stage wire r.1.records ∙ ap (λ (net : Net). put_records net s w r.1.records) first_net
 
--- ---- as a call reports it
+-- ---- for the calls
 
 pub record Offers (m : NetworkLists) (s w : ℕ) (x : Request) (answer : UpMove) (l : NetworkLists) : Type 0 where
   -- The lists that the call leaves are those of a network.

@@ -1,4 +1,4 @@
--- A request that is offered to a switch, in a network of places.
+-- A request offered to a switch, in a network of places.
 use Rattle.std.proofs.Common.{◌≡◌, ℕ, suc, Bool, true, false, List, [], ◌∷◌, ◌++◌, length, map, nat_lt, Option, Some, None, ◌⊎◌, inl, inr, refl, sym, ap, subst}
 use Rattle.std.specs.Prelude.{if◌then◌else◌}
 use Rattle.std.proofs.lemmas.List.{map-append}
@@ -63,17 +63,17 @@ combination_made b r x queue records j e = go (nat_lt (length records) b) e
 
 -- ---- at the place
 
--- the network after what became of a request
+-- the network after an output has become this one
 abbrev pub after : Net → (s w : ℕ) → OutputLists → Net
 after net s w o = put_records (put_requests net (suc s) w o.requests) s w o.records
 
--- what became of the records of an output
+-- The records of an output are as before, or have one more.
 pub data Became (x : Request) (o r : OutputLists) : Type 0 where
   same_records : r.records ≡ o.records → Became x o r
   one_more : (e : Record) → r.records ≡ o.records ++ e ∷ [] → e.second ≡ x.leader → map leader_of_request r.requests ≡ map leader_of_request o.requests →
       Became x o r
 
--- an output with what stands at a place
+-- the output of a place, with its requests and records
 abbrev pub output_at : Sizes → Net → (s w : ℕ) → OutputLists
 output_at z net s w = record { c = z.c; b = z.b; r = z.r; requests = net.requests (suc s) w; records = net.records s w }
 
@@ -140,7 +140,7 @@ module _ (z : Sizes) (net : Net) (s w : ℕ) (x : Request) where
       by_combination (combination z.b z.r x (net.requests (suc s) w) (net.records s w))
       (λ i e. combination_made z.b z.r x (net.requests (suc s) w) (net.records s w) i e)
 
--- whether a move stalls
+-- A move stalls exactly if the answer is that the queue is full.
 pub stalls : (a : Accepted) (p : ℕ) → (up_of a p ≡ up.Stalled → a ≡ Full) × (a ≡ Full → up_of a p ≡ up.Stalled)
 stalls Queued p = ((λ e. absurd (let no : up.Moved ≡ up.Stalled = e in cc)), (λ e. absurd (let no : Queued ≡ Full = e in cc)))
 stalls (Combined first) p = ((λ e. absurd (let no : up.Combined first p ≡ up.Stalled = e in cc)), (λ e. absurd (let no : Combined first ≡ Full = e in cc)))

@@ -1,4 +1,4 @@
--- Replies that are put at a switch, in a network of places.
+-- Replies put at a switch, in a network of places.
 use Rattle.std.proofs.Common.{◌≡◌, ℕ, suc, ◌+◌, ◌*◌, ◌/◌, ◌%◌, ◌^◌, ◌<◌, ◌≤◌, Bool, true, false}
 use Rattle.std.proofs.Common.{◌&&◌, List, [], ◌∷◌, ◌++◌, length, map, ◌⊎◌, inl, inr, refl, sym}
 use Rattle.std.proofs.Common.{ap, ◌∙◌, subst, arith, length-set, eqb-true, eq-eqb}
@@ -31,7 +31,7 @@ use Rattle.omega_network.proofs.Kept.{IsLike, pool_kept, records_kept}
 use Rattle.omega_network.proofs.SecondReplies.{queues_changed, records_dropped, was_there}
 use Rattle.omega_network.proofs.Switches.{queue_within, with_pool, with_switch}
 
--- ---- what putting leaves
+-- ---- what does not change
 
 module _ (i : ℕ) (qs : List ℕ) where
   pub put_like : (ys : List Reply) (pool : PoolLists) → IsLike pool (put_replies i qs ys pool)
@@ -45,7 +45,7 @@ module _ (i : ℕ) (qs : List ℕ) where
         replies = rest.replies ∙ length-set pool.replies (input_for i qs y.leader) (replies_at pool (input_for i qs y.leader) ++ y ∷ []);
       }
 
-  -- the cell of another stays free
+  -- The cell of a processor that leads none of the replies stays free.
   pub put_free : (ys : List Reply) (pool : PoolLists) (p : ℕ) → (In p (map leader_of_reply ys) → ⊥) → IsFree pool p → IsFree (put_replies i qs ys pool) p
   unfolding put_replies
   put_free [] pool p none free = free
@@ -86,7 +86,7 @@ module _ (n : NetworkLists) (s w i : ℕ) (qs : List ℕ) (stage : s ≤ n.k) (w
       (length-set pool.replies (input_for i qs y.leader) (replies_at pool (input_for i qs y.leader) ++ y ∷ []) ∙ all)
       ∙ ap (push_all (wire_before n.k s w) s ys) (one_put pool y all)
 
-  -- room at the inputs is room on the wires
+  -- There is room at the inputs exactly if there is room on the wires.
   pub rooms : (c : ℕ) (ys : List Reply) (pool : PoolLists) →
       moves.has_room c (wire_before n.k s w) s (net_of (with_pool n pool)) ys ≡ has_room c i qs pool ys
   unfolding has_room
@@ -99,12 +99,12 @@ answered_same : (es : List Record) → down_of (answered_for es) ≡ moves.answe
 answered_same [] = refl
 answered_same (e ∷ es) = refl
 
--- the leaders of the replies for the seconds
+-- The leaders of the seconds' replies are the seconds.
 leaders_are : (v : ℕ) (es : List Record) → map leader_of_reply (map (reply_of v) es) ≡ map second_of es
 leaders_are v [] = refl
 leaders_are v (e ∷ es) = ap (λ ps. e.second ∷ ps) (leaders_are v es)
 
--- the switch's answer, and the network then, are what the move's definition says
+-- The switch's answer is the outcome of the move, and the network then is the one after the move.
 pub record Answers (n : NetworkLists) (s i : ℕ) (r : Answered × SwitchState × PoolLists) (fact : DownMove × Net) : Type 0 where
   -- The switch's answer is the outcome of the move.
   pub answer : down_of r.0 ≡ fact.0
@@ -173,7 +173,7 @@ module _ (n : NetworkLists) (is : IsNetwork n) (s w : ℕ) (stage : s < n.k) (wi
       go true e = rw (e, room ∙ e) (record { answer = answered_same (records_of x.leader own); net_is = put })
       go false e = rw (e, room ∙ e) (record { answer = refl; net_is = ap net_of stays })
 
-  -- ---- what it keeps
+  -- ---- the network stays one
 
   is_own : (e : Record) → In e own → In e (records_behind n s w)
   is_own e m = subst (In e) own_is m
@@ -190,7 +190,7 @@ module _ (n : NetworkLists) (is : IsNetwork n) (s w : ℕ) (stage : s < n.k) (wi
       (h.0, (λ q. let no : false ≡ true = ap not (sym (eq-eqb e.leader x.leader q)) ∙ h.1 in cc))
 
   module _ (may : MayLead n x.leader) where
-    -- a reply goes to the leader or to the second of one of its records
+    -- Each reply is for the leader, or for the second of one of its records.
     leads : (p : ℕ) → In p (map leader_of_reply ys) → (p ≡ x.leader) ⊎ ((e : Record) × In e (records_of x.leader own) × (e.second ≡ p))
     leads p (inl e) = inl e
     leads p (inr m) = inr (In-map_from second_of p (records_of x.leader own) (subst (In p) (leaders_are x.value (records_of x.leader own)) m))
@@ -230,7 +230,7 @@ module _ (n : NetworkLists) (is : IsNetwork n) (s w : ℕ) (stage : s < n.k) (wi
     left_is = records_kept n is s w stage wire (records_but x.leader own) (records_dropped (records_behind n) s w (records_but x.leader own)
         (λ e m. is_own e ((one_but e m).0)) n.pool is.seconds (ApartBy-filter second_of (λ (f : Record). not (f.leader == x.leader)) own apart))
 
-    -- who is still the second of a record gets no reply
+    -- The seconds of the records that are left get no reply.
     none : (s' w' : ℕ) (e : Record) → In e (records_behind left s' w') → In e.second (map leader_of_reply ys) → ⊥
     none s' w' e m o = go (leads e.second o)
       where
@@ -267,7 +267,7 @@ module _ (n : NetworkLists) (is : IsNetwork n) (s w : ℕ) (stage : s < n.k) (wi
         go true e = rw e whole
         go false e = rw e (subst IsNetwork (sym stays) is)
 
--- whether a move stalls
+-- A move stalls exactly if the answer is that there is no room.
 pub down_stalls : (a : Answered) → (down_of a ≡ down.Stalled → a ≡ NoRoom) × (a ≡ NoRoom → down_of a ≡ down.Stalled)
 down_stalls One = ((λ e. absurd (let no : down.Moved ≡ down.Stalled = e in cc)), (λ e. absurd (let no : One ≡ NoRoom = e in cc)))
 down_stalls (Many p) = ((λ e. absurd (let no : down.Answered p ≡ down.Stalled = e in cc)), (λ e. absurd (let no : Many p ≡ NoRoom = e in cc)))

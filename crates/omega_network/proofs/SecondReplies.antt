@@ -1,4 +1,4 @@
--- The cells of those who are the second of a record stay free, and each is the second of one.
+-- The seconds of records keep their free cells, and each is the second of one record.
 use Rattle.std.proofs.Common.{◌≡◌, ℕ, ◌<◌, List, [], ◌∷◌, ◌++◌, ◌⊎◌, inl, inr, sym, ap, ◌∙◌, subst}
 use Rattle.messages.specs.declared.message.Record.{Record}
 use Rattle.messages.specs.Places.{ApartBy, In, put2}
@@ -6,7 +6,7 @@ use Rattle.messages.proofs.Lemmas.{ApartBy-push, In-append, In-put2, each_put2}
 use Rattle.combining_switch.specs.Pools.{IsFree, PoolLists}
 use Rattle.omega_network.specs.Networks.{AreSeconds, second_of}
 
--- the queues change
+-- If queues change and the cells of the seconds stay free, the condition on seconds still holds.
 pub queues_changed : (pool pool' : PoolLists) (R : ℕ → ℕ → List Record) → AreSeconds pool R → pool.cells ≡ pool'.cells →
     ((s w : ℕ) (e : Record) → In e (R s w) → IsFree pool e.second → IsFree pool' e.second) → AreSeconds pool' R
 queues_changed pool pool' R is cells free = record {
@@ -16,7 +16,7 @@ queues_changed pool pool' R is cells free = record {
   once = is.once;
 }
 
--- records go
+-- some records of an output are dropped
 module _ (R : ℕ → ℕ → List Record) (s w : ℕ) (es : List Record) (of_them : (e : Record) → In e es → In e (R s w)) where
   -- A record that is left after others went was in the network before.
   pub was_there : (s' w' : ℕ) (f : Record) → In f (put2 R s w es s' w') → In f (R s' w')
@@ -35,7 +35,7 @@ module _ (R : ℕ → ℕ → List Record) (s w : ℕ) (es : List Record) (of_th
     once = λ s' w' t v f g m o. is.once s' w' t v f g (was_there s' w' f m) (was_there t v g o);
   }
 
--- a record comes, where another stood before or at its own place
+-- The record was in the network before, or is the new one at its place.
 data Found (R : ℕ → ℕ → List Record) (s w : ℕ) (e : Record) (s' w' : ℕ) (f : Record) : Type 0 where
   is_old : In f (R s' w') → Found R s w e s' w' f
   is_new : s' ≡ s → w' ≡ w → f ≡ e → Found R s w e s' w' f

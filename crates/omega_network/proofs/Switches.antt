@@ -1,4 +1,4 @@
--- The numbers of queues and switches, and what is read of the switches after one is replaced.
+-- The numbers of queues and switches, and the switches after one is replaced.
 use Rattle.std.proofs.Common.{◌≡◌, ℕ, zero, suc, ◌+◌, ◌-◌, ◌*◌, ◌/◌, ◌%◌, ◌^◌, ◌<◌, ◌≤◌, length, sym, ap, ◌∙◌}
 use Rattle.std.proofs.Common.{arith, get_or-set_same, lit≤, get_or-set_other, mul-le-mul_right, pow-suc}
 use Rattle.std.specs.Prelude.{slice_set}
@@ -53,7 +53,7 @@ place_is k s w l =
 pub half_of_wire : (k s w : ℕ) → s < k → w < 2 ^ k → w / 2 < half k
 half_of_wire k s w l m = let e = two_halves k s l in omega arith
 
--- up to six stages have up to 64 wires
+-- Up to six stages have at most 64 wires.
 pub few_wires : (k : ℕ) → k ≤ 6 → 1 * 2 ^ k % 256 ≤ 64
 few_wires zero l = lit≤ tt
 few_wires (suc zero) l = lit≤ tt

@@ -1,4 +1,4 @@
--- A message that is put into a queue or taken out of it, in a network of places.
+-- A message put into a queue or taken out of it, in a network of places.
 use Rattle.std.proofs.Common.{◌≡◌, ℕ, suc, ◌^◌, ◌<◌, ◌≤◌, List, [], ◌∷◌, ◌++◌, length, map, drop, Option}
 use Rattle.std.proofs.Common.{Some, None, ◌⊎◌, inl, inr, refl, sym, ap, ◌∙◌, subst, length-set}
 use Rattle.std.specs.Prelude.{◌*◌, IfSome, slice_get, slice_index_or}
@@ -55,7 +55,7 @@ first_in f (y ∷ ys) x e = let same : x ≡ y = cc in inl (ap f same)
 
 -- ---- requests, and replies
 
--- a kind of message: how a pool has its queues, and a network its places, and what is known of them
+-- a kind of message: the queues of a pool, the places of a network, and what is known of them
 pub record Kind (X : Type 0) : Type 0 where
   -- The processor that leads a message.
   pub leader : X → ℕ
@@ -139,7 +139,7 @@ module _ {X : Type 0} (K : Kind X) {n m : NetworkLists} {d w q : ℕ} (found : Q
   pub before_is : here ≡ K.before m d w
   before_is = ap (λ p. slice_index_or (K.queues n.pool) p []) found.at ∙ sym (K.there n d w found.wire) ∙ ap (λ (l : NetworkLists). K.before l d w) found.view
 
-  -- other messages in the queue, led by some of those before or by one who is no second
+  -- other messages in the queue, led by leaders of those before or by a processor that is no second
   module _ (xs : List X) {pool : PoolLists} (pool_is : pool ≡ K.with_queue n.pool q xs) where
     net_is : net_of (with_pool n pool) ≡ K.put (net_of m) d w xs
     net_is =
@@ -160,7 +160,7 @@ module _ {X : Type 0} (K : Kind X) {n m : NetworkLists} {d w q : ℕ} (found : Q
         none s v e m free (inl o) = K.none_led n.pool e.second free q o
         none s v e m free (inr none_of) = none_of s v e m refl
 
-  -- the first message is taken
+  -- the first message of the queue is taken
   module _ {pool : PoolLists} (taken : pool ≡ K.with_queue n.pool q (drop 1 here)) where
     -- A network without the first message of a queue is again a network.
     pub taken_kept : IsNetwork (with_pool n pool)
@@ -170,7 +170,7 @@ module _ {X : Type 0} (K : Kind X) {n m : NetworkLists} {d w q : ℕ} (found : Q
     pub taken_net : net_of (with_pool n pool) ≡ K.put (net_of m) d w (drop 1 (K.before m d w))
     taken_net = net_is (drop 1 here) taken ∙ ap (λ xs. K.put (net_of m) d w (drop 1 xs)) before_is
 
-    -- and who led it may lead one again
+    -- The leader of a message that was taken may lead one again.
     pub leader_may : (o : Option X) → o ≡ slice_get here 0 → IfSome o (λ x. K.leader x < n.pool.cells) → IfSome o (λ x. IsFree pool (K.leader x))
         → IfSome o (λ x. MayLead (with_pool n pool) (K.leader x))
     unfolding records_behind
@@ -182,7 +182,7 @@ module _ {X : Type 0} (K : Kind X) {n m : NetworkLists} {d w q : ℕ} (found : Q
           (subst (λ p. In p (map K.leader here)) (sym same) (first_in K.leader here x first));
     }
 
-  -- a message comes of one who may lead it
+  -- a message whose leader may lead it is put in
   module _ (x : X) {pool : PoolLists} (put : pool ≡ K.with_queue n.pool q (here ++ x ∷ [])) where
     -- A network with one more message in a queue is again a network, if the message's leader may lead it.
     pub put_kept : MayLead n (K.leader x) → IsNetwork (with_pool n pool)

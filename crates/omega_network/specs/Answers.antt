@@ -1,4 +1,4 @@
--- What a move answers, by what the switch answered.
+-- The outcome of a move, by the switch's answer.
 use Rattle.std.specs.Prelude.{ℕ}
 use Rattle.messages.specs.declared.moves.UpMove.{UpMove}
 use Rattle.messages.specs.declared.moves.UpMove.TheVariants as up
@@ -9,7 +9,7 @@ use Rattle.combining_switch.specs.declared.answers.Accepted.TheVariants.{Queued,
 use Rattle.combining_switch.specs.declared.answers.Answered.{Answered}
 use Rattle.combining_switch.specs.declared.answers.Answered.TheVariants.{One, Many, NoRoom}
 
--- for a request that this processor leads
+-- for a request with this leader
 abbrev pub up_of : Accepted → (second : ℕ) → UpMove
 up_of Queued p = up.Moved
 up_of (Combined first) p = up.Combined first p

@@ -1,4 +1,4 @@
--- What a contract sees of a `Network`, and how its lists are read as a network of places.
+-- A `Network` as contracts see it, and how its lists are read as a network of places.
 use Rattle.std.specs.Prelude.{◌≡◌, ◌==◌, ◌||◌, ◌≤◌, ◌<◌, Bool, Some, slice_get, ℕ, suc, ◌+◌, ◌-◌, ◌*◌, ◌/◌}
 use Rattle.std.specs.Prelude.{◌%◌, ◌^◌, List, [], ◌∷◌, length, nat_lt, slice_index_or, if◌then◌else◌}
 use Rattle.omega_wires.specs.Wires.{bit_of_stage}
@@ -11,8 +11,8 @@ use Rattle.combining_switch.specs.Pools.{IsFree, PoolLists, replies_at, requests
 use Rattle.std.specs.List.{list_any}
 use Rattle.combining_switch.specs.Switches.{SwitchState, records_at}
 
--- k stages of switches, each with queues of c messages and wait buffers of b records, all queues in one pool. An entry
--- of a queue is combined up to r times. The switches stand stage by stage.
+-- k stages of switches, each with queues of c messages and wait buffers of b records, all queues in one pool; an entry
+-- of a queue is combined up to r times, and the switches are in order, stage by stage
 pub record NetworkLists : Type 0 where
   pub k : ℕ
   pub c : ℕ
@@ -24,7 +24,7 @@ pub record NetworkLists : Type 0 where
 abbrev pub sizes_of : NetworkLists → Sizes
 sizes_of n = record { k = n.k; c = n.c; b = n.b; r = n.r }
 
--- how many switches a stage has
+-- the number of switches in a stage
 abbrev pub half : (k : ℕ) → ℕ
 half k = 2 ^ (k - 1)
 
@@ -38,9 +38,9 @@ switch_at n s i = slice_index_or n.switches (s * half n.k + i) no_switch
 abbrev pub place : (k depth wire : ℕ) → ℕ
 place k d w = d * 2 ^ k + w
 
--- ---- what stands at each place
+-- ---- the messages and records at each place
 
--- what stands on a wire, where there is one
+-- the messages on a wire, if the network has the wire
 abbrev pub on_wire : {X : Type 0} → (k wire : ℕ) → List X → List X
 on_wire k w xs = if nat_lt w (2 ^ k) then xs else []
 
@@ -56,10 +56,10 @@ replies_before n d w = on_wire n.k w (replies_at n.pool (place n.k d w))
 abbrev pub net_of : NetworkLists → Net
 net_of n = record { requests = requests_before n; records = records_behind n; replies = replies_before n }
 
--- ---- what every network keeps
+-- ---- the invariant of a network
 
--- The switch of number i in stage s, with these records at its outputs: those are the wires 2 i and 2 i + 1 after it,
--- and its inputs are the wires that the shuffle brings there.
+-- the switch with number i in stage s, with these records at its outputs; the outputs are the wires 2 i and 2 i + 1
+-- after it, and its inputs are the wires that the shuffle brings there
 abbrev pub the_switch : (k c b r s i : ℕ) → (zero one : List Record) → SwitchState
 the_switch k c b r s i es fs = record {
   c = c;
@@ -72,7 +72,7 @@ the_switch k c b r s i es fs = record {
 abbrev pub second_of : Record → ℕ
 second_of e = e.second
 
--- the cells of those who are the second of a record are free, and each is the second of one
+-- The second of each record has a free cell, and is the second of no other record.
 pub record AreSeconds (pool : PoolLists) (records : ℕ → ℕ → List Record) : Type 0 where
   pub cells : (s w : ℕ) (e : Record) → In e (records s w) → e.second < pool.cells
   pub free : (s w : ℕ) (e : Record) → In e (records s w) → IsFree pool e.second
@@ -80,7 +80,8 @@ pub record AreSeconds (pool : PoolLists) (records : ℕ → ℕ → List Record)
   pub once : (s w s' w' : ℕ) (e e' : Record) → In e (records s w) → In e' (records s' w') → e.second ≡ e'.second →
       (s ≡ s') × (w ≡ w')
 
--- up to 64 processors and modules, a queue of each kind for each depth and wire, and the switches of each stage
+-- There are up to 64 processors and modules, a queue of each kind for each depth and wire, and the switches of each
+-- stage.
 pub record IsNetwork (n : NetworkLists) : Type 0 where
   pub few : n.k ≤ 6
   pub all_cells : n.pool.cells ≡ 2 ^ n.k
@@ -91,13 +92,13 @@ pub record IsNetwork (n : NetworkLists) : Type 0 where
       switch_at n s i ≡ the_switch n.k n.c n.b n.r s i (records_at (switch_at n s i) 0) (records_at (switch_at n s i) 1)
   pub seconds : AreSeconds n.pool (records_behind n)
 
--- a message that this processor leads may be put somewhere: nothing leads it, and no record has it as its second
+-- The processor may lead a message that is put in: it leads none, and is the second of no record.
 pub record MayLead (n : NetworkLists) (p : ℕ) : Type 0 where
   pub below : p < n.pool.cells
   pub free : IsFree n.pool p
   pub no_second : (s w : ℕ) (e : Record) → In e (records_behind n s w) → e.second ≡ p → ⊥
 
--- ---- what is looked for in all of it
+-- ---- looks through the whole network
 
 abbrev pub HasNoMessage : PoolLists → Type 0
 HasNoMessage pool = (q : ℕ) → (requests_at pool q ≡ []) × (replies_at pool q ≡ [])
@@ -105,14 +106,14 @@ HasNoMessage pool = (q : ℕ) → (requests_at pool q ≡ []) × (replies_at poo
 abbrev pub HasNoRecord : SwitchState → Type 0
 HasNoRecord t = (records_at t 0 ≡ []) × (records_at t 1 ≡ [])
 
--- whether one of the records names p, either way, and whether one has p as its second
+-- whether one of the records names p as its leader or second, and whether one has p as its second
 abbrev pub is_named : (p : ℕ) → List Record → Bool
 is_named p es = list_any (λ e. e.leader == p || e.second == p) es
 
 abbrev pub is_second : (p : ℕ) → List Record → Bool
 is_second p es = list_any (λ e. e.second == p) es
 
--- a network's switches, all without records
+-- The switches are those of a new network, all without records.
 pub record AreNew (k c b r : ℕ) (switches : List SwitchState) : Type 0 where
   pub all : length switches ≡ k * half k
   pub each : (i : ℕ) → i < length switches →

@@ -1,4 +1,4 @@
-//! Networks with an index.
+//! Networks with an index of their messages.
 
 ghost use Rattle.std.specs.Prelude.{◌≡◌, ◌<◌, ◌≤◌, ◌==◌, ◌&&◌, ◌↔◌, ◌^◌, suc, ℕ, [], length, slice_get};
 ghost use Rattle.std.specs.Prelude.{slice_index_or, is_some, false, IfOk, IsTrue, if◌then◌else◌};
@@ -18,8 +18,8 @@ use std::marker::Model;
 /// Depths 0 to 6: before each of six stages, and after the last.
 const DEPTHS: usize = 7;
 
-/// A network, and for each depth the wires on which messages stand. Wires are numbered from 0; at depth 0
-/// they are the processors', and at depth `k` the modules'.
+/// A network, and for each depth the wires that have messages. Wires are numbered from 0; at depth 0 they are the
+/// processors', and at depth `k` the modules'.
 #[derive(Drop)]
 pub struct IndexedNetwork {
     network: Network,
@@ -39,11 +39,11 @@ impl Model for IndexedNetwork {
 }
 
 impl IndexedNetwork {
-    /// An empty network, as [`Network::new`] makes it.
+    /// An empty network, like that of [`Network::new`].
     ///
     /// # Errors
     ///
-    /// `AllocError` where there is no memory for it.
+    /// `AllocError` if there is no memory for it.
     pub fn new(alloc: Global, k: u8, c: u8, b: u8, r: u8) -> Result<Self, AllocError>
         requires stages { k ≤ 6 }
         requires queues { (2 ≤ c) × (c ≤ 16) }
@@ -60,7 +60,7 @@ impl IndexedNetwork {
         })
     }
 
-    /// The network itself: what stands at each place, and whom its messages name.
+    /// The network itself, to ask for the messages at each place and for whom they name.
     #[inline(always)]
     pub fn as_network(&self) -> &Network
         ensures { result.now ≡ self.now }
@@ -68,7 +68,7 @@ impl IndexedNetwork {
         &self.network
     }
 
-    /// How many stages there are.
+    /// The number of stages.
     pub fn stages(&self) -> u8
         ensures stages { result ≡ self.now.k }
         ensures few { result ≤ 6 }
@@ -84,7 +84,7 @@ impl IndexedNetwork {
         !self.has_request(0, p)
     }
 
-    /// Puts a processor's request into its slot, which must be free. Nothing may name the processor.
+    /// Puts a processor's request into its slot, which must be free. No message or record may name the processor.
     pub fn inject(&mut self, p: u8, request: Request)
         requires processor { p < 2 ^ self.old.k }
         requires leader { request.leader ≡ p }
@@ -114,7 +114,7 @@ impl IndexedNetwork {
         }
     }
 
-    /// Moves the first request on a wire before a stage, and looks where it was and where it may be.
+    /// Moves the first request on a wire before a stage, and updates the index where it was and where it may be.
     #[inline(never)]
     fn move_up(&mut self, stage: u8, wire: u8) -> UpMove
         requires stage { stage < self.old.k }
@@ -141,7 +141,7 @@ impl IndexedNetwork {
         ensures after { net_of self.new ≡ (moved_down (sizes_of self.old) (net_of self.old) stage wire).1 }
         ensures sizes { sizes_of self.new ≡ sizes_of self.old }
     {
-        // There are few stages.
+        // For the proof: a network has at most six stages.
         let _ = &self.network;
         if self.has_reply(stage + 1, wire) {
             self.move_down(stage, wire)
@@ -151,7 +151,7 @@ impl IndexedNetwork {
         }
     }
 
-    /// Moves the first reply on a wire after a stage back, and looks where it was and where it may be.
+    /// Moves the first reply on a wire after a stage back, and updates the index where it was and where it may be.
     #[inline(never)]
     fn move_down(&mut self, stage: u8, wire: u8) -> DownMove
         requires stage { stage < self.old.k }
@@ -160,7 +160,7 @@ impl IndexedNetwork {
         ensures after { net_of self.new ≡ (moved_down (sizes_of self.old) (net_of self.old) stage wire).1 }
         ensures sizes { sizes_of self.new ≡ sizes_of self.old }
     {
-        // There are few stages.
+        // For the proof: a network has at most six stages.
         let k = self.stages();
         let output = 2 * (wire / 2);
         let first = rotate_right(k, output);
@@ -204,8 +204,8 @@ impl IndexedNetwork {
         !self.has_reply(self.stages(), m)
     }
 
-    /// Puts a reply into a module's slot, which must be free. No message may be led by the reply's
-    /// leader, and no record may have it as its second.
+    /// Puts a reply into a module's slot, which must be free. The reply's leader may lead no message, and may be the
+    /// second of no record.
     pub fn module_reply(&mut self, m: u8, reply: Reply)
         requires at_module { m < 2 ^ self.old.k }
         requires free { (net_of self.old).replies self.old.k m ≡ [] }
@@ -242,7 +242,7 @@ impl IndexedNetwork {
         reply
     }
 
-    /// Whether a request stands before a stage on a wire, or at a module for stage `k`.
+    /// Whether there is a request before a stage on a wire, or at a module if the stage is `k`.
     #[inline(always)]
     pub fn has_request(&self, stage: u8, wire: u8) -> bool
         requires stage { stage ≤ self.now.k }
@@ -252,7 +252,7 @@ impl IndexedNetwork {
         self.request_wires(stage).contains(wire)
     }
 
-    /// Whether a reply stands before a stage on a wire, or at a module for stage `k`.
+    /// Whether there is a reply before a stage on a wire, or at a module if the stage is `k`.
     #[inline(always)]
     pub fn has_reply(&self, stage: u8, wire: u8) -> bool
         requires stage { stage ≤ self.now.k }
@@ -262,7 +262,7 @@ impl IndexedNetwork {
         self.reply_wires(stage).contains(wire)
     }
 
-    /// The wires on which a request stands before a stage, or for stage `k` the modules at which one does.
+    /// The wires with a request before a stage, or the modules with one if the stage is `k`.
     #[inline(always)]
     pub fn request_wires(&self, stage: u8) -> WireSet
         requires { stage ≤ self.now.k }
@@ -274,7 +274,7 @@ impl IndexedNetwork {
         self.requests[usize::from(stage)]
     }
 
-    /// The wires on which a reply stands before a stage, or for stage `k` the modules at which one does.
+    /// The wires with a reply before a stage, or the modules with one if the stage is `k`.
     #[inline(always)]
     pub fn reply_wires(&self, stage: u8) -> WireSet
         requires { stage ≤ self.now.k }
@@ -287,7 +287,7 @@ impl IndexedNetwork {
     }
 }
 
-/// Looks whether a request stands before a stage on a wire.
+/// Updates the index of requests for a wire at a depth.
 fn look_for_request(network: &Network, sets: &mut [WireSet; DEPTHS], depth: u8, wire: u8)
     requires stages { network.now.k ≤ 6 }
     requires depth { depth ≤ network.now.k }
@@ -298,7 +298,7 @@ fn look_for_request(network: &Network, sets: &mut [WireSet; DEPTHS], depth: u8, 
     set_wire(sets, depth, wire, is_there);
 }
 
-/// Looks whether a reply stands before a stage on a wire.
+/// Updates the index of replies for a wire at a depth.
 fn look_for_reply(network: &Network, sets: &mut [WireSet; DEPTHS], depth: u8, wire: u8)
     requires stages { network.now.k ≤ 6 }
     requires depth { depth ≤ network.now.k }
@@ -309,7 +309,7 @@ fn look_for_reply(network: &Network, sets: &mut [WireSet; DEPTHS], depth: u8, wi
     set_wire(sets, depth, wire, is_there);
 }
 
-/// Puts a wire into the set of a depth, or takes it out.
+/// Adds a wire to the set of a depth, or removes it.
 fn set_wire(sets: &mut [WireSet; DEPTHS], depth: u8, wire: u8, is_there: bool)
     requires depth { depth < 7 }
     requires wire { wire < 64 }

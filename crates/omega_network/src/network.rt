@@ -22,14 +22,13 @@ use phi_algebra::Phi;
 use std::alloc::{AllocError, Global};
 use std::marker::Model;
 
-/// A network of `k` stages, whose queues have room for `c` messages and whose wait buffers have room
-/// for `b` records. An entry of a queue is combined up to `r` times. Processors, modules and wires are numbered from
-/// 0, and stages too.
+/// A network of `k` stages, with queues of up to `c` messages and wait buffers of up to `b` records. An entry of a
+/// queue is combined up to `r` times. Processors, modules, wires and stages are numbered from 0.
 #[derive(Drop)]
 pub struct Network {
-    /// The queues before each stage and after the last, by depths and then by wires.
+    /// The queues before each stage and after the last, ordered by depth and then by wire.
     pool: Pool,
-    /// The switches stage by stage.
+    /// The switches, stage by stage.
     switches: Vec<Switch>,
     k: u8,
     c: u8,
@@ -55,13 +54,13 @@ impl Model for Network {
 }
 
 impl Network {
-    /// An empty network of `k` stages, 0 to 6, with queues of `c` messages, 2 to 16, and wait buffers
-    /// of `b` records, 0 to 16. An entry of a queue is combined up to `r` times, 1 to 3. With no stage the processor's
-    /// slot is the module's.
+    /// An empty network of `k` stages, 0 to 6, with queues of `c` messages, 2 to 16, and wait buffers of `b` records, 0
+    /// to 16. An entry of a queue is combined up to `r` times, 1 to 3. Without a stage, the processor's slot is the
+    /// module's.
     ///
     /// # Errors
     ///
-    /// `AllocError` where there is no memory for it.
+    /// `AllocError` if there is no memory for it.
     pub fn new(alloc: Global, k: u8, c: u8, b: u8, r: u8) -> Result<Self, AllocError>
         requires stages { k ≤ 6 }
         requires queues { (2 ≤ c) × (c ≤ 16) }
@@ -70,7 +69,7 @@ impl Network {
         ensures empty { IfOk result (λ n. IsEmptyNet (net_of n)) }
         ensures sizes { IfOk result (λ n. sizes_of n ≡ record { k = k; c = c; b = b; r = r }) }
     {
-        // The proof needs the type of a request's function named.
+        // The proof needs the type of a request's function to be named.
         let _phi = Phi::identity();
         let queues = queues_of(k);
         Ok(Network {
@@ -83,37 +82,37 @@ impl Network {
         })
     }
 
-    /// How many stages there are.
+    /// The number of stages.
     pub fn stages(&self) -> u8
         ensures { result ≡ self.now.k }
     {
         self.k
     }
 
-    /// How many processors there are, and as many modules, and wires before and after each stage.
+    /// The number of processors, of modules, and of wires before and after each stage.
     pub fn wires(&self) -> u8
         ensures { result ≡ 2 ^ self.now.k }
     {
         1 << self.k
     }
 
-    /// Whether no request, no record and no reply stands anywhere.
+    /// Whether the network has no request, no record and no reply.
     pub fn is_empty(&self) -> bool
         ensures { IsTrue result ↔ IsEmptyNet (net_of self.now) }
     {
         has_no_message(&self.pool, queues_of(self.k)) && have_no_record(&self.switches)
     }
 
-    /// Whether a message or a record names a processor: as the leader, or as the second of a record.
-    /// It looks through all queues and wait buffers.
+    /// Whether a message or a record names a processor, as the leader or as the second of a record. It looks through
+    /// all queues and wait buffers.
     pub fn names(&self, p: u8) -> bool
         ensures { IsTrue result ↔ Names (net_of self.now) p }
     {
         !self.pool.is_free(p) || are_named(&self.switches, p)
     }
 
-    /// Whether no message is led by a processor, and no record has it as its second, so that a reply
-    /// for it may be put in. It looks through all queues and wait buffers.
+    /// Whether a processor leads no message and is the second of no record, so that a reply for it may be put in. It
+    /// looks through all queues and wait buffers.
     pub fn may_reply(&self, p: u8) -> bool
         ensures { IsTrue result ↔ Unnamed (net_of self.now) p }
     {
@@ -128,7 +127,7 @@ impl Network {
         self.request_before(0, p).is_none()
     }
 
-    /// Puts a processor's request into its slot, which must be free. Nothing may name the processor.
+    /// Puts a processor's request into its slot, which must be free. No message or record may name the processor.
     #[tactic(auto, unfolding(messages::specs::Moves::injected))]
     pub fn inject(&mut self, p: u8, request: Request)
         requires processor { p < 2 ^ self.old.k }
@@ -142,8 +141,8 @@ impl Network {
         self.pool.push_request(queue, request);
     }
 
-    /// Moves the first request on a wire before a stage: it is offered to the output that its word's
-    /// module lies after.
+    /// Moves the first request on a wire before a stage: it is offered to the output that leads to the module of its
+    /// word.
     #[inline(always)]
     pub fn up(&mut self, stage: u8, wire: u8) -> UpMove
         requires stage { stage < self.old.k }
@@ -159,7 +158,7 @@ impl Network {
         self.move_up(stage, wire, request)
     }
 
-    /// Moves a request that is the first on a wire before a stage.
+    /// Moves this request, the first on a wire before a stage.
     #[inline(always)]
     fn move_up(&mut self, stage: u8, wire: u8, request: Request) -> UpMove
         requires stage { stage < self.old.k }
@@ -177,8 +176,8 @@ impl Network {
         self.offer(stage, out, request)
     }
 
-    /// Moves the first reply on a wire after a stage back over the stage: it is answered at the
-    /// output that the wire comes from.
+    /// Moves the first reply on a wire after a stage back over the stage: it is answered at the output that the wire
+    /// comes from.
     #[inline(always)]
     pub fn down(&mut self, stage: u8, wire: u8) -> DownMove
         requires stage { stage < self.old.k }
@@ -187,7 +186,7 @@ impl Network {
         ensures after { net_of self.new ≡ (moved_down (sizes_of self.old) (net_of self.old) stage wire).1 }
         ensures sizes { sizes_of self.new ≡ sizes_of self.old }
     {
-        // There are few stages.
+        // For the proof: a network has at most six stages.
         let _ = &self.k;
         let Some(reply) = self.reply_before(stage + 1, wire) else {
             moves_of_nothing_stall();
@@ -196,7 +195,7 @@ impl Network {
         self.move_down(stage, wire, reply)
     }
 
-    /// Moves a reply that is the first on a wire after a stage back over the stage.
+    /// Moves this reply, the first on a wire after a stage, back over the stage.
     #[inline(always)]
     fn move_down(&mut self, stage: u8, wire: u8, reply: Reply) -> DownMove
         requires stage { stage < self.old.k }
@@ -206,7 +205,7 @@ impl Network {
         ensures after { net_of self.new ≡ (moved_down (sizes_of self.old) (net_of self.old) stage wire).1 }
         ensures sizes { sizes_of self.new ≡ sizes_of self.old }
     {
-        // There are few stages.
+        // For the proof: a network has at most six stages.
         let _ = &self.k;
         if !self.would_answer(stage, wire, &reply) {
             return DownMove::Stalled;
@@ -242,8 +241,8 @@ impl Network {
         self.reply_before(self.k, m).is_none()
     }
 
-    /// Puts a reply into a module's slot, which must be free. No message may be led by the reply's
-    /// leader, and no record may have it as its second.
+    /// Puts a reply into a module's slot, which must be free. The reply's leader may lead no message, and may be the
+    /// second of no record.
     #[tactic(auto, unfolding(messages::specs::Moves::module_replied))]
     pub fn module_reply(&mut self, m: u8, reply: Reply)
         requires at_module { m < 2 ^ self.old.k }
@@ -276,7 +275,7 @@ impl Network {
         self.take_reply(0, p)
     }
 
-    /// Whether a request stands before a stage on a wire, or at a module for stage `k`.
+    /// Whether there is a request before a stage on a wire, or at a module if the stage is `k`.
     pub fn has_request(&self, stage: u8, wire: u8) -> bool
         requires stage { stage ≤ self.now.k }
         requires wire { wire < 2 ^ self.now.k }
@@ -285,7 +284,7 @@ impl Network {
         self.request_before(stage, wire).is_some()
     }
 
-    /// Whether a reply stands before a stage on a wire, or at a module for stage `k`.
+    /// Whether there is a reply before a stage on a wire, or at a module if the stage is `k`.
     pub fn has_reply(&self, stage: u8, wire: u8) -> bool
         requires stage { stage ≤ self.now.k }
         requires wire { wire < 2 ^ self.now.k }
@@ -294,8 +293,7 @@ impl Network {
         self.reply_before(stage, wire).is_some()
     }
 
-    /// The request that stands at `place` before a stage on a wire, or at a module for stage `k`; the first stands at
-    /// 0.
+    /// The request at `place` before a stage on a wire, or at a module if the stage is `k`. The first is at 0.
     pub fn request(&self, stage: u8, wire: u8, place: usize) -> Option<Request>
         requires stage { stage ≤ self.now.k }
         requires wire { wire < 2 ^ self.now.k }
@@ -305,7 +303,7 @@ impl Network {
         self.pool.request(queue, place)
     }
 
-    /// The reply that stands at `place` before a stage on a wire, or at a module for stage `k`; the first stands at 0.
+    /// The reply at `place` before a stage on a wire, or at a module if the stage is `k`. The first is at 0.
     pub fn reply(&self, stage: u8, wire: u8, place: usize) -> Option<Reply>
         requires stage { stage ≤ self.now.k }
         requires wire { wire < 2 ^ self.now.k }
@@ -315,7 +313,7 @@ impl Network {
         self.pool.reply(queue, place)
     }
 
-    /// How many requests stand in the queue at the output of a wire after a stage.
+    /// The number of requests in the queue at the output of a wire after a stage.
     pub fn request_count(&self, stage: u8, wire: u8) -> usize
         requires stage { stage < self.now.k }
         requires wire { wire < 2 ^ self.now.k }
@@ -324,7 +322,7 @@ impl Network {
         usize::from(self.pool.request_count(self.place(stage + 1, wire)))
     }
 
-    /// How many replies stand in the queue at the input of a wire before a stage.
+    /// The number of replies in the queue at the input of a wire before a stage.
     pub fn reply_count(&self, stage: u8, wire: u8) -> usize
         requires stage { stage < self.now.k }
         requires wire { wire < 2 ^ self.now.k }
@@ -342,7 +340,7 @@ impl Network {
         self.switches[self.switch_behind(stage, wire)].records(wire % 2)
     }
 
-    /// The first request before a stage on a wire, or at a module for stage `k`.
+    /// The first request before a stage on a wire, or at a module if the stage is `k`.
     fn request_before(&self, stage: u8, wire: u8) -> Option<Request>
         requires stage { stage ≤ self.now.k }
         requires wire { wire < 2 ^ self.now.k }
@@ -351,7 +349,7 @@ impl Network {
         self.pool.front_request(self.place(stage, wire))
     }
 
-    /// Takes the first request before a stage on a wire. Nothing is left that its leader leads.
+    /// Takes the first request before a stage on a wire. Its leader then leads no message.
     fn take_request(&mut self, stage: u8, wire: u8) -> Option<Request>
         requires stage { stage ≤ self.old.k }
         requires wire { wire < 2 ^ self.old.k }
@@ -365,7 +363,7 @@ impl Network {
         self.pool.pop_request(queue)
     }
 
-    /// The first reply before a stage on a wire, or at a module for stage `k`.
+    /// The first reply before a stage on a wire, or at a module if the stage is `k`.
     fn reply_before(&self, stage: u8, wire: u8) -> Option<Reply>
         requires stage { stage ≤ self.now.k }
         requires wire { wire < 2 ^ self.now.k }
@@ -374,7 +372,7 @@ impl Network {
         self.pool.front_reply(self.place(stage, wire))
     }
 
-    /// Takes the first reply before a stage on a wire. Nothing is left that its leader leads.
+    /// Takes the first reply before a stage on a wire. Its leader then leads no message.
     fn take_reply(&mut self, stage: u8, wire: u8) -> Option<Reply>
         requires stage { stage ≤ self.old.k }
         requires wire { wire < 2 ^ self.old.k }
@@ -416,7 +414,7 @@ impl Network {
         up_of(answer, second)
     }
 
-    /// Whether there is room for the replies for a reply at the output of a wire after a stage.
+    /// Whether there is room for the replies that a reply gives at the output of a wire after a stage.
     fn would_answer(&self, stage: u8, wire: u8, reply: &Reply) -> bool
         requires stage { stage < self.now.k }
         requires wire { wire < 2 ^ self.now.k }
@@ -443,7 +441,7 @@ impl Network {
         down_of(answer)
     }
 
-    /// The number of the queues before a stage on a wire, or at a module for stage `k`.
+    /// The number of the queues before a stage on a wire, or at a module if the stage is `k`.
     fn place(&self, stage: u8, wire: u8) -> usize
         requires stage { stage ≤ self.now.k }
         requires wire { wire < 2 ^ self.now.k }
@@ -454,7 +452,7 @@ impl Network {
         usize::from(stage) * usize::from(wires_of(self.k)) + usize::from(wire)
     }
 
-    /// Where the switch that a wire comes from after a stage stands among all.
+    /// The index, among all switches, of the one that a wire comes from after a stage.
     #[tactic(auto, using(crate::proofs::Switches::place_is, crate::proofs::Switches::half_of_wire, crate::proofs::Switches::place_within))]
     fn switch_behind(&self, stage: u8, wire: u8) -> usize
         requires stage { stage < self.now.k }
@@ -466,7 +464,7 @@ impl Network {
     }
 }
 
-/// What a move of a request that `second` leads answers.
+/// The outcome of moving a request that `second` leads, by the switch's answer.
 fn up_of(answer: Accepted, second: u8) -> UpMove
     ensures { result ≡ up_of answer second }
 {
@@ -477,7 +475,7 @@ fn up_of(answer: Accepted, second: u8) -> UpMove
     }
 }
 
-/// What a move of a reply answers.
+/// The outcome of moving a reply, by the switch's answer.
 fn down_of(answer: Answered) -> DownMove
     ensures { result ≡ down_of answer }
 {
@@ -488,7 +486,7 @@ fn down_of(answer: Answered) -> DownMove
     }
 }
 
-/// Whether none of a pool's queues, of which there are this many of each kind, has a message.
+/// Whether no queue of a pool has a message; there are this many of each kind.
 fn has_no_message(pool: &Pool, queues: u16) -> bool
     requires requests { length pool.now.requests ≡ queues }
     requires replies { length pool.now.replies ≡ queues }
@@ -564,7 +562,7 @@ fn new_switches(alloc: Global, k: u8, c: u8, b: u8, r: u8) -> Result<Vec<Switch>
     Ok(switches)
 }
 
-/// The switch of this number in a stage. Its outputs are the wires after it whose numbers are twice its own and one
+/// The switch with this number in a stage. Its outputs are the wires after it whose numbers are twice its own, and one
 /// more; its inputs are the wires before it that the shuffle brings to these.
 fn new_switch(k: u8, c: u8, b: u8, r: u8, stage: u8, number: u8) -> Switch
     requires stages { k ≤ 6 }
@@ -588,7 +586,7 @@ fn new_switch(k: u8, c: u8, b: u8, r: u8, stage: u8, number: u8) -> Switch
     )
 }
 
-/// How many wires there are.
+/// The number of wires.
 fn wires_of(k: u8) -> u8
     requires { k ≤ 6 }
     ensures exact { result ≡ 2 ^ k }
@@ -597,7 +595,7 @@ fn wires_of(k: u8) -> u8
     1 << k
 }
 
-/// How many queues of requests there are, and as many of replies.
+/// The number of queues of requests, and of replies.
 fn queues_of(k: u8) -> u16
     requires { k ≤ 6 }
     ensures { result ≡ suc k * 2 ^ k }

@@ -19,7 +19,7 @@ use Rattle.messages.proofs.Lemmas.{is_put2}
 use Rattle.omega_network.proofs.Lemmas.{half_of_wire}
 use Rattle.ring_network.proofs.Switches.{read_kept, switch_kept, switch_put}
 
--- what stands at an input of a switch
+-- the replies at an input of a switch
 abbrev inputs_at : SwitchLists → ℕ → List Reply
 inputs_at t v = replies_at t.inputs v
 
@@ -122,12 +122,12 @@ module _ (inverse : RotationsAreInverse) (on_wires : RotationsStayOnWires) where
   ahead : (k s w : ℕ) → s < k → w < 2 ^ k → switch_of k w < half k
   ahead k s w l m = half_of_wire k s (rotated_left k w) l ((on_wires k w m).0)
 
-  -- wires that go to one input of one switch are one
+  -- Wires that go to the same input of the same switch are equal.
   one_input : (k w v : ℕ) → w < 2 ^ k → v < 2 ^ k → switch_of k w ≡ switch_of k v → input_port k w ≡ input_port k v → w ≡ v
   one_input k w v l m e f =
       sym ((inverse k w l).0) ∙ ap (rotated_right k) (same_wire (rotated_left k w) (rotated_left k v) e f) ∙ (inverse k v m).0
 
-  -- what stands before a stage that is not the end, on a wire
+  -- The replies before a stage on a wire are those at the input that the wire goes to.
   pub at_input : (n : NetworkLists) (s w : ℕ) → s < n.k → w < 2 ^ n.k → replies_before n s w ≡ inputs_at (switch_at n s (switch_of n.k w)) (input_port n.k w)
   unfolding replies_before
   at_input n s w stage wire =
@@ -135,7 +135,7 @@ module _ (inverse : RotationsAreInverse) (on_wires : RotationsStayOnWires) where
       else []) (ne_eqb s n.k (λ e. omega arith))
       ∙ ap (λ (b : Bool). if b then inputs_at (switch_at n s (switch_of n.k w)) (input_port n.k w) else []) (lt-ltb w (2 ^ n.k) wire)
 
-  -- two networks of one k whose module slots are the same have the same replies where those at the inputs are
+  -- Two networks with the same k and module slots have the same replies on a wire if they have the same at its input.
   replies_same : (n m : NetworkLists) (d w : ℕ) → m.k ≡ n.k → m.module_slots ≡ n.module_slots
       → (w < 2 ^ n.k → inputs_at (switch_at m d (switch_of n.k w)) (input_port n.k w) ≡ inputs_at (switch_at n d (switch_of n.k w)) (input_port n.k w))
       → replies_before m d w ≡ replies_before n d w
@@ -197,7 +197,7 @@ module _ (inverse : RotationsAreInverse) (on_wires : RotationsStayOnWires) where
 
 -- ---- slots
 
--- a slot is a list of one message at most
+-- A slot, read as a list, has at most one message.
 pub rest_of_slot : {X : Type 0} (slot : Option X) → drop 1 (option_to_list slot) ≡ []
 rest_of_slot None = refl
 rest_of_slot (Some x) = refl
@@ -241,7 +241,7 @@ module_slot_put n m y l = is_put2 (replies_before n) (replies_before (with_modul
         ∙ sym (ap (λ (b : Bool). if b then slot_of n.module_slots w else if nat_lt w (2 ^ n.k)
         then inputs_at (switch_at n d (switch_of n.k w)) (input_port n.k w) else []) (ne_eqb d n.k apart))
 
--- what stands at a module's slot
+-- The replies at depth k on a wire are what the module's slot has.
 pub at_module : (n : NetworkLists) (m : ℕ) → replies_before n n.k m ≡ slot_of n.module_slots m
 unfolding replies_before
 at_module n m =

@@ -1,4 +1,4 @@
--- Networks in which nothing stands.
+-- Networks without messages and records.
 use Rattle.std.proofs.Common.{◌≡◌, ℕ, zero, suc, ◌+◌, ◌*◌, ◌/◌, ◌%◌, ◌^◌, ◌<◌, ◌≤◌, Bool, true, false, List}
 use Rattle.std.proofs.Common.{[], ◌∷◌, ◌++◌, length, get_or, Option, Some, None, ◌⊎◌, inl, inr, refl, sym}
 use Rattle.std.proofs.Common.{ap, ◌∙◌, subst, arith, lt-ltb, nat_lt, mul-le-mul_left, mul_comm}
@@ -67,7 +67,7 @@ module _ (n : NetworkLists) (all : All IsEmptySwitch n.switches) where
   replies_none s i (suc zero) l = (empty_at s i).3
   replies_none s i (suc (suc v)) l = absurd (omega arith)
 
--- either way
+-- A choice between an empty list and the empty list is empty.
 if_same : {X : Type 0} (b : Bool) (xs : List X) → xs ≡ [] → (if b then xs else []) ≡ []
 if_same true xs e = e
 if_same false xs e = refl
@@ -172,7 +172,7 @@ module _ (inverse : RotationsAreInverse) (on_wires : RotationsStayOnWires) (n : 
           (ap (λ p. get_or n.switches p (empty_switch 0 0 0 0)) same ∙ get_or_any n.switches place (empty_switch 0 0 0 0) d l)
           (switch_empty (place / half n.k) (place % half n.k) stage rest)
 
--- what the tests of all lists say
+-- The network is empty exactly if the tests of its slots and switches all hold.
 pub fact : (n m : NetworkLists) → n ≡ m → IsNetwork n → RotationsAreInverse → RotationsStayOnWires →
     (a b c : Bool) (slots : List (Option Request)) (switches : List SwitchLists) (module_slots : List (Option Reply))
     → slots ≡ n.slots → switches ≡ n.switches → module_slots ≡ n.module_slots → (IsTrue a ↔ All IsNone slots) → (IsTrue b ↔ All IsEmptySwitch switches) →
@@ -199,7 +199,7 @@ pub not_empty_switches : (n m : NetworkLists) → n ≡ m → IsNetwork n → Ro
 not_empty_switches n m view is inverse on_wires b switches e has empty =
     has.1 (subst (All IsEmptySwitch) (sym e) (switches_none inverse on_wires n is (subst (λ (l : NetworkLists). IsEmptyNet (net_of l)) (sym view) empty)))
 
--- one slot more
+-- Slots without a message, with one more empty slot, have no message.
 pub free_more : {X : Type 0} (slots : List (Option X)) → All IsNone slots → All IsNone (slots ++ None ∷ [])
 free_more {X} [] all zero d l = refl
 free_more {X} [] all (suc k) d l = absurd (omega arith)

@@ -1,4 +1,4 @@
--- What stays of a network and of a switch through every change.
+-- A network stays a network, and a switch keeps its sizes, through every change.
 use Rattle.std.proofs.Common.{◌≡◌, ℕ, zero, suc, ◌+◌, ◌*◌, ◌/◌, ◌^◌, ◌<◌, Bool, true, false, List, [], ◌∷◌}
 use Rattle.std.proofs.Common.{length, set, get_or, nat_lt, Option, Some, None, ◌⊎◌, inl, inr, refl, sym}
 use Rattle.std.proofs.Common.{ap, ◌∙◌, subst, arith, get_or-set_same, get_or-set_other, length-set}
@@ -62,7 +62,7 @@ empty_is c b r i = record { c_is = refl; bit_is = refl; two_outputs = refl; two_
     at (suc zero) l d = (refl, refl, refl)
     at (suc (suc out)) l d = absurd (omega arith)
 
--- the output's sizes stay
+-- An output keeps its sizes when a request comes.
 accepted_sizes : (o : OutputLists) (x : Request) → ((accepted o x).1.c ≡ o.c) × ((accepted o x).1.b ≡ o.b) × ((accepted o x).1.r ≡ o.r)
 unfolding accepted
 accepted_sizes o x = go (combination o.b o.r x o.requests o.records)
@@ -152,7 +152,7 @@ with_module_slot_kept n m y is = record {
   each_switch = is.each_switch;
 }
 
--- a switch of the network with one output's requests, or one input's replies, changed
+-- A switch of the network keeps its sizes if the requests of one output, or the replies of one input, change.
 pub requests_kept : (c b r i : ℕ) (s : SwitchLists) (out : ℕ) (xs : List Request) → IsSwitchOf c b r i s → out < 2
     → IsSwitchOf c b r i (with_requests s out xs)
 requests_kept c b r i s out xs is l = let had = is.outputs out l (empty_output 0 0 0) in output_kept c b r i s out _ is l had.0 had.1 had.2
@@ -160,7 +160,7 @@ requests_kept c b r i s out xs is l = let had = is.outputs out l (empty_output 0
 pub replies_kept : (c b r i : ℕ) (s : SwitchLists) (inp : ℕ) (ys : List Reply) → IsSwitchOf c b r i s → IsSwitchOf c b r i (with_inputs s (set s.inputs inp ys))
 replies_kept c b r i s inp ys is = inputs_kept c b r i s (set s.inputs inp ys) is (length-set s.inputs inp ys ∙ is.two_inputs)
 
--- ---- a switch that is replaced where it stands
+-- ---- a switch that is replaced at its place
 
 -- What is read inside a list does not depend on what is given for places past its end.
 pub get_or_any : {X : Type 0} (xs : List X) (i : ℕ) (d e : X) → i < length xs → get_or xs i d ≡ get_or xs i e
@@ -171,7 +171,7 @@ get_or_any (x ∷ xs) (suc i) d e l = get_or_any xs i d e (omega arith)
 abbrev pub put_at : NetworkLists → (place : ℕ) → SwitchLists → NetworkLists
 put_at n place t = record { k = n.k; c = n.c; b = n.b; r = n.r; slots = n.slots; switches = set n.switches place t; module_slots = n.module_slots }
 
--- switch i of stage s is u, and stands at this place. The network n is m as a caller sees it
+-- Switch i of stage s is u, at this place among all. A caller sees the network n as m.
 pub record Found (n m : NetworkLists) (s i place : ℕ) (u : SwitchLists) : Type 0 where
   -- The network is seen as m.
   pub view : n ≡ m
@@ -186,7 +186,7 @@ pub record Found (n m : NetworkLists) (s i place : ℕ) (u : SwitchLists) : Type
   -- The switch is the one at this place.
   pub at : u ≡ get_or n.switches place u
 
--- the switch that a wire comes from after a stage, and the one that it goes to before a stage
+-- The switch at the place of a stage and a wire after it is the one that the wire comes from.
 pub found_behind : {n m : NetworkLists} {s w place : ℕ} {u : SwitchLists} → n ≡ m → IsNetwork n → s < m.k → w < 2 ^ m.k →
     place ≡ s * half m.k + w / 2 → u ≡ get_or n.switches place u → Found n m s (w / 2) place u
 found_behind {n} {m} {s} {w} view is stage wire exact at =

@@ -1,4 +1,4 @@
--- A move as what a switch did with the message, which is then taken from its place.
+-- A move is what a switch did with the message, which is then taken from its place.
 use Rattle.std.proofs.Common.{◌≡◌, ℕ, suc, ◌%◌, ◌^◌, ◌<◌, Bool, true, false, List, [], ◌∷◌, ◌++◌, length}
 use Rattle.std.proofs.Common.{drop, nat_lt, Option, Some, None, refl, sym, ap, ◌∙◌, arith, lt-ltb}
 use Rattle.std.specs.Prelude.{if◌then◌else◌, slice_get}
@@ -30,7 +30,7 @@ apart s e = omega arith
 
 -- ---- up
 
--- the second of a combination is the request that came
+-- The second of a combination is the leader of the request that came.
 combined_second : (b r : ℕ) (x : Request) (queue : List Request) (records : List Record) (j : Combination) → combination b r x queue records ≡ Some j →
     j.made.second ≡ x.leader
 combined_second b r x queue records j e = ap (λ (i : Combination). i.made.second) ((combination_joins b r x queue records j e).is)
@@ -47,7 +47,7 @@ module _ (z : Sizes) (net : Net) (s w out : ℕ) (x : Request) (rest : List Requ
   queue_same : taken.requests (suc s) out ≡ net.requests (suc s) out
   queue_same = put2_other net.requests s w rest (suc s) out (λ e _. apart s (sym e))
 
-  -- what is put at the output, and then taken before it
+  -- What is put at the output, and then taken before it, may be taken first.
   swapped : (q : List Request) (es : List Record) →
       put_records (put_requests taken (suc s) out q) s out es ≡ first_request_taken (put_records (put_requests net (suc s) out q) s out es) s w
   swapped q es = λ j. record {
@@ -120,7 +120,7 @@ net_after_down (Many seconds) net d w = first_reply_taken net d w
 net_after_down NoRoom net d w = net
 
 module _ (wire : ℕ → ℕ) (s w : ℕ) (rest : List Reply) where
-  -- what is put before a stage leaves what is after it
+  -- Putting replies before a stage leaves those after it.
   after_same : (ys : List Reply) (net : Net) → (moves.push_all wire s ys net).replies (suc s) w ≡ net.replies (suc s) w
   unfolding moves.push_all
   after_same [] net = refl
@@ -181,9 +181,10 @@ down_law z net s w x stage found =
     ∙ ap (moves.down_from z net s w) first
     ∙ answer_is z net s w x (drop 1 (net.replies (suc s) w)) first
 
--- ---- as the calls say it, where the switch answers b. What the code sees as l, a caller sees as m
+-- ---- for the calls, if the switch answers b; the code sees the network as l, a caller as m
 
--- If the switch answers b to the first request on a wire, the move up of it answers and leaves what b says.
+-- If the switch answers b to the first request on a wire, b determines the outcome of moving it up and the network
+-- then.
 pub up_ends : (m : NetworkLists) (w : ℕ) {l : NetworkLists} {net : Net} {s out target : ℕ} {x : Request} {a b : Accepted} → l ≡ m → s < m.k →
     slice_get ((net_of m).requests s w) 0 ≡ Some x → out ≡ wire_after l.k s w target → target ≡ x.word % 2 ^ l.k →
     a ≡ (accepted_on (sizes_of m) (net_of m) s out x).0 → net ≡ (accepted_on (sizes_of m) (net_of m) s out x).1 → a ≡ b →
@@ -197,7 +198,8 @@ up_ends m w {l} {net} {s} {out} {target} {x} {a} {b} view stage found way aim an
       (λ j. net_after_up (fact j) (after j) s w) ∙ sym (ap (λ (r : UpMove × Net). r.1) law),
     )
 
--- If the switch answers b to the first reply on a wire, the move down of it answers and leaves what b says.
+-- If the switch answers b to the first reply on a wire, b determines the outcome of moving it down and the network
+-- then.
 pub down_ends : (m : NetworkLists) (w : ℕ) {net : Net} {s : ℕ} {x : Reply} {a b : Answered} → s < m.k →
     slice_get ((net_of m).replies (suc s) w) 0 ≡ Some x →
     a ≡ (answered_on (sizes_of m) (net_of m) s w x).0 → net ≡ (answered_on (sizes_of m) (net_of m) s w x).1 → a ≡ b →

@@ -1,4 +1,4 @@
--- Replies that are put at a switch, or taken from it, in a network of places.
+-- Replies put at a switch, or taken from it, in a network of places.
 use Rattle.std.proofs.Common.{◌≡◌, ℕ, ◌+◌, ◌*◌, ◌/◌, ◌%◌, ◌^◌, ◌<◌, Bool, true, false, ◌&&◌, List}
 use Rattle.std.proofs.Common.{[], ◌∷◌, ◌++◌, length, drop, set, ◌⊎◌, inl, inr, refl, sym, ap, ◌∙◌}
 use Rattle.std.proofs.Common.{subst, arith, lt-ltb, get_or-set_same, get_or-set_other, length-set}
@@ -78,7 +78,7 @@ module _ (inverse : RotationsAreInverse) (on_wires : RotationsStayOnWires) where
         ∙ (λ j. replies_at (switch_at (here t) s (to_switch n.k s w p stage wire j)).inputs (to_input n.k s w p stage wire j))
         ∙ ap (λ (u : SwitchLists). replies_at u.inputs (bit (bit_of_stage n.k s) p)) (found_here t)
 
-    -- one reply more is put at its leader's input
+    -- one more reply is put at its leader's input
     module _ (t : SwitchLists) (ok : IsSwitchOf n.c n.b n.r (bit_of_stage n.k s) t) (y : Reply) where
       abbrev v : ℕ
       v = wire_before n.k s w y.leader
@@ -138,7 +138,7 @@ module _ (inverse : RotationsAreInverse) (on_wires : RotationsStayOnWires) where
         replies = (replies_put inverse on_wires (here t) (here_is t ok) s v stage v_on more others ∙ ap (put2 (replies_before (here t)) s v) gained) j;
       })
 
-    -- replies are put one after another
+    -- Replies that are put at inputs are put on the wires before the stage, one after another.
     all_put : (ys : List Reply) (t : SwitchLists) → IsSwitchOf n.c n.b n.r (bit_of_stage n.k s) t
         → net_of (here (with_inputs t (put_replies t.its_bit ys t.inputs))) ≡ push_all (wire_before n.k s w) s ys (net_of (here t))
     unfolding put_replies push_all
@@ -148,7 +148,7 @@ module _ (inverse : RotationsAreInverse) (on_wires : RotationsStayOnWires) where
         (inputs_kept n.c n.b n.r (bit_of_stage n.k s) t (put_reply t.its_bit t.inputs y) ok (length-set t.inputs (bit t.its_bit y.leader) _ ∙ ok.two_inputs))
         ∙ ap (push_all (wire_before n.k s w) s ys) (one_put t ok y)
 
-    -- room at the inputs is room on the wires
+    -- There is room at the inputs exactly if there is room on the wires.
     rooms : (c : ℕ) (ys : List Reply) (t : SwitchLists) → t.its_bit ≡ bit_of_stage n.k s →
         moves.has_room c (wire_before n.k s w) s (net_of (here t)) ys ≡ has_room c t.its_bit t.inputs ys
     unfolding has_room
@@ -205,7 +205,7 @@ module _ (inverse : RotationsAreInverse) (on_wires : RotationsStayOnWires) where
           go (inl e) = ap (requests_at left) e ∙ ap (λ (o : OutputLists). o.requests) out_here ∙ ap (requests_at u) (sym e)
           go (inr away) = ap (λ (o : OutputLists). o.requests) (out_other v away)
 
-      -- the leader's records go
+      -- If the leader's records are dropped, they are dropped at their place, and nothing else changes.
       forgotten : net_of (here left) ≡ put_records (net_of n) s w (records_but x.leader own)
       forgotten = λ j. record {
         requests = requests_left n is s (w / 2) stage number left requests_same j;
@@ -214,7 +214,7 @@ module _ (inverse : RotationsAreInverse) (on_wires : RotationsStayOnWires) where
         replies = replies_left inverse on_wires n is s (w / 2) stage number left (ap (λ (t : SwitchLists). t.inputs) found) j;
       }
 
-      -- and all replies are put
+      -- After that, all replies are put on the wires before the stage.
       answered_net : net_of (here all) ≡ push_all (wire_before n.k s w) s ys (put_records (net_of n) s w (records_but x.leader own))
       answered_net = all_put ys left left_ok ∙ ap (push_all (wire_before n.k s w) s ys) forgotten
 
@@ -236,7 +236,7 @@ module _ (inverse : RotationsAreInverse) (on_wires : RotationsStayOnWires) where
           ap (λ (net : Net). moves.has_room n.c (wire_before n.k s w) s net ys) (sym answered_net)
           ∙ rooms n.c ys all ok.bit_is ∙ ap (λ c. has_room c u.its_bit (put_replies u.its_bit ys u.inputs) ys) (sym ok.c_is)
 
-      -- what is answered, by the records that stand there
+      -- the answer and the network then, by the records of the output
       by_records : List Record → Answered × Net
       by_records es =
           let net = push_all (wire_before n.k s w) s (answers (records_of x.leader es) x) (put_records (net_of n) s w (records_but x.leader es)) in
@@ -255,7 +255,7 @@ module _ (inverse : RotationsAreInverse) (on_wires : RotationsStayOnWires) where
           go true e = rw (e, room_is ∙ e) (refl, answered_net)
           go false e = rw (e, room_is ∙ e) (refl, stays)
 
-  -- ---- as a caller sees it
+  -- ---- for the calls
 
   -- What the switch does with a reply at the wire's output is what the network of places does with it there.
   pub answer_net : (n m : NetworkLists) (s w place : ℕ) (u : SwitchLists) → Found n m s (w / 2) place u → w < 2 ^ m.k →

@@ -1,4 +1,4 @@
--- The switches of a new network, and that nothing stands in it.
+-- The switches of a new network, which has no messages and no records.
 use Rattle.std.proofs.Common.{◌≡◌, ℕ, ◌+◌, ◌*◌, ◌/◌, ◌^◌, ◌<◌, ◌≤◌, List, [], ◌∷◌, ◌++◌, length, Some}
 use Rattle.std.proofs.Common.{◌⊎◌, inl, inr, refl, sym, ap, ◌∙◌, subst, arith, length-append}
 use Rattle.std.specs.Prelude.{All, IsNone, slice_get}
@@ -15,7 +15,7 @@ use Rattle.ring_network.proofs.Kept.{empty_is}
 use Rattle.omega_network.proofs.Lemmas.{get_last, get_left, place_within}
 use Rattle.ring_network.proofs.Empty.{empty_net}
 
--- the first switches of a new network
+-- The switches are the first `count` of a new network.
 pub record SoFar (k c b r count : ℕ) (switches : List SwitchLists) : Type 0 where
   -- There are `count` switches.
   pub all : length switches ≡ count

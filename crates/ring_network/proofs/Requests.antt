@@ -1,4 +1,4 @@
--- A request that is accepted at a switch, or taken from it, in a network of places.
+-- A request accepted at a switch, or taken from it, in a network of places.
 use Rattle.std.proofs.Common.{◌≡◌, ℕ, suc, ◌/◌, ◌%◌, ◌^◌, ◌<◌, Bool, true, false, List, [], ◌∷◌}
 use Rattle.std.proofs.Common.{◌++◌, length, drop, nat_lt, Option, Some, None, refl, sym, ap, ◌∙◌}
 use Rattle.std.proofs.Common.{subst, arith, lt-ltb, get_or-set_same, get_or-set_other}
@@ -20,9 +20,9 @@ use Rattle.messages.proofs.Lemmas.{put2_id}
 use Rattle.ring_network.proofs.Kept.{Found, had_is, number_is, put_at, put_is, stage_is, switch_is}
 use Rattle.ring_network.proofs.Changes.{records_put, replies_left, requests_put}
 
--- ---- by what stands at the output
+-- ---- by the lists of the output
 
--- an output with the sizes, the requests and the records of a place
+-- The output has the sizes, the requests and the records of a place.
 record IsOutput (z : Sizes) (net : Net) (s w : ℕ) (o : OutputLists) : Type 0 where
   c_is : o.c ≡ z.c
   b_is : o.b ≡ z.b
@@ -30,7 +30,7 @@ record IsOutput (z : Sizes) (net : Net) (s w : ℕ) (o : OutputLists) : Type 0 w
   requests_are : o.requests ≡ net.requests (suc s) w
   records_are : o.records ≡ net.records s w
 
--- the network after what became of a request
+-- the network after an output has become this one
 abbrev after : Net → (s w : ℕ) → OutputLists → Net
 after net s w o = put_records (put_requests net (suc s) w o.requests) s w o.records
 

@@ -1,4 +1,4 @@
--- Replies that are put to their inputs, and whether there is room for them.
+-- Replies that are put at their inputs, and whether there is room for them.
 use Rattle.std.proofs.Common.{◌≡◌, ℕ, zero, suc, ◌+◌, ◌<◌, ◌≤◌, Bool, true, false, cond, ◌&&◌, List, [], ◌∷◌, ◌++◌}
 use Rattle.std.proofs.Common.{length, take, drop, get_or, refl, sym, ap, ◌∙◌, subst, arith, eq-eqb, eqb-true}
 use Rattle.std.proofs.Common.{length-append, get_or-set_same, get_or-set_other, length-set, take-append-drop}
@@ -18,7 +18,7 @@ unfolding put_replies
 put_replies-append i [] ys inputs = refl
 put_replies-append i (x ∷ xs) ys inputs = put_replies-append i xs ys (put_reply i inputs x)
 
--- one more reply is put
+-- Putting one more reply of a list is putting the replies before it, and then this one.
 pub put_more : (i : ℕ) (ys : List Reply) (j : ℕ) (d : Reply) (inputs : List (List Reply)) → j < length ys
     → put_replies i (take (j + 1) ys) inputs ≡ put_reply i (put_replies i (take j ys) inputs) (get_or ys j d)
 unfolding put_replies
@@ -39,7 +39,7 @@ length_after_one i y inputs inp two false is =
     ap length (get_or-set_other inputs (bit i y.leader) inp (replies_at inputs (bit i y.leader) ++ y ∷ []) [] other)
     ∙ omega arith
 
--- an input has the replies for it after those that it had
+-- After replies are put, an input has those for it after those that it had.
 pub length_after : (i : ℕ) (ys : List Reply) (inputs : List (List Reply)) (inp : ℕ) → length inputs ≡ 2
     → length (replies_at (put_replies i ys inputs) inp) ≡ length (replies_at inputs inp) + length (replies_for i inp ys)
 unfolding put_replies
@@ -54,7 +54,7 @@ length_after i (y ∷ ys) inputs inp two =
     go true is = let one = length_after_one i y inputs inp two true is in rw is (omega arith)
     go false is = let one = length_after_one i y inputs inp two false is in rw is (omega arith)
 
--- where both inputs are within c, all replies have their place
+-- If both inputs are within c, all replies have their place.
 all_within : (c i : ℕ) (inputs : List (List Reply)) (ys : List Reply) → length (replies_at inputs 0) ≤ c → length (replies_at inputs 1) ≤ c →
     has_room c i inputs ys ≡ true
 unfolding has_room
@@ -68,7 +68,7 @@ all_within c i inputs (y ∷ ys) upper lower =
     at (suc zero) l = lower
     at (suc (suc v)) l = absurd (omega arith)
 
--- where the input of one of them is not, not all have
+-- If the input of a reply is not within c, not all replies have their place.
 one_without : (c i : ℕ) (inputs : List (List Reply)) (ys : List Reply) (inp : ℕ) → c < length (replies_at inputs inp) → 0 < length (replies_for i inp ys) →
     has_room c i inputs ys ≡ false
 unfolding has_room
@@ -89,13 +89,13 @@ one_without c i inputs (y ∷ ys) inp over some =
         let later : 0 < length (replies_for i inp ys) = subst (λ v. 0 < length (cond v (y ∷ replies_for i inp ys) (replies_for i inp ys))) is some in
         ap (λ v. v && has_room c i inputs ys) f ∙ rest later
 
--- there is no room for all where there is none at an input for those that are for it
+-- There is no room for all replies if an input has less room than it needs for its own.
 pub no_room : (c i : ℕ) (inputs : List (List Reply)) (ys : List Reply) (inp left : ℕ) → length inputs ≡ 2 → left + length (replies_at inputs inp) ≡ c →
     left < length (replies_for i inp ys)
     → has_room c i (put_replies i ys inputs) ys ≡ false
 no_room c i inputs ys inp left two is many = one_without c i (put_replies i ys inputs) ys inp (omega (arith, length_after i ys inputs inp two)) (omega arith)
 
--- room for all is room at each input for those that are for it
+-- There is room for all replies exactly if each input has room for its own.
 pub room_is : (c i : ℕ) (inputs : List (List Reply)) (ys : List Reply) (upper lower : ℕ) → length inputs ≡ 2 → upper + length (replies_at inputs 0) ≡ c →
     lower + length (replies_at inputs 1) ≡ c
     → (nat_le (length (replies_for i 0 ys)) upper && nat_le (length (replies_for i 1 ys)) lower) ≡ has_room c i (put_replies i ys inputs) ys
@@ -134,7 +134,7 @@ each_fits c i inputs (y ∷ ys) room j d within =
     go rest true e r zero l = leb-true (length (replies_at inputs (bit i y.leader))) c e
     go rest true e r (suc j) l = rest (sym (ap (λ v. v && has_room c i inputs ys) e) ∙ r) j (omega arith)
 
--- where there is room for all, there is for the next
+-- If there is room for all replies, there is room for the next one.
 pub next_fits : (c i : ℕ) (inputs : List (List Reply)) (ys : List Reply) (j : ℕ) (d : Reply) → length inputs ≡ 2 →
     has_room c i (put_replies i ys inputs) ys ≡ true → j < length ys
     → length (replies_at (put_replies i (take j ys) inputs) (bit i (get_or ys j d).leader)) < c

@@ -1,4 +1,4 @@
--- Slots, and what stands first at a place.
+-- Slots, and the first message of a place.
 use Rattle.std.proofs.Common.{◌≡◌, ℕ, suc, ◌/◌, ◌%◌, ◌^◌, ◌<◌, [], ◌∷◌, ◌++◌, length, drop, get_or, Option, None, sym, ap, ◌∙◌, subst}
 use Rattle.std.specs.Prelude.{slice_get}
 use Rattle.std.specs.Option.{option_to_list}
@@ -51,7 +51,7 @@ module _ (n m : NetworkLists) (view : n ≡ m) (is : IsNetwork n) (w : ℕ) (wir
       is' ∙ ap (λ j. get_or n.module_slots j y) at ∙ get_or_any n.module_slots w y None module_within ∙ sym (first_of_slot (get_or n.module_slots w None))
       ∙ sym (ap (λ q. slice_get q 0) (at_module n w)) ∙ ap (λ (l : NetworkLists). slice_get (replies_before l l.k w) 0) view
 
--- a slot is empty once its message is taken
+-- If a processor's slot is emptied, the first request at its place is taken.
 pub slot_taken : (m : NetworkLists) (w : ℕ) → put_requests (net_of m) 0 w [] ≡ first_request_taken (net_of m) 0 w
 slot_taken m w = ap (put_requests (net_of m) 0 w) (sym (ap (drop 1) (at_slot m w) ∙ rest_of_slot (get_or m.slots w None)))
 
@@ -59,7 +59,7 @@ slot_taken m w = ap (put_requests (net_of m) 0 w) (sym (ap (drop 1) (at_slot m w
 pub module_slot_taken : (m : NetworkLists) (w : ℕ) → put_replies (net_of m) m.k w [] ≡ first_reply_taken (net_of m) m.k w
 module_slot_taken m w = ap (put_replies (net_of m) m.k w) (sym (ap (drop 1) (at_module m w) ∙ rest_of_slot (get_or m.module_slots w None)))
 
--- a message is put into a slot that was empty
+-- If a request is put into its leader's slot, which was empty, the network is the one after it is injected.
 pub inject_net : (net : Net) (p : ℕ) (x : Request) → x.leader ≡ p → net.requests 0 p ≡ [] → put_requests net 0 p (x ∷ []) ≡ injected net x
 unfolding injected
 inject_net net p x leader free =

@@ -1,4 +1,4 @@
--- What is read of the switches of a network after one is replaced.
+-- The switches of a network after one is replaced.
 use Rattle.std.proofs.Common.{◌≡◌, ℕ, ◌+◌, ◌*◌, ◌<◌, List, length, ◌⊎◌, inl, inr, sym, ap, ◌∙◌, get_or-set_same, get_or-set_other}
 use Rattle.std.proofs.lemmas.Bool.{cases_eq}
 use Rattle.ring_network.specs.Switches.{SwitchLists, empty_switch}
@@ -18,7 +18,7 @@ module _ (n : NetworkLists) (s i : ℕ) (t : SwitchLists) (stage : s < n.k) (num
       get_or-set_other n.switches (s * half n.k + i) (s' * half n.k + i') t (empty_switch 0 0 0 0)
       (λ e. let p = one_place (half n.k) s s' i i' number l e in away p.0 p.1)
 
-  -- what is read of the two outputs or inputs of one, where it is the same as before
+  -- If the two outputs or inputs of the new switch are read as before, so are those of all switches.
   pub read_kept : {X : Type 0} (f : SwitchLists → ℕ → List X) → ((v : ℕ) → v < 2 → f t v ≡ f (switch_at n s i) v)
       → (s' i' v : ℕ) → i' < half n.k → v < 2 → f (switch_at (with_switch n s i t) s' i') v ≡ f (switch_at n s' i') v
   read_kept {X} f same s' i' v l m = go (cases_eq s' s) (cases_eq i' i)

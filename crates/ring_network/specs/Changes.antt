@@ -41,7 +41,7 @@ with_switch n s i t = record {
   module_slots = n.module_slots;
 }
 
--- a network's switches, all empty, each with the bit of its stage
+-- The switches are those of a new network: all are empty, each with the bit of its stage.
 pub record AreNew (k c b r : ℕ) (switches : List SwitchLists) : Type 0 where
   pub all : length switches ≡ k * half k
   pub each : (place : ℕ) → place < length switches →

@@ -1,4 +1,4 @@
--- What a contract sees of a `Network`, and how its lists are read as a network of places.
+-- A `Network` as contracts see it, and how its lists are read as a network of places.
 use Rattle.std.specs.Prelude.{◌≡◌, ◌≤◌, ◌<◌, ◌==◌, ℕ, zero, suc, ◌+◌, ◌*◌, ◌/◌, ◌%◌, ◌^◌, List, [], length, nat_lt}
 use Rattle.std.specs.Prelude.{Option, None, slice_index_or, if◌then◌else◌}
 use Rattle.std.specs.Option.{option_to_list}
@@ -11,8 +11,8 @@ use Rattle.combining_switch.specs.Outputs.{OutputLists}
 use Rattle.omega_network.specs.Networks.{half}
 use Rattle.ring_network.specs.Switches.{SwitchLists, empty_switch, records_at, replies_at, requests_at}
 
--- k stages of switches, each with queues of c messages and wait buffers of b records. An entry of a queue is combined
--- up to r times. The switches stand stage by stage.
+-- k stages of switches, each with queues of c messages and wait buffers of b records; an entry of a queue is combined
+-- up to r times, and the switches are in order, stage by stage
 pub record NetworkLists : Type 0 where
   pub k : ℕ
   pub c : ℕ
@@ -28,12 +28,12 @@ sizes_of n = record { k = n.k; c = n.c; b = n.b; r = n.r }
 abbrev pub switch_at : NetworkLists → (stage number : ℕ) → SwitchLists
 switch_at n s i = slice_index_or n.switches (s * half n.k + i) (empty_switch 0 0 0 0)
 
--- ---- what stands at each place
+-- ---- the messages and records at each place
 
 abbrev pub slot_of : {X : Type 0} → List (Option X) → (place : ℕ) → List X
 slot_of slots w = option_to_list (slice_index_or slots w None)
 
--- a list of the switches' outputs by the wires that go out there
+-- a list of a switch's output, by the wire that goes out there
 abbrev pub at_output : {X : Type 0} → (SwitchLists → ℕ → List X) → NetworkLists → (stage wire : ℕ) → List X
 at_output f n s w = if nat_lt w (2 ^ n.k) then f (switch_at n s (w / 2)) (w % 2) else []
 
@@ -56,9 +56,9 @@ replies_before n d w =
 abbrev pub net_of : NetworkLists → Net
 net_of n = record { requests = requests_before n; records = records_behind n; replies = replies_before n }
 
--- ---- what every network keeps
+-- ---- the invariant of a network
 
--- a switch of these sizes
+-- The switch has these sizes and this bit.
 pub record IsSwitchOf (c b r its_bit : ℕ) (s : SwitchLists) : Type 0 where
   pub c_is : s.c ≡ c
   pub bit_is : s.its_bit ≡ its_bit
@@ -68,7 +68,7 @@ pub record IsSwitchOf (c b r its_bit : ℕ) (s : SwitchLists) : Type 0 where
       ((slice_index_or s.outputs out d).c ≡ c) × ((slice_index_or s.outputs out d).b ≡ b)
       × ((slice_index_or s.outputs out d).r ≡ r)
 
--- up to 64 processors and modules, each with a slot, and the switches of each stage, which go by that stage's bit
+-- There are up to 64 processors and modules, each with a slot, and the switches of each stage, with that stage's bit.
 pub record IsNetwork (n : NetworkLists) : Type 0 where
   pub few : n.k ≤ 6
   pub all_slots : length n.slots ≡ 2 ^ n.k

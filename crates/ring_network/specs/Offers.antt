@@ -1,4 +1,4 @@
--- What a switch of a network does with a request and with a reply that is still at its place before.
+-- What a switch of a network does with a request or a reply that is still at its old place.
 use Rattle.std.specs.Prelude.{ℕ, suc, ◌++◌, List, [], ◌∷◌, length, drop, nat_lt, Option, Some, None, if◌then◌else◌}
 use Rattle.omega_wires.specs.Wires.{wire_before}
 use Rattle.messages.specs.declared.message.Request.{Request}
@@ -13,7 +13,7 @@ use Rattle.combining_switch.specs.declared.answers.Answered.{Answered}
 use Rattle.combining_switch.specs.declared.answers.Answered.TheVariants.{NoRoom}
 use Rattle.combining_switch.specs.Switches.{answered_for}
 
--- at output w of stage s
+-- the answer to a request at output w of stage s, and the network then
 abbrev pub accepted_where : Sizes → Net → (s w : ℕ) → Request → Option Combination → Accepted × Net
 accepted_where z net s w x None =
     if nat_lt (length (net.requests (suc s) w)) z.c
@@ -34,7 +34,7 @@ answered_where z net s w x records =
 unfoldable pub answered_on : Sizes → Net → (s w : ℕ) → Reply → Answered × Net
 answered_on z net s w x = answered_where z net s w x (records_of x.leader (net.records s w))
 
--- the first of the messages at a place is taken
+-- the network after the first message of a place is taken
 abbrev pub first_request_taken : Net → (d w : ℕ) → Net
 first_request_taken net d w = put_requests net d w (drop 1 (net.requests d w))
 

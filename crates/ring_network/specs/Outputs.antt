@@ -1,4 +1,4 @@
--- Outputs without a message. An output is what contracts of `combining_switch` see of one: its rings are its queue.
+-- Outputs without a message. An output is what contracts of `combining_switch` see of one: its ring is its queue.
 use Rattle.std.specs.Prelude.{◌≡◌, ℕ, []}
 use Rattle.combining_switch.specs.Outputs.{OutputLists}
 

@@ -8,7 +8,7 @@ use Rattle.ring_network.specs.declared.output.Partner.{Partner}
 abbrev pub partnership : List Request → (request : Request) → Partner → Combination
 partnership queue x p = record { queue = slice_set queue p.place (merged p.entry p.joint); made = record_of x p.entry }
 
--- the entry has its place in the queue, and may be combined: it was combined fewer than r times
+-- The entry has a place in the queue, and was combined fewer than r times.
 pub record IsPartner (r : ℕ) (queue : List Request) (p : Partner) : Type 0 where
   pub in_queue : p.place < length queue
   pub fewer : p.entry.marks < r

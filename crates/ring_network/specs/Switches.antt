@@ -1,4 +1,4 @@
--- What a contract sees of a `Switch`, and what it does with a request and with a reply.
+-- A `Switch` as contracts see it, and what it does with a request and with a reply.
 use Rattle.std.specs.Prelude.{◌≡◌, ℕ, Bool, true, ◌&&◌, nat_le, List, [], ◌∷◌, ◌++◌, length, slice_index_or, slice_set}
 use Rattle.std.specs.Prelude.{if◌then◌else◌}
 use Rattle.omega_wires.specs.Wires.{bit}
@@ -12,8 +12,8 @@ use Rattle.combining_switch.specs.Outputs.{OutputLists}
 use Rattle.combining_switch.specs.Switches.{answered_for}
 use Rattle.ring_network.specs.Outputs.{IsEmptyOutput, empty_output}
 
--- Two outputs, and two inputs with a queue of up to c replies each. A reply goes to the input that a bit of its
--- leader's number names.
+-- two outputs, and two inputs with a queue of up to c replies each; a reply goes to the input that a bit of its
+-- leader's number names
 pub record SwitchLists : Type 0 where
   pub c : ℕ
   pub its_bit : ℕ
@@ -60,21 +60,21 @@ replies_at inputs inp = slice_index_or inputs inp []
 abbrev pub with_inputs : SwitchLists → List (List Reply) → SwitchLists
 with_inputs s inputs = record { c = s.c; its_bit = s.its_bit; outputs = s.outputs; inputs = inputs }
 
--- a reply is put after those at its leader's input
+-- the inputs after a reply is appended at its leader's input
 abbrev pub put_reply : (its_bit : ℕ) → List (List Reply) → Reply → List (List Reply)
 put_reply i inputs y = slice_set inputs (bit i y.leader) (replies_at inputs (bit i y.leader) ++ y ∷ [])
 
--- one after another
+-- the inputs after these replies are put, one after another
 unfoldable pub put_replies : (its_bit : ℕ) → List Reply → List (List Reply) → List (List Reply)
 put_replies i [] inputs = inputs
 put_replies i (y ∷ ys) inputs = put_replies i ys (put_reply i inputs y)
 
--- whether each of these replies, now put, has its place within c
+-- whether each of these replies, once put, has its place within c
 unfoldable pub has_room : (c its_bit : ℕ) → List (List Reply) → List Reply → Bool
 has_room c i inputs [] = true
 has_room c i inputs (y ∷ ys) = nat_le (length (replies_at inputs (bit i y.leader))) c && has_room c i inputs ys
 
--- no request, no record and no reply
+-- The switch has no request, no record and no reply.
 abbrev pub IsEmptySwitch : SwitchLists → Type 0
 IsEmptySwitch s =
     IsEmptyOutput (output_of s 0) × IsEmptyOutput (output_of s 1) × (replies_at s.inputs 0 ≡ [])
@@ -82,8 +82,8 @@ IsEmptySwitch s =
 
 -- ---- a reply comes back
 
--- The leader's reply and those of its seconds are put, in the order of the combinations, and its records go; or there
--- is no room for all of them, and nothing changes.
+-- The leader's reply and those of its seconds are put, in the order of the combinations, and its records are dropped;
+-- or there is no room for all of them, and nothing changes.
 abbrev pub answered_from : SwitchLists → (out : ℕ) → Reply → List Record → Answered × SwitchLists
 answered_from s out x records =
     let all = put_replies s.its_bit (answers records x) s.inputs in
@@ -91,6 +91,6 @@ answered_from s out x records =
     then (answered_for records, with_inputs (with_records s out (records_but x.leader (records_at s out))) all)
     else (NoRoom, s)
 
--- what is answered to a reply that comes back to an output, and the switch then
+-- what a switch answers to a reply that comes back to an output, and the switch then
 unfoldable pub answered : SwitchLists → (out : ℕ) → Reply → Answered × SwitchLists
 answered s out x = answered_from s out x (records_of x.leader (records_at s out))

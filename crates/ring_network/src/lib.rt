@@ -1,10 +1,10 @@
-//! An omega network of combining switches whose queues are rings: a second body of the network, to compare the
-//! program's (`omega_network`) with.
+//! An omega network of combining switches whose queues are rings. It is a second implementation of the network, to
+//! compare with the program's (`omega_network`).
 //!
-//! What becomes of a message is said by the definitions of `messages`, in the words of the contracts of
-//! `omega_network` and `combining_switch`; the wait buffers are those of `wait_buffers`. What is its own is where
-//! messages stand. A contract sees a network by `net_of` of `specs/Networks.antt`, as what stands at each place. Room
-//! is made by [`Network::new`] alone: no other call takes memory.
+//! The crate `messages` defines what happens to a message, and the contracts use the same definitions as those of
+//! `omega_network` and `combining_switch`; the wait buffers are those of `wait_buffers`. Only the places where messages
+//! are kept differ. Contracts see a network by `net_of` in `specs/Networks.antt`, as the messages and records at each
+//! place. [`Network::new`] makes all the room: no other call allocates memory.
 //!
 //! Source: the network is that of Gottlieb et al., "The NYU Ultracomputer", IEEE Transactions on Computers C-32(2),
 //! 1983.

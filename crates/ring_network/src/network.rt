@@ -20,9 +20,8 @@ use phi_algebra::Phi;
 use std::alloc::{AllocError, Global};
 use std::marker::Model;
 
-/// A network of `k` stages, whose queues have room for `c` messages and whose wait buffers have room
-/// for `b` records. An entry of a queue is combined up to `r` times. Processors, modules and wires are numbered from
-/// 0, and stages too.
+/// A network of `k` stages, with queues of up to `c` messages and wait buffers of up to `b` records. An entry of a
+/// queue is combined up to `r` times. Processors, modules, wires and stages are numbered from 0.
 #[derive(Drop)]
 pub struct Network {
     slots: Vec<Option<Request>>,
@@ -61,13 +60,13 @@ impl Model for Network {
 }
 
 impl Network {
-    /// An empty network of `k` stages, 0 to 6, with queues of `c` messages, 2 to 16, and wait buffers
-    /// of `b` records, 0 to 16. An entry of a queue is combined up to `r` times, 1 to 3. With no stage the processor's
-    /// slot is the module's.
+    /// An empty network of `k` stages, 0 to 6, with queues of `c` messages, 2 to 16, and wait buffers of `b` records, 0
+    /// to 16. An entry of a queue is combined up to `r` times, 1 to 3. Without a stage, the processor's slot is the
+    /// module's.
     ///
     /// # Errors
     ///
-    /// `AllocError` where there is no memory for it.
+    /// `AllocError` if there is no memory for it.
     pub fn new(alloc: Global, k: u8, c: u8, b: u8, r: u8) -> Result<Self, AllocError>
         requires stages { k ≤ 6 }
         requires queues { (2 ≤ c) × (c ≤ 16) }
@@ -76,7 +75,7 @@ impl Network {
         ensures empty { IfOk result (λ n. IsEmptyNet (net_of n)) }
         ensures sizes { IfOk result (λ n. sizes_of n ≡ record { k = k; c = c; b = b; r = r }) }
     {
-        // The proof needs the type of a request's function named.
+        // The proof needs the type of a request's function to be named.
         let _phi = Phi::identity();
         let wires = wires_of(k);
         Ok(Network {
@@ -90,21 +89,21 @@ impl Network {
         })
     }
 
-    /// How many stages there are.
+    /// The number of stages.
     pub fn stages(&self) -> u8
         ensures { result ≡ self.now.k }
     {
         self.k
     }
 
-    /// How many processors there are, and as many modules, and wires before and after each stage.
+    /// The number of processors, of modules, and of wires before and after each stage.
     pub fn wires(&self) -> u8
         ensures { result ≡ 2 ^ self.now.k }
     {
         1 << self.k
     }
 
-    /// Whether no request, no record and no reply stands anywhere.
+    /// Whether the network has no request, no record and no reply.
     pub fn is_empty(&self) -> bool
         ensures { IsTrue result ↔ IsEmptyNet (net_of self.now) }
     {
@@ -132,8 +131,8 @@ impl Network {
         self.put_slot(p, Some(request));
     }
 
-    /// Moves the first request on a wire before a stage: it is offered to the output that its word's
-    /// module lies after.
+    /// Moves the first request on a wire before a stage: it is offered to the output that leads to the module of its
+    /// word.
     #[inline(always)]
     pub fn up(&mut self, stage: u8, wire: u8) -> UpMove
         requires stage { stage < self.old.k }
@@ -149,7 +148,7 @@ impl Network {
         self.move_up(stage, wire, request)
     }
 
-    /// Moves a request that is the first on a wire before a stage.
+    /// Moves this request, the first on a wire before a stage.
     #[inline(always)]
     fn move_up(&mut self, stage: u8, wire: u8, request: Request) -> UpMove
         requires stage { stage < self.old.k }
@@ -174,8 +173,8 @@ impl Network {
         }
     }
 
-    /// Moves the first reply on a wire after a stage back over the stage: it is answered at the
-    /// output that the wire comes from.
+    /// Moves the first reply on a wire after a stage back over the stage: it is answered at the output that the wire
+    /// comes from.
     #[inline(always)]
     pub fn down(&mut self, stage: u8, wire: u8) -> DownMove
         requires stage { stage < self.old.k }
@@ -184,7 +183,7 @@ impl Network {
         ensures after { net_of self.new ≡ (moved_down (sizes_of self.old) (net_of self.old) stage wire).1 }
         ensures sizes { sizes_of self.new ≡ sizes_of self.old }
     {
-        // There are few stages.
+        // For the proof: a network has at most six stages.
         let _ = &self.k;
         let Some(reply) = self.reply_before(stage + 1, wire) else {
             moves_of_nothing_stall();
@@ -193,7 +192,7 @@ impl Network {
         self.move_down(stage, wire, reply)
     }
 
-    /// Moves a reply that is the first on a wire after a stage back over the stage.
+    /// Moves this reply, the first on a wire after a stage, back over the stage.
     #[inline(always)]
     fn move_down(&mut self, stage: u8, wire: u8, reply: Reply) -> DownMove
         requires stage { stage < self.old.k }
@@ -203,7 +202,7 @@ impl Network {
         ensures after { net_of self.new ≡ (moved_down (sizes_of self.old) (net_of self.old) stage wire).1 }
         ensures sizes { sizes_of self.new ≡ sizes_of self.old }
     {
-        // There are few stages.
+        // For the proof: a network has at most six stages.
         let _ = &self.k;
         match self.answer(stage, wire, reply) {
             Answered::One => {
@@ -279,7 +278,7 @@ impl Network {
         reply
     }
 
-    /// Whether a request stands before a stage on a wire, or at a module for stage `k`.
+    /// Whether there is a request before a stage on a wire, or at a module if the stage is `k`.
     pub fn has_request(&self, stage: u8, wire: u8) -> bool
         requires stage { stage ≤ self.now.k }
         requires wire { wire < 2 ^ self.now.k }
@@ -288,7 +287,7 @@ impl Network {
         self.request_before(stage, wire).is_some()
     }
 
-    /// Whether a reply stands before a stage on a wire, or at a module for stage `k`.
+    /// Whether there is a reply before a stage on a wire, or at a module if the stage is `k`.
     pub fn has_reply(&self, stage: u8, wire: u8) -> bool
         requires stage { stage ≤ self.now.k }
         requires wire { wire < 2 ^ self.now.k }
@@ -297,7 +296,7 @@ impl Network {
         self.reply_before(stage, wire).is_some()
     }
 
-    /// How many requests stand in the queue at the output of a wire after a stage.
+    /// The number of requests in the queue at the output of a wire after a stage.
     pub fn request_count(&self, stage: u8, wire: u8) -> usize
         requires stage { stage < self.now.k }
         requires wire { wire < 2 ^ self.now.k }
@@ -308,7 +307,7 @@ impl Network {
         self.switches[switch].request_count(wire % 2)
     }
 
-    /// How many replies stand in the queue at the input of a wire before a stage.
+    /// The number of replies in the queue at the input of a wire before a stage.
     pub fn reply_count(&self, stage: u8, wire: u8) -> usize
         requires stage { stage < self.now.k }
         requires wire { wire < 2 ^ self.now.k }
@@ -330,7 +329,7 @@ impl Network {
         self.switches[switch].records(wire % 2)
     }
 
-    /// The first request before a stage on a wire, or at a module for stage `k`.
+    /// The first request before a stage on a wire, or at a module if the stage is `k`.
     fn request_before(&self, stage: u8, wire: u8) -> Option<Request>
         requires stage { stage ≤ self.now.k }
         requires wire { wire < 2 ^ self.now.k }
@@ -379,14 +378,14 @@ impl Network {
         ensures after { net_of self.new ≡ (accepted_on (sizes_of self.old) (net_of self.old) stage wire request).1 }
         ensures sizes { sizes_of self.new ≡ sizes_of self.old }
     {
-        // The proof needs the type of this field named.
+        // The proof needs this field's type to be named.
         let _phi = request.phi;
         rotations_are_inverse();
         let place = self.place_behind(stage, wire);
         self.switches[place].accept(wire % 2, request)
     }
 
-    /// The first reply before a stage on a wire, or at a module for stage `k`.
+    /// The first reply before a stage on a wire, or at a module if the stage is `k`.
     fn reply_before(&self, stage: u8, wire: u8) -> Option<Reply>
         requires stage { stage ≤ self.now.k }
         requires wire { wire < 2 ^ self.now.k }
@@ -459,7 +458,7 @@ impl Network {
         self.module_slots[usize::from(m)] = reply;
     }
 
-    /// Where the switch that a wire comes from after a stage stands among all.
+    /// The index, among all switches, of the one that a wire comes from after a stage.
     #[tactic(auto, using(omega_network::proofs::Lemmas::place_is, omega_network::proofs::Lemmas::half_of_wire, omega_network::proofs::Lemmas::place_within))]
     fn place_behind(&self, stage: u8, wire: u8) -> usize
         requires stage { stage < self.now.k }
@@ -470,7 +469,7 @@ impl Network {
         (usize::from(stage) * wires_of(self.k) + usize::from(wire)) / 2
     }
 
-    /// Where the switch that a wire goes to before a stage stands among all.
+    /// The index, among all switches, of the one that a wire goes to before a stage.
     #[tactic(auto, using(omega_network::proofs::Lemmas::place_is, omega_network::proofs::Lemmas::half_of_wire, omega_network::proofs::Lemmas::place_within))]
     fn place_before(&self, stage: u8, wire: u8) -> usize
         requires stage { stage < self.now.k }
@@ -526,7 +525,7 @@ fn new_switches(alloc: Global, k: u8, c: u8, b: u8, r: u8) -> Result<Vec<Switch>
     Ok(switches)
 }
 
-/// How many wires there are.
+/// The number of wires.
 fn wires_of(k: u8) -> usize
     requires { k ≤ 6 }
     ensures { result ≡ 2 ^ k }
@@ -534,7 +533,7 @@ fn wires_of(k: u8) -> usize
     1 << k
 }
 
-/// How many switches a stage has, where there is one.
+/// The number of switches in a stage, if there is a stage.
 fn switches_per_stage(k: u8) -> usize
     requires { k ≤ 6 }
     ensures { 0 < k → result ≡ half k }

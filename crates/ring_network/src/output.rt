@@ -17,11 +17,11 @@ use std::alloc::{AllocError, Global};
 use std::marker::Model;
 use wait_buffers::WaitBuffer;
 
-/// A queue of requests, and the records of those that were combined in it.
+/// An output: a queue of requests, and the records of what was combined there.
 #[derive(Drop)]
 pub struct Output {
     queue: HeapCircularBuffer<Request>,
-    /// How often an entry of the queue is combined.
+    /// How often an entry of the queue may be combined.
     most_marks: u8,
     waiting: WaitBuffer,
 }
@@ -52,8 +52,8 @@ struct Partner {
 }
 
 impl Output {
-    /// An empty queue of up to `c` requests, each of which is combined up to `r` times, and an empty wait buffer of up
-    /// to `b` records.
+    /// An output with an empty queue of up to `c` requests, each combined up to `r` times, and an empty wait buffer of
+    /// up to `b` records.
     pub fn new(alloc: Global, c: u8, b: u8, r: u8) -> Result<Self, AllocError>
         requires records { b ≤ 16 }
         requires combinations { r ≤ 3 }
@@ -66,7 +66,7 @@ impl Output {
         })
     }
 
-    /// Whether it has neither requests nor records.
+    /// Whether the output has neither requests nor records.
     pub fn is_empty(&self) -> bool
         ensures { IsTrue result ↔ IsEmptyOutput self.now }
     {
@@ -98,7 +98,7 @@ impl Output {
         }
     }
 
-    /// Puts a request after the others, if there is room.
+    /// Appends a request to the queue, if there is room.
     fn enqueue(&mut self, request: Request) -> Accepted
         ensures answer { result ≡ (queued self.old request).0 }
         ensures after { self.new ≡ (queued self.old request).1 }
@@ -113,7 +113,7 @@ impl Output {
         }
     }
 
-    /// Puts the entry that stands for both into its partner's place, and keeps the record.
+    /// Puts the entry for both requests into its partner's place, and adds the record.
     fn combine(&mut self, partner: Partner, request: &Request) -> Accepted
         requires partner { IsPartner self.old.r self.old.requests partner }
         requires room { length self.old.records < self.old.b }
@@ -149,7 +149,7 @@ impl Output {
         self.queue.as_slices()
     }
 
-    /// How many requests the queue has.
+    /// The number of requests in the queue.
     pub fn request_count(&self) -> usize
         ensures { result ≡ length self.now.requests }
     {
@@ -185,7 +185,7 @@ impl Output {
         self.queue.pop_front()
     }
 
-    /// The replies for a reply that comes back.
+    /// The replies that a reply gives when it comes back.
     pub fn answers(&self, reply: Reply) -> Replies
         ensures { result.items ≡ answers (records_of reply.leader self.now.records) reply }
     {
@@ -231,7 +231,7 @@ fn first_partner(
     None
 }
 
-/// The function of an entry and a request together, where the two combine: the entry was combined fewer than
+/// The function of an entry and a request together, if they combine. The entry must have been combined fewer than
 /// `most_marks` times.
 #[tactic(auto, unfolding(messages::specs::Queues::joint))]
 fn joint(most_marks: u8, entry: &Request, request: &Request) -> Option<Phi>

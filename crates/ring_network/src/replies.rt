@@ -1,4 +1,4 @@
-//! The replies that one reply becomes.
+//! The replies that one reply gives.
 
 ghost use Rattle.std.specs.Prelude.{◌≡◌, ◌≤◌, length};
 ghost use Rattle.messages.specs.Queues.{answers, records_of};
@@ -6,11 +6,11 @@ ghost use Rattle.messages.specs.Queues.{answers, records_of};
 use arrayvec::ArrayVec;
 use messages::{Record, Reply};
 
-/// The leader's own reply, and one for each of its records, of which a wait buffer has 16 at most.
+/// The leader's own reply, and one for each of its records. A wait buffer has at most 16 records.
 pub type Replies = ArrayVec<Reply, 17>;
 
-/// The replies for a reply that comes back: the leader's own, and then one for the second of each of its records among
-/// these, in the order of their combinations.
+/// The replies that a reply gives when it comes back: the leader's own, and then one for the second of each of its
+/// records among these, in the order of their combinations.
 pub(crate) fn replies_for(records: &[Record], reply: Reply) -> Replies
     requires { length records.now ≤ 16 }
     ensures { result.items ≡ answers (records_of reply.leader records.now) reply }

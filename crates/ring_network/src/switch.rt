@@ -47,13 +47,12 @@ impl Model for Switch {
 }
 
 impl Switch {
-    /// An empty switch with queues of up to `c` messages and wait buffers of up to `b` records, whose
-    /// replies go by bit `its_bit` of their leaders' numbers. An entry of a queue of requests is combined up to `r`
-    /// times.
+    /// An empty switch with queues of up to `c` messages and wait buffers of up to `b` records. A reply goes to the
+    /// input that is bit `its_bit` of its leader's number. An entry of a queue of requests is combined up to `r` times.
     ///
     /// # Errors
     ///
-    /// `AllocError` where there is no memory for the queues.
+    /// `AllocError` if there is no memory for the queues.
     pub fn new(alloc: Global, c: u8, b: u8, r: u8, its_bit: u8) -> Result<Self, AllocError>
         requires queues { (2 ≤ c) × (c ≤ 16) }
         requires records { b ≤ 16 }
@@ -79,7 +78,7 @@ impl Switch {
         ensures answer { result ≡ (accepted (output_of self.old out) request).0 }
         ensures after { self.new ≡ with_output self.old out (accepted (output_of self.old out) request).1 }
     {
-        // The proof needs the type of this field named.
+        // The proof needs this field's type to be named.
         let _phi = request.phi;
         self.outputs[usize::from(out)].accept(request)
     }
@@ -100,7 +99,7 @@ impl Switch {
         self.outputs[usize::from(out)].requests()
     }
 
-    /// The records of an output's wait buffer, from the first combination on.
+    /// The records of an output's wait buffer, in the order of their combinations.
     pub fn records(&self, out: u8) -> &[Record]
         requires { out < 2 }
         ensures { result.now ≡ records_at self.now out }
@@ -108,7 +107,7 @@ impl Switch {
         self.outputs[usize::from(out)].records()
     }
 
-    /// How many requests an output's queue has.
+    /// The number of requests in an output's queue.
     pub fn request_count(&self, out: u8) -> usize
         requires { out < 2 }
         ensures { result ≡ length (requests_at self.now out) }
@@ -116,7 +115,7 @@ impl Switch {
         self.outputs[usize::from(out)].request_count()
     }
 
-    /// How many replies an input's queue has.
+    /// The number of replies in an input's queue.
     pub fn reply_count(&self, inp: u8) -> usize
         requires { inp < 2 }
         ensures { result ≡ length (replies_at self.now.inputs inp) }
@@ -141,8 +140,8 @@ impl Switch {
         self.outputs[usize::from(out)].take()
     }
 
-    /// Answers a reply that comes back to an output: the leader's own reply and those of its seconds are
-    /// put to their inputs, the leader's first, or none is.
+    /// Answers a reply that comes back to an output: the leader's own reply and those of its seconds are put at their
+    /// inputs, the leader's first, or none is.
     pub fn answer(&mut self, out: u8, reply: Reply) -> Answered
         requires { out < 2 }
         ensures answer { result ≡ (answered self.old out reply).0 }
@@ -158,7 +157,7 @@ impl Switch {
         outcome(replies)
     }
 
-    /// The replies for a reply that comes back to an output.
+    /// The replies that a reply gives when it comes back to an output.
     fn answers(&self, out: u8, reply: Reply) -> Replies
         requires { out < 2 }
         ensures { result.items ≡ answers (records_of reply.leader (records_at self.now out)) reply }
@@ -185,7 +184,7 @@ impl Switch {
             && count_for(self.its_bit, 1, replies) <= self.room_at(1)
     }
 
-    /// How many replies still fit at an input.
+    /// The number of replies that still fit at an input.
     fn room_at(&self, inp: usize) -> usize
         requires { inp < 2 }
         ensures { result + length (replies_at self.now.inputs inp) ≡ self.now.c }
@@ -194,7 +193,7 @@ impl Switch {
         queue.capacity() - queue.len()
     }
 
-    /// Puts each reply after those at its leader's input, for which there must be room.
+    /// Appends each reply at its leader's input, where there must be room.
     fn put_all(&mut self, replies: &[Reply])
         requires two { length self.old.inputs ≡ 2 }
         requires room { IsTrue (has_room self.old.c self.old.its_bit
@@ -206,7 +205,7 @@ impl Switch {
         }
     }
 
-    /// Puts a reply after those at its leader's input, for which there must be room.
+    /// Appends a reply at its leader's input, where there must be room.
     fn put(&mut self, reply: Reply)
         requires { length (replies_at self.old.inputs (bit self.old.its_bit reply.leader)) < self.old.c }
         ensures { self.new ≡ with_inputs self.old (put_reply self.old.its_bit self.old.inputs reply) }
@@ -233,7 +232,7 @@ impl Switch {
         self.inputs[usize::from(inp)].pop_front()
     }
 
-    /// Whether it has no request, no record and no reply.
+    /// Whether the switch has no request, no record and no reply.
     pub fn is_empty(&self) -> bool
         ensures { IsTrue result ↔ IsEmptySwitch self.now }
     {
@@ -244,7 +243,7 @@ impl Switch {
     }
 }
 
-/// Who is answered by these replies, of which the first is the leader's.
+/// The answer that reports these replies, of which the first is the leader's.
 fn outcome(replies: &[Reply]) -> Answered
     ensures { (reply : Reply) (records : List Record) → replies.now ≡ answers records reply →
         result ≡ answered_for records }
@@ -258,7 +257,7 @@ fn outcome(replies: &[Reply]) -> Answered
     Answered::Many { seconds }
 }
 
-/// How many of the replies are for an input.
+/// The number of these replies that are for an input.
 fn count_for(its_bit: u8, inp: u8, replies: &[Reply]) -> usize
     requires { its_bit < 8 }
     ensures { result ≡ length (replies_for its_bit inp replies.now) }

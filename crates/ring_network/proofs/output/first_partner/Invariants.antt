@@ -1,6 +1,6 @@
 use Rattle.messages.proofs.Lemmas.{NoneBefore}
 use Rattle.ring_network.proofs.output.first_partner.Given as goal
 
--- no entry so far combines with the request
+-- No entry so far combines with the request.
 abbrev pub invariant-loop-place : goal.invariant-loop-place
 invariant-loop-place l = NoneBefore l.most_marks l.request l.queue.items l.place

@@ -2,7 +2,7 @@ use Rattle.std.proofs.Common.{◌≡◌, ◌≤◌, ◌+◌, length, take}
 use Rattle.messages.specs.Queues.{answers, records_of}
 use Rattle.ring_network.proofs.replies.replies_for.Given as goal
 
--- the replies of the records so far
+-- The replies so far are those of the records so far.
 abbrev pub invariant-loop-record : goal.invariant-loop-record
 invariant-loop-record l = record {
   room : length l.replies.items ≤ l.record-index + 1;

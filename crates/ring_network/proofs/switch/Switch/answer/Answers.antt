@@ -7,7 +7,7 @@ use Rattle.combining_switch.specs.Switches.{answered_for}
 use Rattle.ring_network.specs.Switches.{SwitchLists, answered, has_room, put_replies, records_at, with_inputs, with_records}
 use Rattle.ring_network.proofs.switch.Switch.answer.Goals as goal
 
--- what is answered, by the test of the replies themselves
+-- The answer depends on the test of room for the replies themselves.
 by_room : (s : SwitchLists) (out : ℕ) (x : Reply) (ys : List Reply) (b : Bool) → ys ≡ answers (records_of x.leader (records_at s out)) x
     → has_room s.c s.its_bit (put_replies s.its_bit ys s.inputs) ys ≡ b
     → answered s out x ≡ (if b
