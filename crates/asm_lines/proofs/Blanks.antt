@@ -71,7 +71,7 @@ pub all_alike : (ones : List (List ℕ)) → Pairwise AreReadAlike ones ones
 all_alike [] = none
 all_alike (one ∷ ones) = more (alike_itself one) (all_alike ones)
 
--- two texts without commas in one place of the operands
+-- two texts without commas, in the same place of the operands
 module _ (M N : List ℕ) (quiet : lacks 44 M ≡ true) (quiet' : lacks 44 N ≡ true)
     (alike : (front back : List ℕ) → AreReadAlike (trimmed (front ++ (M ++ back))) (trimmed (front ++ (N ++ back)))) where
   last_operand : (lead X back : List ℕ) → lacks 44 lead ≡ true → lacks 44 X ≡ true → lacks 44 back ≡ true

@@ -23,11 +23,11 @@ module _ (sign field : ℕ) (fits : field < 2 * sign) (small : sign < 2 ^ 31) wh
   pub signed_small : unsigned_abs (signed sign field) < 2 ^ 32
   signed_small = signed_cases (λ z. unsigned_abs z < 2 ^ 32) sign field fits (λ lt. omega arith) (λ le. omega arith)
 
-  -- The number of a signed field is not below -(least + 1), if the sign weighs at most least + 1.
+  -- The number of a signed field is not below -(least + 1), if the sign bit weighs at most least + 1.
   pub signed_low : (least : ℕ) → sign ≤ suc least → int_le (negsuc least) (signed sign field) ≡ true
   signed_low least le = signed_cases (λ z. int_le (negsuc least) z ≡ true) sign field fits (λ lt. refl) (λ high. le-leb _ _ (omega arith))
 
-  -- The number of a signed field is at most a bound, if the sign weighs at most the bound + 1.
+  -- The number of a signed field is at most a bound, if the sign bit weighs at most the bound + 1.
   pub signed_high : (most : ℕ) → sign ≤ suc most → int_le (signed sign field) (pos most) ≡ true
   signed_high most le = signed_cases (λ z. int_le z (pos most) ≡ true) sign field fits (λ lt. le-leb _ _ (omega arith)) (λ high. refl)
 

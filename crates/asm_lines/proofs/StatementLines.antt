@@ -76,7 +76,7 @@ same_operands : (word rest rest' : List ℕ) → operands_of rest ≡ operands_o
 unfolding statement_in
 same_operands word rest rest' e = ap (chosen (directive_of word) (mnemonic_of word)) e
 
--- The test of length 0 is false for a text that has a byte.
+-- A text that has a byte fails the test for length 0.
 pub not_empty : (xs : List ℕ) → 0 < length xs → eqb (length xs) 0 ≡ false
 not_empty xs some = ne_eqb _ _ (λ e. absurd (omega (arith, e, some)))
 

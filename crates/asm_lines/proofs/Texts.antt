@@ -26,7 +26,7 @@ slice_split-uncut p (b ∷ bs) e = uncut (p b) refl e (slice_split-uncut p bs)
 
 -- the pieces so far, each `f` of the bytes before a byte that passes, and the rest
 module _ (p : ℕ → Bool) (f : List ℕ → List ℕ) where
-  -- If a piece is cut off the rest, the pieces so far and the pieces of the rest still are all pieces.
+  -- After a piece is cut off the rest, the pieces so far and those of the rest are still all pieces.
   pub pieces_more : (old new : List (Bor (List ℕ))) (x : Bor (List ℕ)) (rest after : List ℕ) (all : List (List ℕ)) → new ≡ old ++ x ∷ [] →
       position_or_len p rest < length rest → x.now ≡ f (before_first p rest) → after ≡ after_first p rest
       → map (λ (y : Bor (List ℕ)). y.now) old ++ map f (slice_split p rest) ≡ all → map (λ (y : Bor (List ℕ)). y.now) new ++ map f (slice_split p after) ≡ all

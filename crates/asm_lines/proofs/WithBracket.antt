@@ -15,7 +15,7 @@ use Rattle.asm_lines.proofs.PlainWords.{weaker}
 use Rattle.asm_lines.proofs.Alike.{find_nothing}
 use Rattle.asm_lines.proofs.Trims.{lacks}
 
--- The byte is a bracket, and no other byte that is read.
+-- The byte is a bracket, and so none of the other bytes that the readers look for.
 pub record IsBracket (m : ℕ) : Type 0 where
   -- it is an opening or a closing bracket
   pub which : (m ≡ 40) ⊎ (m ≡ 41)
@@ -42,12 +42,12 @@ pub record IsBracket (m : ℕ) : Type 0 where
   -- not in %lo
   pub low : lacks m (37 ∷ 108 ∷ 111 ∷ []) ≡ true
 
--- a bracket, of which holds what holds of both
+-- a byte that is one of the two brackets
 module _ (m : ℕ) (which : (m ≡ 40) ⊎ (m ≡ 41)) where
   of_both : (P : ℕ → Type 0) → P 40 → P 41 → P m
   of_both P a b = elim which [ inl e ↦ subst P (sym e) a | inr e ↦ subst P (sym e) b ]
 
-  -- An opening or a closing bracket is no other byte that is read.
+  -- An opening or a closing bracket is none of the other bytes that the readers look for.
   pub bracket : IsBracket m
   bracket = record {
     which = which;

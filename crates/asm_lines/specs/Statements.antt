@@ -38,7 +38,7 @@ use Rattle.asm_lines.specs.Text.{is_blank, trimmed, cut_at, cut_last_at, operand
 use Rattle.asm_lines.specs.Number.{number_within, natural_within, low_bits}
 use Rattle.asm_lines.specs.Names.{mnemonic_of, directive_of, register_of}
 
--- a number or a label, of which its place takes the value, %hi, %lo, or the distance
+-- a number, or a label, for which its place uses the value, %hi, %lo or the distance
 pub data Val : Type 0 where
   number : ℤ → Val
   label : List ℕ → Val

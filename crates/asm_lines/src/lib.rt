@@ -1,4 +1,4 @@
-//! Reads one line of assembler text as one statement, and has the words of the language for both directions.
+//! Reads a line of assembler text as a statement, and translates the words of the language in both directions.
 //!
 //! The language is this project's own: the mnemonics and register names of the RISC-V manual, six directives, labels,
 //! decimal and hex numbers, `%hi` and `%lo`. `line_of` in `specs/Statements.antt` defines what a line says, and

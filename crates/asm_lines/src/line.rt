@@ -1,4 +1,4 @@
-//! Reads a line.
+//! Reading a line.
 
 ghost use Rattle.std.specs.Prelude.{◌≡◌, ok_or, map};
 ghost use Rattle.std.specs.Option.{option_map};

@@ -8,7 +8,7 @@ ghost use Rattle.asm_lines.specs.Written.{mnemonic_of_insn, order_of_insn};
 use crate::text::cut_last;
 use rv_table::{AmoOp, BranchOp, ImmediateOp, Insn, LoadOp, RegisterOp, ShiftOp, StoreOp, UpperOp};
 
-/// The first word of an instruction: its operation, under its shape, which decides its operands.
+/// The first word of an instruction: its operation, grouped by the shape that determines the operands.
 #[derive(Clone, Copy, Debug, PartialEq, Eq, Drop)]
 pub enum Mnemonic {
     /// As `add rd, rs1, rs2`.

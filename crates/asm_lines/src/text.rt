@@ -98,7 +98,7 @@ pub fn cut_blank(text: &[u8]) -> Option<(&[u8], &[u8])>
     Some((text.split_at(at).0, text.split_at(at + 1).1))
 }
 
-/// The parts between the bytes that equal `mark`, of which there is one more than such bytes.
+/// The parts between the bytes that equal `mark`: one more than there are such bytes.
 ///
 /// # Errors
 ///

@@ -115,7 +115,8 @@ with_a_record o x free = ap (λ b. if b then combined_in o.r x o.requests else N
 without_a_record : (o : OutputLists) (x : Request) → o.b ≤ length o.records → combination o.b o.r x o.requests o.records ≡ None
 without_a_record o x full = ap (λ b. if b then combined_in o.r x o.requests else None) (le-ltb (length o.records) o.b full)
 
--- If a record is free, a request combines with the first entry with which it can, as `CombinesWithTheFirst` says.
+-- If a record is free, a request is combined with the first entry that combines with it, as `CombinesWithTheFirst`
+-- says.
 pub with_the_first : CombinesWithTheFirst
 with_the_first o x i e phi free at none =
     let joins : joint o.r x e ≡ Some phi = joint_is o.r x e phi at.fewer at.same_word at.composes in

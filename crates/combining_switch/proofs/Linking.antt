@@ -125,7 +125,7 @@ became next queues next' q e ps linked long there walks others apart last = reco
 abbrev Pushed : (next : List ℕ) (queues : List Ends) (q p : ℕ) → LinkLists → Type 0
 Pushed next queues q p v = Became next queues (with_queue v q (queue_at v q ++ p ∷ []))
 
--- If the ends of an empty queue get as first and last a number that no queue has, the queue has that number.
+-- If a number that no queue has becomes the first and last of an empty queue's ends, the queue has that number.
 pub pushed_first : (next : List ℕ) (queues : List Ends) (v : LinkLists) (q p : ℕ) (e : Ends) → lists_of next queues ≡ v → IsLinked next queues →
     q < length v.queues → p < v.cells → IsUnlinked v p → e ≡ get_or queues q e → e.count ≡ 0
     → Became next (set queues q (record { first = p; last = p; count = 1 })) (with_queue v q (queue_at v q ++ p ∷ []))
@@ -216,7 +216,7 @@ pushed_more next queues v q p e is linked =
         (subst (λ m. (x : ℕ) → In x (walk next e.first m) → x < length next) c below) (subst (λ m. Distinct (walk next e.first m)) c once)
         ∙ ap (λ m. walk next e.first m ++ p ∷ []) (sym c)
 
--- If a queue's ends get as their first what the table has for the first before, the queue loses its first number.
+-- If the first of a queue's ends becomes what the table has for the old first, the queue loses its first number.
 pub popped : (next : List ℕ) (queues : List Ends) (v : LinkLists) (q : ℕ) (e : Ends) (g : ℕ) → lists_of next queues ≡ v → IsLinked next queues →
     q < length v.queues → e ≡ get_or queues q e → 0 < e.count → g ≡ get_or next e.first g
     → Became next (set queues q (record { first = g; last = e.last; count = e.count - 1 })) (with_queue v q (drop 1 (queue_at v q)))

@@ -146,7 +146,7 @@ module _ {X Y : Type 0} where
   get_or-map_past f (x ∷ xs) zero d = refl
   get_or-map_past f (x ∷ xs) (suc i) d = get_or-map_past f xs i d
 
-  -- If two functions agree on what is read at each place of a list, they map the list to the same.
+  -- If two functions agree on what is read at each place of a list, the mapped lists are equal.
   pub map_same : (f g : X → Y) (xs : List X) (d : X) → ((j : ℕ) → g (get_or xs j d) ≡ f (get_or xs j d)) → map g xs ≡ map f xs
   map_same f g [] d same = refl
   map_same f g (x ∷ xs) d same = (λ k. same 0 k ∷ map_same f g xs d (λ j. same (suc j)) k)

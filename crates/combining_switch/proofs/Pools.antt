@@ -125,7 +125,7 @@ side zero q = of_replies q (omega arith)
 side (suc m) zero = of_requests (omega arith)
 side (suc m) (suc q) = elim (side m q) [ of_requests lt ↦ of_requests (omega arith) | of_replies r e ↦ of_replies r (omega arith) ]
 
--- A processor that is free in the pool has its number in no linked queue.
+-- The number of a processor that is free in the pool is in no linked queue.
 pub unlinked_is : (cells : List Cell) (m : ℕ) (l : LinkLists) (v : PoolLists) (p : ℕ) → pool_lists cells m l ≡ v → IsFree v p → IsUnlinked l p
 unlinked_is cells m l v p is = subst (λ w. IsFree w p → IsUnlinked l p) is (λ free q i. elim (side m q) [
   | of_requests lt ↦ free.no_request q
@@ -159,7 +159,7 @@ reply_other : (cells : List Cell) (p : ℕ) (c : Cell) (r : ℕ) → (r ≡ p �
 unfolding reply_in
 reply_other cells p c r n = ap (λ (d : Cell). record { leader = r; value = d.value }) (get_or-set_other cells p r c no_cell n)
 
--- A request that is written to its leader's cell is the request read there, whatever value the cell has.
+-- A request that is written to its leader's cell is the request read there, for any value in the cell.
 pub request_written : (cells : List Cell) (x : Request) (n : ℕ) → x.leader < length cells →
     request_in (set cells x.leader (record { word = x.word; phi = x.phi; marks = x.marks; value = n })) x.leader ≡ x
 unfolding request_in

@@ -120,7 +120,7 @@ pub no_amo : (w : ℕ) → bit_and w 0x7F ≡ 0x2F → ((op : AmoOp) → ¬ amo_
 no_amo w opcode none (Amo op rd rs1 rs2 aq rl) s = none op (sym s.row)
 no_amo w opcode none i s = grind (arith, opcode_from_spells w i s)
 
--- A reading of a word is what any exact reading gives.
+-- A reading of a word is the same as any exact reading.
 pub reading_is : (w : ℕ) (r o : Option Insn) → ((i : Insn) → (o ≡ Some i) ↔ Spells w i) → IsReading w r → r ≡ o
 reading_is w None None exact none = refl
 reading_is w None (Some i) exact none = absurd (none i ((exact i).0 refl))

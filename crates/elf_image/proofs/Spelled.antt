@@ -73,7 +73,7 @@ bytes_of p = program_header_bytes p.p_offset p.p_vaddr p.p_filesz p.p_flags
 
 -- The program header can be read back from its bytes.
 pub record IsSpelled (p : ProgramHeader) : Type 0 where
-  -- it is of a segment to load
+  -- it is that of a segment to load
   pub load : p.p_type ≡ 1
   -- the segment is as long in memory as in the file
   pub same : p.p_memsz ≡ p.p_filesz

@@ -1,4 +1,4 @@
--- The error of an image that was not read.
+-- The image error for each error of reading.
 use Rattle.link.specs.declared.transfer.ReadError.{ReadError}
 use Rattle.link.specs.declared.transfer.ReadError.TheVariants as read
 use Rattle.elf_image.specs.declared.error.ImageError.{ImageError}

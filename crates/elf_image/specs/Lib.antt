@@ -9,5 +9,5 @@ pub mod Spellings
 pub mod Openings
 pub mod Files
 pub mod Laws
--- Words of lower crates, passed on to those above.
+-- Definitions of lower crates, re-exported for those above.
 pub use Rattle.local_memory.specs as local_memory

@@ -8,5 +8,5 @@ pub mod Memory
 pub mod Turns
 pub mod Flat
 pub mod Laws
--- Words of lower crates, passed on to those above.
+-- Definitions of lower crates, re-exported for those above.
 pub use Rattle.rv_table.specs as rv_table

@@ -19,7 +19,7 @@ signed a = cast_signed w32 a
 unfoldable pub upper : ℤ → ℕ
 upper product = cast_unsigned w64 product / 2 ^ 32
 
--- whether this is -2^31 by -1, the only quotient in two's complement that is no word
+-- whether this is -2^31 by -1, the only quotient in two's complement that does not fit in a word
 abbrev pub overflows : (a b : ℕ) → Bool
 overflows a b = a == 2 ^ 31 && b == 2 ^ 32 - 1
 

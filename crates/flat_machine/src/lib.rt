@@ -1,4 +1,4 @@
-//! The flat machine, with which a user of the simulator reasons. Processors take whole instructions
+//! The flat machine: the model with which a user of the simulator reasons. Processors take whole instructions
 //! one at a time, all on one shared memory; there is no message, no queue and no switch.
 //!
 //! The machine itself is defined in `specs/`: its state (`State.antt`), the arithmetic of words

@@ -54,7 +54,7 @@ pub fn jump_offset(offset: Immediate<20>) -> u32
     }
 }
 
-/// The bytes of a word from an offset on, as a number.
+/// The bytes of a word from an offset on, as many as the size has, as a number.
 #[tactic(auto, unfolding(flat_machine::specs::Words::part_of))]
 pub fn part(size: Size, offset: u32, word: u32) -> u32
     requires { offset + bytes_of size ≤ 4 }

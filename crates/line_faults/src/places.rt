@@ -85,7 +85,7 @@ impl<'a> Cursor<'a> {
         Ok(base_of(self.section) + count as u32)
     }
 
-    /// The fault of a line that says this at the cursor.
+    /// The fault of a line with this content, at the cursor.
     #[tactic(auto, unfolding(assembler::specs::Meaning::place_said, assembler::specs::Meaning::piece_of))]
     pub fn fault_of(&self, labels: &BTreeMap<&'a [u8], Label>, said: &Line<'a>) -> Option<AsmFault>
         ensures { result ≡ said_fault (label_values labels.now) (place_of self.now) (said_of said.now) }
@@ -136,7 +136,7 @@ impl<'a> Cursor<'a> {
         Ok(())
     }
 
-    /// Moves past the line with this number, which says this.
+    /// Moves past a line with this content and number.
     #[tactic(auto, unfolding(assembler::specs::Meaning::after_said))]
     pub fn pass(&mut self, said: &Line<'a>, number: usize) -> Result<(), AllocError>
         ensures { OnOk result (place_of self.new ≡ after_said (place_of self.old) (said_of said.now)) }

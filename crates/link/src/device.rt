@@ -39,7 +39,7 @@ pub trait LinkRead: Read + Link {
 
 /// A writer that is a link.
 pub trait LinkWrite: Write + Link {
-    /// Writes a first part of the bytes, at least one of them.
+    /// Writes some of the bytes, from the first on, and at least one.
     ///
     /// # Errors
     ///

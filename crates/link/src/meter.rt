@@ -20,7 +20,7 @@ pub struct Meter<T> {
 }
 
 impl<T> Meter<T> {
-    /// A link of the device, on which no call has failed yet.
+    /// A link made of the device, on which no call has failed yet.
     pub fn new(device: T) -> Self
         ensures device { result.device ≡ device }
         ensures works { ⟦<Meter<T> as Link>⟧.has_failed result ≡ false }

@@ -4,5 +4,5 @@
 pub use Rattle.machine_ports.proofs.References.{reference_means}
 -- A core that is away refers to no word. Turns and writes from outside leave each core where it is.
 pub use Rattle.machine_ports.proofs.Away.{no_reference, reaches_stays, register_stays, retires_stays}
--- Lemmas of lower crates, passed on to those above.
+-- Lemmas of lower crates, re-exported for those above.
 pub use Rattle.flat_machine.proofs.Lemmas as flat_machine

@@ -112,7 +112,7 @@ impl Port {
         Some(core)
     }
 
-    /// Puts a core of this processor in.
+    /// Puts in a core of this processor.
     pub fn put_core(&mut self, core: Core)
         requires setting { core.setting ≡ self.old.core.setting }
         ensures { self.new ≡ record self.old { core = core } }

@@ -10,7 +10,7 @@ use Rattle.messages.specs.declared.message.Record.{Record}
 use Rattle.messages.specs.Places.{In}
 use Rattle.messages.specs.Queues.{answers, applied, records_of}
 
--- Each reply of an answer is led by the leader of the reply that came back, or by the second of one of the records.
+-- Each reply of an answer is for the leader of the reply that came back, or for the second of one of the records.
 pub from_answers : (x y : Reply) (rs : List Record) → In y (answers rs x) → (y.leader ≡ x.leader) ⊎ ((r : Record) × In r rs × (y.leader ≡ r.second))
 from_answers x y rs (inl e) = inl (ap (λ (b : Reply). b.leader) e)
 from_answers x y rs (inr m) = inr (go rs m)

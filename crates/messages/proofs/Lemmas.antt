@@ -11,5 +11,5 @@ pub use Rattle.messages.proofs.Combinations.{NoneBefore, combined_at, combined_n
 pub use Rattle.messages.proofs.Joining.{Joins, combination_joins}
 -- The leaders of the replies that one reply gives, and what one more record adds.
 pub use Rattle.messages.proofs.Answering.{from_answers, in_range, left_less, taken_more}
--- Lemmas of lower crates, passed on to those above.
+-- Lemmas of lower crates, re-exported for those above.
 pub use Rattle.phi_algebra.proofs.Lemmas as phi_algebra

@@ -5,5 +5,5 @@ pub mod Network
 pub mod Naming
 pub mod Moves
 pub mod Laws
--- Words of lower crates, passed on to those above.
+-- Definitions of lower crates, re-exported for those above.
 pub use Rattle.phi_algebra.specs as phi_algebra

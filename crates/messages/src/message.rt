@@ -36,7 +36,7 @@ pub struct Record {
     pub second: u8,
 }
 
-/// A blank, for the unused places of a buffer of fixed size.
+/// A placeholder for the unused places of a buffer of fixed size.
 impl Default for Record {
     fn default() -> Self {
         Record {

@@ -19,9 +19,9 @@ use Rattle.omega_network.proofs.Switches.{with_pool, with_switch}
 pub record Replied (m : NetworkLists) (s w : ℕ) (x : Reply) (answer : DownMove) (l : NetworkLists) : Type 0 where
   -- The lists that the call leaves are those of a network.
   pub is : IsNetwork l
-  -- The answer is the outcome of the reply's answer in the network of places.
+  -- The call's answer is the outcome of answering the reply in the network of places.
   pub answer_is : answer ≡ (moves.answer (sizes_of m) (net_of m) (net_of m) s w x (records_of x.leader (records_behind m s w))).0
-  -- The network that the call leaves is the one after that.
+  -- The network that the call leaves is the one after the reply is answered.
   pub net_is : net_of l ≡ (moves.answer (sizes_of m) (net_of m) (net_of m) s w x (records_of x.leader (records_behind m s w))).1
 
 module _ {n m : NetworkLists} {s w number : ℕ} {u : SwitchState} (found : Found n m s w number u) (x : Reply) where

@@ -105,7 +105,7 @@ no_record_is n is empty j d l = (
 -- ---- for the call
 
 module _ (n m : NetworkLists) (view : n ≡ m) (is : IsNetwork n) (messages : Bool) (fact : IsTrue messages ↔ HasNoMessage n.pool) where
-  -- If a queue has a message, the network is not empty, as the call answers.
+  -- If a queue has a message, the network is not empty, as the call says.
   pub not_empty : messages ≡ false → (IsTrue messages → IsEmptyNet (net_of m)) × (IsEmptyNet (net_of m) → IsTrue messages)
   not_empty some_one = (
     (λ t. absurd (let no : true ≡ false = sym t ∙ some_one in cc)),

@@ -23,7 +23,7 @@ module _ {X : Type 0} (k : ℕ) (before after : ℕ → ℕ → List X) where
       by (inl a) (inr n) = look.kept d w (others (λ _ b. n b))
       by (inr n) _ = look.kept d w (others (λ b _. n b))
 
-  -- If messages changed on at most one wire, the sets are theirs once it was looked at.
+  -- If messages changed on at most one wire, the sets are right once this wire was looked at.
   pub one_look : (sets sets' : List ℕ) (d1 w1 : ℕ) → Knows k before sets → ((d w : ℕ) → (d ≡ d1 → w ≡ w1 → ⊥) → after d w ≡ before d w) →
       IsLookedAt k after d1 w1 sets sets' → Knows k after sets'
   one_look sets sets' d1 w1 knows same look = record {
@@ -31,7 +31,7 @@ module _ {X : Type 0} (k : ℕ) (before after : ℕ → ℕ → List X) where
     few = λ d w past. look.few d w past (knows.few d w past);
   }
 
-  -- If messages changed on at most three wires, the sets are theirs once these were looked at one after another.
+  -- If messages changed on at most three wires, the sets are right once these were looked at, one after another.
   pub three_looks : (sets sets1 sets2 sets3 : List ℕ) (d1 w1 d2 w2 d3 w3 : ℕ) → Knows k before sets
       → ((d w : ℕ) → (d ≡ d1 → w ≡ w1 → ⊥) → (d ≡ d2 → w ≡ w2 → ⊥) → (d ≡ d3 → w ≡ w3 → ⊥) → after d w ≡ before d w)
       → IsLookedAt k after d1 w1 sets sets1 → IsLookedAt k after d2 w2 sets1 sets2 → IsLookedAt k after d3 w3 sets2 sets3 → Knows k after sets3

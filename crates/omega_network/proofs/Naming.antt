@@ -48,7 +48,7 @@ module _ (n : NetworkLists) (is : IsNetwork n) (p : ℕ) where
     ]
   ]
 
-  -- If no message is led by a processor and no record has it as its second, its cell is free.
+  -- If a processor leads no message and is the second of no record, its cell is free.
   pub unnamed_is_free : Unnamed (net_of n) p → IsFree n.pool p
   unnamed_is_free none = elim (leads_or_free n p) [
     | inl led ↦ absurd (elim led [ by_request d w x m e ↦ none.requests d w x m e | by_reply d w y m e ↦ none.replies d w y m e ])
@@ -91,14 +91,14 @@ module _ (n m : NetworkLists) (view : n ≡ m) (is : IsNetwork n) (p : ℕ) (fre
   unseen_unnamed : Unnamed (net_of m) p → Unnamed (net_of n) p
   unseen_unnamed h = subst (λ (l : NetworkLists). Unnamed (net_of l) p) (sym view) h
 
-  -- If a processor's cell is not free, the network names the processor, as the call answers.
+  -- If a processor's cell is not free, the network names the processor, as the call says.
   pub names_where_led : free ≡ false → (IsTrue (not free) → Names (net_of m) p) × (Names (net_of m) p → IsTrue (not free))
   names_where_led busy = (
     (λ t. in_view (not_free_is_named n is p (λ f. let no : true ≡ false = sym (fact.1 f) ∙ busy in cc))),
     (λ h. ap not busy),
   )
 
-  -- If a processor's cell is not free, no reply for it may be put in, as the call answers.
+  -- If a processor's cell is not free, no reply for it may be put in, as the call says.
   pub may_not_where_led : free ≡ false → (IsTrue free → Unnamed (net_of m) p) × (Unnamed (net_of m) p → IsTrue free)
   may_not_where_led busy = (
     (λ t. absurd (let no : true ≡ false = sym t ∙ busy in cc)),

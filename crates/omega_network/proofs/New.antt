@@ -31,7 +31,7 @@ get_left [] ys i l = absurd (omega arith)
 get_left (x ∷ xs) ys zero l = refl
 get_left (x ∷ xs) ys (suc i) l = get_left xs ys i (omega arith)
 
--- The element that is appended to a list has the list's length as its index.
+-- An element that is appended to a list has the list's length as its index.
 pub get_last : {X : Type 0} (xs : List X) (x : X) → slice_get (xs ++ x ∷ []) (length xs) ≡ Some x
 get_last [] x = refl
 get_last (y ∷ ys) x = get_last ys x

@@ -82,7 +82,7 @@ module _ (n : NetworkLists) (is : IsNetwork n) (s w : ℕ) (stage : s < n.k) (wi
   abbrev first : NetworkLists
   first = with_pool n pool
 
-  -- What the output of a wire does with a request is what the offer of the request to it does in a network of places.
+  -- What the output of a wire does with a request is what offering the request there does in a network of places.
   pub fact : Offered (sizes_of n) (net_of n) s w x (accepted (output_in n.pool (output_of (switch_at n s (w / 2)) (w % 2))) x)
       (moves.offered (sizes_of n) (net_of n) (net_of n) s w x)
   fact = subst (λ (o : OutputLists). Offered (sizes_of n) (net_of n) s w x (accepted o x) (moves.offered (sizes_of n) (net_of n) (net_of n) s w x))

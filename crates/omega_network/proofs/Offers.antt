@@ -133,7 +133,7 @@ module _ (z : Sizes) (net : Net) (s w : ℕ) (x : Request) where
         became = one_more i.made refl is.second is.leaders;
       }
 
-  -- What an output does with a request is what the move of the request in a network of places does.
+  -- What an output does with a request is what offering the request does in a network of places.
   pub offered_there : Offered z net s w x (accepted o x) (moves.offered z net net s w x)
   unfolding accepted
   offered_there =

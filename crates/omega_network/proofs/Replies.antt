@@ -162,7 +162,7 @@ module _ (n : NetworkLists) (is : IsNetwork n) (s w : ℕ) (stage : s < n.k) (wi
       if moves.has_room n.c (wire_before n.k s w) s net (answers (records_of x.leader es) x) then (moves.answered (records_of x.leader es), net)
       else (down.Stalled, net_of n)
 
-  -- What a switch does with a reply is what the answer of the reply in a network of places does.
+  -- What a switch does with a reply is what answering the reply does in a network of places.
   pub answered_there : Answers n s (w / 2) (answered (switch_at n s (w / 2)) n.pool (w % 2) x)
       (moves.answer (sizes_of n) (net_of n) (net_of n) s w x (records_of x.leader (records_behind n s w)))
   unfolding answered

@@ -18,7 +18,7 @@ queues_changed pool pool' R is cells free = record {
 
 -- some records of an output are dropped
 module _ (R : ℕ → ℕ → List Record) (s w : ℕ) (es : List Record) (of_them : (e : Record) → In e es → In e (R s w)) where
-  -- A record that is left after others went was in the network before.
+  -- A record that is left after others are dropped was in the network before.
   pub was_there : (s' w' : ℕ) (f : Record) → In f (put2 R s w es s' w') → In f (R s' w')
   was_there s' w' f m = go (In-put2 R s w es s' w' f m)
     where
@@ -26,7 +26,7 @@ module _ (R : ℕ → ℕ → List Record) (s w : ℕ) (es : List Record) (of_th
       go (inl h) = let there : In f (R s w) = of_them f h.2 in subst (λ v. In f (R s' v)) (sym h.1) (subst (λ t. In f (R t w)) (sym h.0) there)
       go (inr h) = h.1
 
-  -- If records go, the seconds of the others still have free cells, and each is the second of one record.
+  -- If records are dropped, the seconds of the others still have free cells, and each is the second of one record.
   pub records_dropped : (pool : PoolLists) → AreSeconds pool R → ApartBy second_of es → AreSeconds pool (put2 R s w es)
   records_dropped pool is apart = record {
     cells = λ s' w' f m. is.cells s' w' f (was_there s' w' f m);
@@ -53,7 +53,8 @@ module _ (R : ℕ → ℕ → List Record) (s w : ℕ) (e : Record) where
       go (inl h) = there h.0 h.1 (In-append f (R s w) (e ∷ []) h.2)
       go (inr h) = is_old h.1
 
-  -- If a record comes whose second has a free cell and is that of no other, the same holds of all seconds again.
+  -- If a record is added whose second has a free cell and is that of no other record, the condition on seconds still
+  -- holds.
   pub record_added : (pool : PoolLists) → AreSeconds pool R → e.second < pool.cells → IsFree pool e.second →
       ((s' w' : ℕ) (f : Record) → In f (R s' w') → f.second ≡ e.second → ⊥) → AreSeconds pool (put2 R s w (R s w ++ e ∷ []))
   record_added pool is below free none = record {

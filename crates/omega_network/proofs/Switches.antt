@@ -23,7 +23,7 @@ two_halves (suc k) s l = pow-suc 2 k ∙ ap (λ n. 2 ^ n * 2) (less k)
     less : (k : ℕ) → k ≡ suc k - 1
     less k = omega arith
 
--- Two pairs of a row and a column below n are the same if their numbers, row by row, are the same.
+-- Two places in rows of n columns are the same if their numbers, counted row by row, are the same.
 pub one_place : (n d d' w w' : ℕ) → w < n → w' < n → d' * n + w' ≡ d * n + w → (d' ≡ d) × (w' ≡ w)
 one_place n d d' w w' l m e = (
   sym (div-mul-add d' n w' m) ∙ (λ i. e i / n) ∙ div-mul-add d n w l,
@@ -42,7 +42,7 @@ place_within k s i n l m e =
     let up : suc s * half k ≤ k * half k = mul-le-mul_right (half k) l in
     omega arith
 
--- Half the number of a stage and a wire is the number among all of the switch that the wire comes from.
+-- Half of the number of a wire after a stage is the number, among all switches, of the one that the wire comes from.
 pub place_is : (k s w : ℕ) → s < k → (s * 2 ^ k + w) / 2 ≡ s * half k + w / 2
 place_is k s w l =
     let e : s * 2 ^ k ≡ s * (half k * 2) = ap (λ n. s * n) (two_halves k s l) in

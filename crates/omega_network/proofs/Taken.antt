@@ -66,7 +66,7 @@ pub record Kind (X : Type 0) : Type 0 where
   pub put : Net → ℕ → ℕ → List X → Net
   -- A network's pool has a queue of this kind for each depth and wire.
   pub all : (n : NetworkLists) → IsNetwork n → length (queues n.pool) ≡ suc n.k * 2 ^ n.k
-  -- The messages at a depth on a wire are those of the queue with the number of the two.
+  -- The messages at a depth on a wire are those of the queue whose number the two give.
   pub there : (n : NetworkLists) (d w : ℕ) → w < 2 ^ n.k → before n d w ≡ slice_index_or (queues n.pool) (place n.k d w) []
   pub puts : (n : NetworkLists) (d w : ℕ) → w < 2 ^ n.k → (xs : List X) → place n.k d w < length (queues n.pool)
       → net_of (with_pool n (with_queue n.pool (place n.k d w) xs)) ≡ put (net_of n) d w xs
@@ -206,7 +206,7 @@ injected_may {n} {m} {p} x view is leader below none =
     subst (MayLead n) (sym leader) (may_lead n p is (subst (λ (l : NetworkLists). p < 2 ^ l.k) (sym view) below)
     (subst (λ (l : NetworkLists). Unnamed (net_of l) p) (sym view) (unnamed_is (net_of m) p none)))
 
--- If no message is led by a reply's leader and no record has it as its second, it may lead the reply.
+-- If a reply's leader leads no message and is the second of no record, it may lead the reply.
 pub replied_may : {n m : NetworkLists} (y : Reply) → n ≡ m → IsNetwork n → y.leader < 2 ^ m.k → Unnamed (net_of m) y.leader → MayLead n y.leader
 replied_may {n} {m} y view is below none =
     may_lead n y.leader is (subst (λ (l : NetworkLists). y.leader < 2 ^ l.k) (sym view) below)

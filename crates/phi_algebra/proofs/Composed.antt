@@ -32,15 +32,15 @@ composed_range f g p q = across_range_by f g (is_identity f) (is_constant g) (is
 
 -- ---- a composition that is there
 
--- If two functions in range compose to a third, that is the first and then the second.
+-- If two functions in range compose to a third, the third is the first followed by the second.
 pub meaning_of : (f g h : Phi) → composed f g ≡ Some h → IsInRange f → IsInRange g → IsComposition f g h
 meaning_of f g h e p q = rw e at (composed_meaning f g p q)
 
--- If two functions in range compose to a third, that is in range.
+-- If two functions in range compose to a third, the third is in range.
 pub range_of : (f g h : Phi) → composed f g ≡ Some h → IsInRange f → IsInRange g → IsInRange h
 range_of f g h e p q = rw e at (composed_range f g p q)
 
--- Whichever two of three functions are composed first, if both ways are possible, the whole means the same.
+-- If three functions compose in both ways, both results mean the same.
 pub associative : CompositionIsAssociative
 associative f g h fg gh left right p q r first then_h later f_then x small =
     meaning_of fg h left then_h (range_of f g fg first p q) r x small

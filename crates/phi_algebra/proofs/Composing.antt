@@ -92,7 +92,7 @@ across_by f g false false false false w ei ec ej ek = tt
 pub across_meaning : (f g : Phi) → IsInRange f → IfSome (composed_across f g) (IsComposition f g)
 across_meaning f g w = across_by f g (is_identity f) (is_constant g) (is_identity g) (is_constant f) w refl refl refl refl
 
--- The composition of two functions in range, if there is one, is the first and then the second.
+-- The composition of two functions in range, if there is one, is the first followed by the second.
 pub composed_meaning : (f g : Phi) → IsInRange f → IsInRange g → IfSome (composed f g) (IsComposition f g)
 unfolding composed apply
 composed_meaning (Add e) (Add e') p q = λ x small. omega arith
@@ -138,7 +138,7 @@ composed_none f g p q = across_none f g (λ e. cc) p q
 
 -- ---- for the code
 
--- A sum is composed by the rule for two kinds with a function that is no sum.
+-- A sum is composed by the rule for two kinds with a function that is not a sum.
 pub across_add : (e : ℕ) (g : Phi) → ((e' : ℕ) → g ≡ Add e' → ⊥) → composed (Add e) g ≡ composed_across (Add e) g
 unfolding composed
 across_add e (Add e') other = absurd (other e' refl)
@@ -146,7 +146,7 @@ across_add e (Bits and' xor') other = refl
 across_add e (Clamp s) other = refl
 across_add e (ClampU s) other = refl
 
--- A mask is composed by the rule for two kinds with a function that is no mask.
+-- A mask is composed by the rule for two kinds with a function that is not a mask.
 pub across_bits : (and xor : ℕ) (g : Phi) → ((and' xor' : ℕ) → g ≡ Bits and' xor' → ⊥) → composed (Bits and xor) g ≡ composed_across (Bits and xor) g
 unfolding composed
 across_bits and xor (Add e') other = refl
@@ -154,7 +154,7 @@ across_bits and xor (Bits and' xor') other = absurd (other and' xor' refl)
 across_bits and xor (Clamp s) other = refl
 across_bits and xor (ClampU s) other = refl
 
--- A signed range is composed by the rule for two kinds with a function that is no signed range.
+-- A signed range is composed by the rule for two kinds with a function that is not a signed range.
 pub across_clamp : (r : SignedEnds) (g : Phi) → ((s : SignedEnds) → g ≡ Clamp s → ⊥) → composed (Clamp r) g ≡ composed_across (Clamp r) g
 unfolding composed
 across_clamp r (Add e') other = refl
@@ -162,7 +162,7 @@ across_clamp r (Bits and' xor') other = refl
 across_clamp r (Clamp s) other = absurd (other s refl)
 across_clamp r (ClampU s) other = refl
 
--- An unsigned range is composed by the rule for two kinds with a function that is no unsigned range.
+-- An unsigned range is composed by the rule for two kinds with a function that is not an unsigned range.
 pub across_clampu : (r : UnsignedEnds) (g : Phi) → ((s : UnsignedEnds) → g ≡ ClampU s → ⊥) → composed (ClampU r) g ≡ composed_across (ClampU r) g
 unfolding composed
 across_clampu r (Add e') other = refl
@@ -170,7 +170,7 @@ across_clampu r (Bits and' xor') other = refl
 across_clampu r (Clamp s) other = refl
 across_clampu r (ClampU s) other = absurd (other s refl)
 
--- An option that is the composition of two functions in range, if it is some, is the first and then the second.
+-- An option that is the composition of two functions in range, if it is some, is the first followed by the second.
 pub meaning_by : (f g : Phi) (o : Option Phi) → o ≡ composed f g → IsInRange f → IsInRange g → IfSome o (IsComposition f g)
 meaning_by f g o e p q = rw e (composed_meaning f g p q)
 

@@ -1,4 +1,4 @@
--- Which functions are identities, and which are constant.
+-- The tests for identities and for constant functions.
 use Rattle.std.proofs.Common.{◌≡◌, ℕ, ◌+◌, ◌-◌, ◌%◌, ◌^◌, ◌<◌, ◌↔◌, IsTrue, Bool, true, false, ◌&&◌, refl, sym, ap, ◌∙◌, arith, pos, negsuc, FitsSigned, ℤ}
 use Rattle.std.specs.Int.{w32, cast_signed, cast_unsigned}
 use Rattle.std.specs.Int.Bits.{bit_and, bit_xor, xor_assoc, xor_self}
@@ -86,7 +86,7 @@ identity_back (ClampU r) w h =
 pub identity_by : (f : Phi) (b : Bool) → IsInRange f → b ≡ is_identity f → (IsTrue b ↔ IsIdentity f)
 identity_by f b w e = (λ t. identity_there f (sym e ∙ t), λ h. e ∙ identity_back f w h)
 
--- A function that passes the test for a constant function has everywhere its value at 0.
+-- A function that passes the test for a constant function has its value at 0 everywhere.
 pub constant_there : (f : Phi) → is_constant f ≡ true → HasValue f (apply f 0)
 unfolding apply
 constant_there (Add e) h x small = absurd (cc)

@@ -1,4 +1,4 @@
--- The composition of two functions: the first, and then the second of its value.
+-- The composition of two functions: the first, followed by the second.
 use Rattle.std.specs.Prelude.{◌≡◌, ◌≢◌, ℕ, ◌+◌, ◌%◌, ◌^◌, ◌<◌, ◌||◌, Option, Some, None, bit_and, bit_xor}
 use Rattle.std.specs.Prelude.{if◌then◌else◌}
 use Rattle.phi_algebra.specs.declared.phi.Phi.{Phi}

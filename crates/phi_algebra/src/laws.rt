@@ -25,7 +25,7 @@ pub fn keeps_its_range(phi: &Phi)
     }
 }
 
-/// Composition is associative: both ways to compose three functions, if possible, mean the same.
+/// Composition is associative: if three functions compose in both ways, both mean the same.
 pub fn composition_is_associative()
     ensures { CompositionIsAssociative }
 {}

@@ -52,7 +52,7 @@ impl Phi {
         }
     }
 
-    /// Whether the function leaves each word as it is, of any kind.
+    /// Whether the function, of any kind, leaves each word as it is.
     pub fn is_identity(&self) -> bool
         ensures by_kind { result ≡ is_identity self.now }
         ensures exact { IsTrue result ↔ IsIdentity self.now }
@@ -65,7 +65,7 @@ impl Phi {
         }
     }
 
-    /// Whether the function has one value at all words, of any kind.
+    /// Whether the function, of any kind, has the same value at all words.
     pub fn is_constant(&self) -> bool
         ensures by_kind { result ≡ is_constant self.now }
         ensures exact { IsTrue result ↔ IsConstant self.now }

@@ -172,7 +172,7 @@ module _ (inverse : RotationsAreInverse) (on_wires : RotationsStayOnWires) (n : 
           (ap (λ p. get_or n.switches p (empty_switch 0 0 0 0)) same ∙ get_or_any n.switches place (empty_switch 0 0 0 0) d l)
           (switch_empty (place / half n.k) (place % half n.k) stage rest)
 
--- The network is empty exactly if the tests of its slots and switches all hold.
+-- If the tests of slots and switches hold, the network is empty exactly if the test of the modules' slots holds.
 pub fact : (n m : NetworkLists) → n ≡ m → IsNetwork n → RotationsAreInverse → RotationsStayOnWires →
     (a b c : Bool) (slots : List (Option Request)) (switches : List SwitchLists) (module_slots : List (Option Reply))
     → slots ≡ n.slots → switches ≡ n.switches → module_slots ≡ n.module_slots → (IsTrue a ↔ All IsNone slots) → (IsTrue b ↔ All IsEmptySwitch switches) →

@@ -162,7 +162,7 @@ replies_kept c b r i s inp ys is = inputs_kept c b r i s (set s.inputs inp ys) i
 
 -- ---- a switch that is replaced at its place
 
--- What is read inside a list does not depend on what is given for places past its end.
+-- What is read inside a list does not depend on the default for places past its end.
 pub get_or_any : {X : Type 0} (xs : List X) (i : ℕ) (d e : X) → i < length xs → get_or xs i d ≡ get_or xs i e
 get_or_any [] i d e l = absurd (omega arith)
 get_or_any (x ∷ xs) zero d e l = refl
@@ -230,11 +230,11 @@ module _ (n m : NetworkLists) (s i place : ℕ) (u : SwitchLists) (found : Found
   replaced : (t t' : SwitchLists) → t ≡ t' → IsSwitchOf n.c n.b n.r (bit_of_stage n.k s) t' → IsNetwork (put_at n place t)
   replaced t t' same kept = subst IsNetwork (sym (put_is t ∙ ap (with_switch n s i) same)) (with_switch_kept n s i t' found.is stage_is number_is kept)
 
-  -- If the switch becomes what it is after a request came to an output, the network is again a network.
+  -- If the switch changes as for a request at an output, the network is again a network.
   pub accept_stays : (v : ℕ) (x : Request) (t : SwitchLists) → v < 2 → t ≡ with_output u v (accepted (output_of u v) x).1 → IsNetwork (put_at n place t)
   accept_stays v x t l same = replaced t (with_output u v (accepted (output_of u v) x).1) same (accepted_kept n.c n.b n.r (bit_of_stage n.k s) u v x had_is l)
 
-  -- If the switch becomes what it is after a reply came to an output, the network is again a network.
+  -- If the switch changes as for a reply at an output, the network is again a network.
   pub answer_stays : (v : ℕ) (x : Reply) (t : SwitchLists) → v < 2 → t ≡ (answered u v x).1 → IsNetwork (put_at n place t)
   answer_stays v x t l same = replaced t (answered u v x).1 same (answered_kept n.c n.b n.r (bit_of_stage n.k s) u v x had_is l)
 

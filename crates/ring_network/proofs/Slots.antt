@@ -65,7 +65,7 @@ unfolding injected
 inject_net net p x leader free =
     ap (λ q. put_requests net 0 p (q ++ x ∷ [])) (sym free) ∙ ap (λ v. put_requests net 0 v (net.requests 0 v ++ x ∷ [])) (sym leader)
 
--- If a reply is put into a module's slot that was empty, the network is what the move leaves.
+-- If a reply is put into a module's slot that was empty, the network is the one after a module's reply.
 pub module_reply_net : (z : Sizes) (net : Net) (w : ℕ) (y : Reply) → net.replies z.k w ≡ [] → put_replies net z.k w (y ∷ []) ≡ module_replied z net w y
 unfolding module_replied
 module_reply_net z net w y free = ap (λ q. put_replies net z.k w (q ++ y ∷ [])) (sym free)

@@ -8,11 +8,11 @@ use Rattle.rv_table.specs.declared.insn.Insn.{Insn}
 use Rattle.rv_table.specs.declared.table.Row.{Row}
 use Rattle.rv_table.specs.Rows.{rows, row_of, mask_of, match_of}
 
--- the word fits the instruction's row
+-- whether the word fits the instruction's row
 abbrev pub fits : ℕ → Insn → Bool
 fits w i = bit_and w (mask_of i) == match_of i
 
--- the matches of the two rows differ under their common mask, so that no word fits both
+-- whether the matches of the two rows differ under their common mask, so that no word fits both
 abbrev pub apart : Row → Row → Bool
 apart a b = not (bit_and a.match_ b.mask == bit_and b.match_ a.mask)
 
