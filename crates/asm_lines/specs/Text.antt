@@ -8,7 +8,7 @@ use Rattle.std.specs.Option.{option_map}
 abbrev pub is_blank : ℕ → Bool
 is_blank b = (b == 32) || (b == 9)
 
--- the text from its first byte on that is not a blank
+-- the text without the blanks at its front
 abbrev pub front_trimmed : List ℕ → List ℕ
 front_trimmed [] = []
 front_trimmed (b ∷ bs) = if is_blank b then front_trimmed bs else b ∷ bs
