@@ -1,4 +1,4 @@
--- Compositions, of any numbers: each stands for the word that it is modulo 2^32.
+-- Compositions of functions in range.
 use Rattle.std.proofs.Common.{◌≡◌, ℕ, ◌%◌, ◌^◌, ◌<◌, Some, sym, ap, ◌∙◌, arith, mod-eq_of_lt}
 use Rattle.std.proofs.lemmas.Nat.{mod_below}
 use Rattle.messages.specs.phi_algebra.declared.phi.Phi.{Phi}
@@ -7,7 +7,7 @@ use Rattle.messages.specs.phi_algebra.Composition.{composed}
 use Rattle.messages.proofs.Lemmas.phi_algebra.{meaning_of, range_of, value_small}
 use Rattle.messages.specs.Queues.{applied}
 
--- the value is a word
+-- A function in range makes a word below 2^32 of any number.
 pub applied_small : (f : Phi) (x : ℕ) → IsInRange f → applied f x < 2 ^ 32
 unfolding applied
 applied_small f x p = value_small f (x % 2 ^ 32) p (mod_below x (2 ^ 32) (omega arith))

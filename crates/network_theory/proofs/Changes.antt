@@ -1,4 +1,4 @@
--- Combining and answering, as wholes.
+-- What combining and answering do, as a whole.
 use Rattle.std.proofs.Common.{◌≡◌, ℕ, suc, ◌<◌, List, ◌==◌, not, inl, inr, refl, sym, ap, ap₂, ◌∙◌, subst, arith, eqb-true}
 use Rattle.std.proofs.lemmas.Bool.{cases_eq}
 use Rattle.messages.specs.declared.message.Reply.{Reply}
@@ -30,8 +30,8 @@ combining_meaning own word path group owed k role net b r s w x j e placed ok fr
     (means_combine own word path group owed k role net s w J.front J.behind J.entry (merged J.entry J.function) x
     (record_of x J.entry) placed ok J.was free ask J.law refl refl refl refl refl)
 
--- After a reply is answered, the leaders of its replies reply before that stage, and each message and record
--- is where its role says.
+-- After a reply is answered, the leaders of the replies made from it reply before that stage, and each message and
+-- record is where its role says.
 pub answering_places : AnsweringKeepsPlaces
 answering_places k path wire role net s w x ok l free replying on way =
     let p : ℕ = x.leader in
@@ -75,7 +75,7 @@ answering_places k path wire role net s w x ok l free replying on way =
     ) in
     placed_push_all k path wire s ys role net' placed (omega arith) apart each
 
--- who answers was no idle processor
+-- No leader of the replies made from a reply was idle before.
 pub answers_led : (k : ℕ) (path : ℕ → ℕ → ℕ) (role : ℕ → Role) (net : Net) (s w : ℕ) (x : Reply) → Placed k path role net → role x.leader ≡ Replying (suc s)
     → (y : Reply) → In y (answers (records_of x.leader (net.records s w)) x) → role y.leader ≡ Idle → ⊥
 answers_led k path role net s w x ok replying y m i = elim (from_answers x y (records_of x.leader (net.records s w)) m) [
@@ -84,7 +84,7 @@ answers_led k path role net s w x ok replying y m i = elim (from_answers x y (re
       let c : Waiting s a.0.leader ≡ Idle = sym ((ok.records s w a.0 g.0).waits) ∙ ap role (sym a.2) ∙ i in cc)
 ]
 
--- Messages keep their meanings if a reply that gives each what it is owed is answered.
+-- If the reply gives each processor what it is owed, messages keep their meanings after it is answered.
 pub answering_meaning : AnsweringGivesEachItsOwn
 answering_meaning own word path group owed wire net s w x ok free means on =
     let left : List Record = records_but x.leader (net.records s w) in

@@ -30,7 +30,7 @@ put_agree {X} f g a x i h = go (cases_eq i a)
     go (inl e) = ap (put f a x) e ∙ put_same f a x ∙ sym (put_same g a x) ∙ ap (put g a x) (sym e)
     go (inr n) = put_other f a x i n ∙ h i ∙ sym (put_other g a x i n)
 
--- the words afterwards
+-- If a group refers to one word, executing it changes that word alone, to what the group leaves.
 pub executed_mem : (own : ℕ → Phi) (word : ℕ → ℕ) (f : Executed) (js : List ℕ) (a : ℕ) → ((j : ℕ) → In j js → word j ≡ a) → (i : ℕ)
     → (execute_all own word f js).mem i ≡ put f.mem a (leaves own js (f.mem a)) i
 unfolding execute_all leaves
@@ -42,14 +42,14 @@ executed_mem own word f (j ∷ js) a h i =
     ∙ put_put f.mem a (applied (own j) (f.mem a)) (leaves own js (put f.mem a (applied (own j) (f.mem a)) a)) i
     ∙ ap (λ v. put f.mem a (leaves own js v) i) (put_same f.mem a (applied (own j) (f.mem a)))
 
--- others are owed what they were owed
+-- A processor that is not in the group is owed what it was owed before.
 pub executed_other : (own : ℕ → Phi) (word : ℕ → ℕ) (f : Executed) (js : List ℕ) (i : ℕ) → (In i js → ⊥) → (execute_all own word f js).owed i ≡ f.owed i
 unfolding execute_all
 executed_other own word f [] i n = refl
 executed_other own word f (j ∷ js) i n = executed_other own word (execute own word f j) js i (λ m. n (inr m))
     ∙ put_other f.owed j (Some (f.mem (word j))) i (λ e. n (inl e))
 
--- each is owed what it found
+-- Each processor of the group is owed what it found.
 pub executed_owed : (own : ℕ → Phi) (word : ℕ → ℕ) (f : Executed) (js : List ℕ) (a : ℕ) → ((j : ℕ) → In j js → word j ≡ a) → Distinct js
     → (m : ℕ × ℕ) → In m (finds own js (f.mem a)) → (execute_all own word f js).owed m.0 ≡ Some m.1
 unfolding execute_all finds

@@ -1,4 +1,4 @@
--- What a reply gives, and what a group finds, after changes of records and functions.
+-- What a reply gives, and what a group finds, after records and functions change.
 use Rattle.std.proofs.Common.{◌≡◌, ℕ, zero, suc, ◌<◌, List, [], ◌∷◌, ◌++◌, flat_map, ◌⊎◌, inl, inr}
 use Rattle.std.proofs.Common.{refl, sym, ap, ap₂, ◌∙◌, subst, arith, append-nil, append_assoc}
 use Rattle.std.proofs.lemmas.List.Concat.{flat_map-append}
@@ -23,7 +23,7 @@ flat_map_agree : {X A : Type 0} (f g : X → List A) (xs : List X) → ((x : X) 
 flat_map_agree f g [] h = refl
 flat_map_agree f g (x ∷ xs) h = ap₂ (λ a b. a ++ b) (h x (inl refl)) (flat_map_agree f g xs (λ y m. h y (inr m)))
 
--- the records of p do not matter to another leader, where no record has p as its second
+-- If no record has p as its second, a change of p's records does not change what another leader gives.
 pub gives_frame : (R S : ℕ → ℕ → List Record) (p : ℕ) → ((q s : ℕ) → (q ≡ p → ⊥) → S q s ≡ R q s) → ((q s : ℕ) (x : Record) → In x (R q s) → x.second ≡ p → ⊥)
     → (d q y : ℕ) → (q ≡ p → ⊥) → gives S q d y ≡ gives R q d y
 unfolding gives
@@ -35,7 +35,7 @@ gives_frame R S p same others (suc s) q y n =
     ∙ flat_map_agree (λ x. gives S x.second s (applied x.phi y)) (λ x. gives R x.second s (applied x.phi y)) (R q s)
     (λ x m. gives_frame R S p same others s x.second (applied x.phi y) (others q s x m)))
 
--- only the stages below d matter
+-- What a leader gives at depth d depends only on the records of stages below d.
 pub gives_below : (R S : ℕ → ℕ → List Record) (d : ℕ) → ((q s : ℕ) → s < d → S q s ≡ R q s) → (q y : ℕ) → gives S q d y ≡ gives R q d y
 unfolding gives
 gives_below R S zero same q y = refl
@@ -46,12 +46,12 @@ gives_below R S (suc s) same q y =
     ∙ flat_map_agree (λ x. gives S x.second s (applied x.phi y)) (λ x. gives R x.second s (applied x.phi y)) (R q s)
     (λ x m. gives_below R S s (λ i t l. same i t (omega arith)) x.second (applied x.phi y)))
 
--- one stage further with no records there
+-- A leader without records at stage s gives the same at depth s + 1 as at depth s.
 pub gives_further : (R : ℕ → ℕ → List Record) (p s y : ℕ) → R p s ≡ [] → gives R p (suc s) y ≡ gives R p s y
 unfolding gives
 gives_further R p s y e = ap (λ xs. gives R p s y ++ flat_map (λ x. gives R x.second s (applied x.phi y)) xs) e ∙ append-nil (gives R p s y)
 
--- one record more at the last stage
+-- If a leader gets one more record at the last stage, it also gives what the second of that record gives.
 pub gives_more : (R S : ℕ → ℕ → List Record) (p s y : ℕ) (z : Record) → ((q t : ℕ) → t < s → S q t ≡ R q t) → S p s ≡ R p s ++ z ∷ []
     → gives S p (suc s) y ≡ gives R p (suc s) y ++ gives R z.second s (applied z.phi y)
 unfolding gives
@@ -78,12 +78,12 @@ In-flat_map_from {X} f a (y ∷ xs) m = go (In-flat_map_from f a xs) (In-append 
     go rec (inl h) = (y, inl refl, h)
     go rec (inr h) = let r = rec h in (r.0, inr r.1, r.2)
 
--- what a leader keeps for itself and those before
+-- What a leader gives at a depth, it also gives one stage further.
 pub gives_leader : (R : ℕ → ℕ → List Record) (p s y : ℕ) (m : ℕ × ℕ) → In m (gives R p s y) → In m (gives R p (suc s) y)
 unfolding gives
 gives_leader R p s y m i = In-append_left m (gives R p s y) _ i
 
--- what a second gets
+-- A leader gives what the second of each of its records at the last stage gives.
 pub gives_second : (R : ℕ → ℕ → List Record) (p s y : ℕ) (z : Record) (m : ℕ × ℕ) → In z (R p s) → In m (gives R z.second s (applied z.phi y))
     → In m (gives R p (suc s) y)
 unfolding gives
@@ -93,7 +93,7 @@ pub gives_now : (R : ℕ → ℕ → List Record) (p y : ℕ) → In (p, y) (giv
 unfolding gives
 gives_now R p y = inl refl
 
--- one that nothing names gets nothing
+-- If no record has p as its second, p gets nothing from another leader.
 pub gives_unnamed : (R : ℕ → ℕ → List Record) (p : ℕ) → ((q s : ℕ) (x : Record) → In x (R q s) → x.second ≡ p → ⊥) → (d q y : ℕ) (m : ℕ × ℕ) → (q ≡ p → ⊥)
     → In m (gives R q d y) → m.0 ≡ p → ⊥
 unfolding gives
@@ -133,7 +133,7 @@ pub gives_first : (R : ℕ → ℕ → List Record) (p y : ℕ) → gives R p 0 
 unfolding gives
 gives_first R p y = refl
 
--- a leader gets the reply itself
+-- A leader gets the value of the reply itself.
 pub gives_leads : (R : ℕ → ℕ → List Record) (p d y : ℕ) → In (p, y) (gives R p d y)
 unfolding gives
 gives_leads R p zero y = inl refl

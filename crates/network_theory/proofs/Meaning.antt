@@ -1,4 +1,4 @@
--- How single changes keep the meaning.
+-- How single changes keep meanings.
 use Rattle.std.proofs.Common.{◌≡◌, ℕ, suc, ◌<◌, Bool, true, false, List, [], ◌∷◌, ◌++◌, map, ◌⊎◌, inl}
 use Rattle.std.proofs.Common.{inr, Option, Some, None, refl, sym, ap, ap₂, ◌∙◌, subst, arith}
 use Rattle.std.proofs.lemmas.Bool.{cases_eq, true≢false}
@@ -27,7 +27,7 @@ use Rattle.network_theory.proofs.Putting.{each_fewer, each_pushed, each_put}
 use Rattle.network_theory.proofs.Roles.{others_request}
 use Rattle.network_theory.proofs.Executing.{executed_other, executed_owed}
 
--- a leader is in its group
+-- The leader of a request that has its meaning is in its own group.
 pub request_led : (own : ℕ → Phi) (word : ℕ → ℕ) (group : ℕ → List ℕ) (R : ℕ → ℕ → List Record) (d : ℕ) (x : Request) → RequestMeans own word group R d x
     → In x.leader (group x.leader)
 request_led own word group R d x h = In-finds own (group x.leader) 0 (x.leader, 0) (subst (In (x.leader, 0)) (h.answers 0) (gives_leads R x.leader d 0))
@@ -47,7 +47,7 @@ pub joined_other : (group : ℕ → List ℕ) (p q i : ℕ) → (i ≡ p → ⊥
 unfolding joined
 joined_other group p q i n m = put_other (put group p (group p ++ group q)) q [] i m ∙ put_other group p (group p ++ group q) i n
 
--- whose group it was
+-- A member of a joined group was a member of one of the two, and the other groups are as they were.
 from_joined : (group : ℕ → List ℕ) (p q i j : ℕ) → (p ≡ q → ⊥) → In j (joined group p q i)
     → ((i ≡ p) × (In j (group p) ⊎ In j (group q))) ⊎ ((i ≡ p → ⊥) × (i ≡ q → ⊥) × In j (group i))
 from_joined group p q i j n m = go (cases_eq i p) (cases_eq i q)
@@ -57,7 +57,7 @@ from_joined group p q i j n m = go (cases_eq i p) (cases_eq i q)
     go (inr a) (inl e) = absurd (subst (In j) (ap (joined group p q) e ∙ joined_second group p q) m)
     go (inr a) (inr b) = inr (a, b, subst (In j) (joined_other group p q i a b) m)
 
--- Groups are still groups after q's joins p's, if p and q differ, have the same word, and are in their own.
+-- Groups are still groups after q's joins p's, if p and q differ, have the same word, and are in their own groups.
 pub groups_joined : (word : ℕ → ℕ) (open_now : ℕ → Bool) (group : ℕ → List ℕ) (owed : ℕ → Option ℕ) (p q : ℕ) → Groups word open_now group owed → (p ≡ q → ⊥)
     → word q ≡ word p → In p (group p) → In q (group q) → Groups word open_now (joined group p q) owed
 groups_joined word open_now group owed p q ok n same mp mq = record {
@@ -101,7 +101,7 @@ groups_joined word open_now group owed p q ok n same mp mq = record {
     apart i (inr a) (inl e) = subst Distinct (sym (ap (joined group p q) e ∙ joined_second group p q)) tt
     apart i (inr a) (inr b) = subst Distinct (sym (joined_other group p q i a b)) (ok.distinct i)
 
--- a request moves on with the same meaning
+-- A request keeps its meaning one stage further if its leader has no records at that stage.
 pub request_further : (own : ℕ → Phi) (word : ℕ → ℕ) (group : ℕ → List ℕ) (R : ℕ → ℕ → List Record) (d : ℕ) (x y : Request)
     → RequestMeans own word group R d x → R x.leader d ≡ [] → y.leader ≡ x.leader → y.word ≡ x.word → y.phi ≡ x.phi → RequestMeans own word group R (suc d) y
 request_further own word group R d x y h none el ew ep = record {
@@ -129,11 +129,11 @@ means_push_request own word path group owed net d w x ok h = record {
   replies = ok.replies;
 }
 
--- whom nothing names is no record's second
+-- A processor that nothing names is the second of no record.
 no_second : (path : ℕ → ℕ → ℕ) (net : Net) (p : ℕ) → Unnamed net p → (q s : ℕ) (z : Record) → In z (records_on path net.records q s) → z.second ≡ p → ⊥
 no_second path net p free q s z m = free.records s (path q (suc s)) z ((In-records_on path net.records q s z m).0)
 
--- another leader's request keeps its meaning
+-- A request keeps its meaning if only the records of another leader p change, and p is the second of no record.
 request_frame : (own : ℕ → Phi) (word : ℕ → ℕ) (group group' : ℕ → List ℕ) (R S : ℕ → ℕ → List Record) (p d : ℕ) (x : Request)
     → ((q s : ℕ) → (q ≡ p → ⊥) → S q s ≡ R q s) → ((q s : ℕ) (z : Record) → In z (R q s) → z.second ≡ p → ⊥) → (x.leader ≡ p → ⊥)
     → group' x.leader ≡ group x.leader
@@ -145,7 +145,7 @@ request_frame own word group group' R S p d x same others n e h = record {
   answers = λ v. gives_frame R S p same others d x.leader v n ∙ h.answers v ∙ ap (λ l. finds own l v) (sym e);
 }
 
--- and all of them do, where the group of one that nothing names changes
+-- All requests keep their meanings if the group of a processor that nothing names changes.
 others_mean : (own : ℕ → Phi) (word : ℕ → ℕ) (path : ℕ → ℕ → ℕ) (group : ℕ → List ℕ) (owed : ℕ → Option ℕ) (net : Net) (p : ℕ) (js : List ℕ)
     → Means own word path group owed net → Unnamed net p → (d w : ℕ) (x : Request) → In x (net.requests d w)
     → RequestMeans own word (put group p js) (records_on path net.records) d x
@@ -155,7 +155,7 @@ others_mean own word path group owed net p js ok free d w x m =
     request_frame own word group (put group p js) R R p d x (λ q s o. refl) (no_second path net p free) n (put_other group p js x.leader n)
     (ok.requests d w x m)
 
--- a request, that nothing names, is combined with an entry
+-- Messages keep their meanings if a request that nothing names is combined with an entry.
 pub means_combine : (own : ℕ → Phi) (word : ℕ → ℕ) (path : ℕ → ℕ → ℕ) (group : ℕ → List ℕ) (owed : ℕ → Option ℕ) (k : ℕ) (role : ℕ → Role) (net : Net)
     (s w : ℕ) (front behind : List Request) (x y a : Request) (z : Record)
     → Placed k path role net → Means own word path group owed net → net.requests (suc s) w ≡ front ++ x ∷ behind
@@ -234,7 +234,7 @@ means_push_all own word path group owed wire s (y ∷ ys) net ok each =
     means_push_all own word path group owed wire s ys (put_replies net s (wire y.leader) (net.replies s (wire y.leader) ++ y ∷ []))
     (means_push_reply own word path group owed net s (wire y.leader) y ok (each y (inl refl))) (λ x m. each x (inr m))
 
--- the records of a leader that leads no message go
+-- Messages keep their meanings if a buffer loses the records of a processor that nothing names.
 pub means_drop : (own : ℕ → Phi) (word : ℕ → ℕ) (path : ℕ → ℕ → ℕ) (group : ℕ → List ℕ) (owed : ℕ → Option ℕ) (net : Net) (s w p : ℕ)
     → Means own word path group owed net → Unnamed net p → Means own word path group owed (put_records net s w (records_but p (net.records s w)))
 means_drop own word path group owed net s w p ok free =
@@ -247,7 +247,7 @@ means_drop own word path group owed net s w p ok free =
       replies = λ d v b m g i. ok.replies d v b m g (subst (In g) (gives_frame R S p same others d b.leader b.value (free.replies d v b m)) i);
     }
 
--- what the answers of a reply stand for, when its records have gone
+-- If a reply gives what is owed, so do the replies made from it after its records are gone.
 pub answers_mean : (path : ℕ → ℕ → ℕ) (owed : ℕ → Option ℕ) (records : ℕ → ℕ → List Record) (s w : ℕ) (x : Reply) (xs : List Record)
     → ReplyMeans owed (records_on path records) (suc s) x → path x.leader (suc s) ≡ w
     → (y : Reply) → In y (answers (records_of x.leader (records s w)) x) → ReplyMeans owed (records_on path (put2 records s w xs)) s y
@@ -273,7 +273,7 @@ answers_mean path owed records s w x xs h on y (inr o) m i =
     from_map y (r ∷ rs) (inl e) = (r, inl refl, e)
     from_map y (r ∷ rs) (inr m) = let g = from_map y rs m in (g.0, inr g.1, g.2)
 
--- a request that was taken at its module is executed: its group goes on the flat side
+-- Messages keep their meanings if a module serves a request and its group is executed on the flat side.
 pub means_serve : ServingExecutesTheGroup
 means_serve own word open_now path group f net d w x y ok grp h free yl yv =
     let p : ℕ = x.leader in
@@ -307,7 +307,7 @@ groups_serve own word open_now group f p ok = record {
       | inr n ↦ (n, subst (In j) (put_other group p [] i n) m)
     ]
 
--- p's reference ends: nothing names p any more, and p may refer to another word by another function
+-- Messages keep their meanings if the word and function of a processor that nothing names change.
 pub means_change : (own own' : ℕ → Phi) (word word' : ℕ → ℕ) (open_now : ℕ → Bool) (path path' : ℕ → ℕ → ℕ) (group : ℕ → List ℕ) (owed owed' : ℕ → Option ℕ)
     (net : Net) (p : ℕ)
     → Means own word path group owed net → Unnamed net p → ((i : ℕ) → In p (group i) → ⊥)
@@ -332,7 +332,7 @@ means_change own own' word word' open_now path path' group owed owed' net p ok f
           same_owed g.0 (gives_unnamed R p others d x.leader x.value g n j) ∙ ok.replies d w x m g j;
     }
 
--- If p is in no group, groups are still groups after p's word, its debt and whether it is open change.
+-- If p is in no group, groups are still groups after p's word, what p is owed and whether p is open change.
 pub groups_change : (word word' : ℕ → ℕ) (open_now open' : ℕ → Bool) (group : ℕ → List ℕ) (owed owed' : ℕ → Option ℕ) (p : ℕ)
     → Groups word open_now group owed → ((i : ℕ) → In p (group i) → ⊥)
     → ((q : ℕ) → (q ≡ p → ⊥) → word' q ≡ word q) → ((q : ℕ) → (q ≡ p → ⊥) → owed' q ≡ owed q) → ((q : ℕ) → (q ≡ p → ⊥) → open' q ≡ open_now q)
@@ -348,7 +348,7 @@ groups_change word word' open_now open' group owed owed' p ok wire_after same_wo
     away : (i j : ℕ) → In j (group i) → j ≡ p → ⊥
     away i j m e = wire_after i (subst (λ l. In l (group i)) e m)
 
--- p issues a reference
+-- Groups are still groups after p issues a reference and becomes its own group.
 pub groups_issue : (word : ℕ → ℕ) (open_now : ℕ → Bool) (group : ℕ → List ℕ) (owed : ℕ → Option ℕ) (p : ℕ) → Groups word open_now group owed
     → open_now p ≡ false → owed p ≡ None → Groups word (put open_now p true) (put group p (p ∷ [])) owed
 groups_issue word open_now group owed p ok shut none = record {
@@ -398,7 +398,7 @@ means_issue own word path group owed net p w x ok free xl xw xp xr =
       answers = λ v. ap (λ l. gives R l 0 v) xl ∙ gives_first R p v ∙ sym (finds_one own p v) ∙ ap (λ l. finds own l v) (sym gl);
     })
 
--- where every processor is idle, there is nothing to mean
+-- If every processor is idle, messages have their meanings, since there are none.
 pub means_nothing : (k : ℕ) (path : ℕ → ℕ → ℕ) (role : ℕ → Role) (net : Net) (own : ℕ → Phi) (word : ℕ → ℕ) (path' : ℕ → ℕ → ℕ) (group : ℕ → List ℕ)
     (owed : ℕ → Option ℕ) → Placed k path role net → ((p : ℕ) → role p ≡ Idle) → Means own word path' group owed net
 means_nothing k path role net own word path' group owed ok idle = record {

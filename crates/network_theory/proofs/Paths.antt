@@ -50,7 +50,7 @@ with_replies z goes net d w xs ok these = record {
   replies = λ e v x m. elim (In-put2 net.replies d w xs e v x m) [ inl h ↦ rw (h.0, h.1) (these x h.2) | inr h ↦ ok.replies e v x h.1 ];
 }
 
--- what holds of each of a list holds of each of a part of it, and with one more after
+-- What holds of each element of a list, and of y, holds of each element of the list with y appended.
 each_behind : {X : Type 0} (P : X → Type 0) (xs : List X) (y : X) → ((x : X) → In x xs → P x) → P y → (x : X) → In x (xs ++ y ∷ []) → P x
 each_behind P xs y each last x m = elim (In-append x xs (y ∷ []) m) [
   | inl o ↦ each x o
@@ -102,7 +102,7 @@ others_do_not_count z goes goes' net ok same = record {
   };
 }
 
--- A network keeps to the paths if a processor injects a request to a module that its reference goes to.
+-- A network keeps to the paths if a processor injects a request to a module to which its reference goes.
 pub injecting : InjectingKeepsToPaths
 unfolding injected path
 injecting z goes net x ok small there =
@@ -128,7 +128,7 @@ taking z goes net p ok = with_replies z goes net 0 p (drop 1 (net.replies 0 p)) 
 
 -- ---- up
 
--- a request that goes on, to the end of a queue
+-- The network keeps to the paths if a request is appended to a queue on its path.
 on_alone : (z : Sizes) (goes : ℕ → ℕ → Bool) (net : Net) (s w : ℕ) (x : Request) → KeepToPaths z goes net → RequestOnPath z.k goes (suc s) w x
     → KeepToPaths z goes (put_requests net (suc s) w (net.requests (suc s) w ++ unmarked x ∷ []))
 on_alone z goes net s w x ok on =
@@ -136,7 +136,7 @@ on_alone z goes net s w x ok on =
     (each_behind (RequestOnPath z.k goes (suc s) w) (net.requests (suc s) w) (unmarked x) (ok.requests (suc s) w)
     (record { goes_there = on.goes_there; wire = on.wire; deep = on.deep; processor = on.processor }))
 
--- or as part of an entry of the queue
+-- The network keeps to the paths if a request becomes part of an entry of a queue on its path.
 on_together : (z : Sizes) (goes : ℕ → ℕ → Bool) (net : Net) (s w : ℕ) (x : Request) (j : Combination) → KeepToPaths z goes net →
     RequestOnPath z.k goes (suc s) w x → Joins z.r x (net.requests (suc s) w) j
     → KeepToPaths z goes (combined net s w j).1
@@ -212,7 +212,7 @@ pushed z goes wire s (y ∷ ys) net ok each =
     (each_behind (ReplyOnPath z.k goes s (wire y.leader)) (net.replies s (wire y.leader)) y (ok.replies s (wire y.leader)) (each y (inl refl))))
     (λ x m. each x (inr m))
 
--- a reply for p, where p's path comes to wire w after stage s
+-- A reply for p, at an output on p's path, is on p's path before that stage.
 goes_back : RepliesGoBackTheSameWay → (k : ℕ) (goes : ℕ → ℕ → Bool) (s w p m : ℕ) (y : Reply) → s < k → y.leader ≡ p → p < 2 ^ k → m < 2 ^ k →
     goes p m ≡ true → path k p m (suc s) ≡ w
     → ReplyOnPath k goes s (wire_before k s w y.leader) y
@@ -225,7 +225,7 @@ goes_back same_way k goes s w p m y l led small m_small there on = record {
   processor = rw led small;
 }
 
--- A network keeps to the paths if a reply moves down, with its replies to the seconds.
+-- A network keeps to the paths if a reply moves down, together with the replies to the seconds.
 pub moving_down : RepliesGoBackTheSameWay → MovingDownKeepsToPaths
 unfolding moved_down
 moving_down same_way z goes net s w ok = go (nat_lt s z.k) refl

@@ -1,4 +1,4 @@
--- The records of a leader, after a change of one buffer.
+-- The records of a leader, after one buffer changes.
 use Rattle.std.proofs.Common.{◌≡◌, ℕ, suc, Bool, true, false, cond, not, List, [], ◌∷◌, ◌++◌, ◌==◌}
 use Rattle.std.proofs.Common.{inl, inr, refl, sym, ap, ◌∙◌, eq-eqb, eqb-true, ne_eqb, append-nil}
 use Rattle.std.proofs.lemmas.List.Elements.{filter-append}
@@ -23,7 +23,7 @@ pub records_other_stage : (path : ℕ → ℕ → ℕ) (records : ℕ → ℕ �
     → records_on path (put2 records s w xs) q t ≡ records_on path records q t
 records_other_stage path records s w xs q t n = ap (records_of q) (put2_other records s w xs t (path q (suc t)) (λ a b. n a))
 
--- a change of a buffer that keeps what q has there
+-- A change of one buffer that keeps q's records there keeps q's records on its path.
 pub records_kept : (path : ℕ → ℕ → ℕ) (records : ℕ → ℕ → List Record) (s w : ℕ) (xs : List Record) (q t : ℕ) → records_of q xs ≡ records_of q (records s w)
     → records_on path (put2 records s w xs) q t ≡ records_on path records q t
 records_kept path records s w xs q t e = elim (at_put2 records s w xs t (path q (suc t))) [

@@ -1,4 +1,4 @@
--- How single changes keep the places.
+-- How single changes keep places.
 use Rattle.std.proofs.Common.{◌⊎◌, ◌≡◌, ℕ, suc, ◌<◌, ◌≤◌, true, not, List, [], ◌∷◌, ◌++◌, map, ◌==◌, inl, inr, refl, sym, ap, ◌∙◌, subst, arith, eq-eqb}
 use Rattle.std.proofs.lemmas.Bool.{cases_eq, true≢false}
 use Rattle.std.proofs.lemmas.List.{map-append}
@@ -15,14 +15,14 @@ use Rattle.messages.proofs.Lemmas.{ApartBy-filter, ApartBy-middle, ApartBy-push,
 use Rattle.messages.proofs.Lemmas.{In-append_left, In-append_right, In-filter, In-map, each_put2, put_other, put_same}
 use Rattle.network_theory.proofs.Putting.{each_fewer, each_pushed, each_put}
 
--- the records of a leader stand below its depth
+-- The records of a leader are at stages below its depth.
 pub below_role : (k : ℕ) (path : ℕ → ℕ → ℕ) (role : ℕ → Role) (net : Net) (p : ℕ) (r : Role) → Placed k path role net → role p ≡ r → (s w : ℕ) (z : Record)
     → In z (net.records s w) → z.leader ≡ p → s < depth r
 below_role k path role net p r ok is s w z m e = subst (λ j. s < depth j) (ap role e ∙ is) ((ok.records s w z m).beyond)
 
--- ---- another role for one that nothing names
+-- ---- another role for a processor that nothing names
 
--- one whose records all stand below the role's depth
+-- Places are kept if a processor that nothing names gets a role whose depth is above all of its records.
 new_role : (k : ℕ) (path : ℕ → ℕ → ℕ) (role : ℕ → Role) (net : Net) (p : ℕ) (r : Role)
     → Placed k path role net → Unnamed net p → ((s w : ℕ) (z : Record) → In z (net.records s w) → z.leader ≡ p → s < depth r)
     → Placed k path (put role p r) net
@@ -55,15 +55,15 @@ new_role k path role net p r ok free below = record {
 -- ---- requests and replies: what is led by processors, each at the place that its role says
 
 module _ {X : Type 0} (lead : X → ℕ) (f : ℕ → ℕ → List X) (d w : ℕ) (apart : (d' w' : ℕ) → ApartBy lead (f d' w')) where
-  -- the first of a place goes
+  -- Leaders still differ at each place if the first element of one place is taken.
   apart_popped : (x : X) (rest : List X) → f d w ≡ x ∷ rest → (d' w' : ℕ) → ApartBy lead (put2 f d w rest d' w')
   apart_popped x rest e = each_put2 (ApartBy lead) f d w rest ((subst (ApartBy lead) e (apart d w)).1) apart
 
-  -- one comes to the end of a place, of a processor that leads none there
+  -- Leaders still differ at each place if one place gets an element whose leader leads none there.
   apart_pushed : (x : X) → ((y : X) → In y (f d w) → lead y ≡ lead x → ⊥) → (d' w' : ℕ) → ApartBy lead (put2 f d w (f d w ++ x ∷ []) d' w')
   apart_pushed x none = each_put2 (ApartBy lead) f d w (f d w ++ x ∷ []) (ApartBy-push lead (f d w) x (apart d w) none) apart
 
-  -- where one of a place goes, none has its leader
+  -- After an element is taken from its place, no element has its leader.
   none_left : (path : ℕ → ℕ → ℕ) (role : ℕ → Role) (at : ℕ → Role) → ((i j : ℕ) → at i ≡ at j → i ≡ j)
       → ((d' w' : ℕ) (y : X) → In y (f d' w') → (role (lead y) ≡ at d') × (path (lead y) d' ≡ w'))
       → (front behind : List X) (x : X) → f d w ≡ front ++ x ∷ behind
@@ -76,7 +76,7 @@ module _ {X : Type 0} (lead : X → ℕ) (f : ℕ → ℕ → List X) (d w : ℕ
       let de : d' ≡ d = one d' d (sym q.0 ∙ ap role same ∙ p.0) in
       other de (sym q.1 ∙ ap (λ j. path j d') same ∙ ap (path (lead x)) de ∙ p.1))
 
--- where a request of a place goes, nothing else names its leader
+-- After a request is taken from its queue, nothing else names its leader.
 pub others_request : (k : ℕ) (path : ℕ → ℕ → ℕ) (role : ℕ → Role) (net : Net) (d w : ℕ) (front behind : List Request) (x : Request)
     → Placed k path role net → net.requests d w ≡ front ++ x ∷ behind → Unnamed (put_requests net d w (front ++ behind)) x.leader
 others_request k path role net d w front behind x ok e =
@@ -88,7 +88,7 @@ others_request k path role net d w front behind x ok e =
       replies = λ d' w' y m same. let q = ok.replies d' w' y m in let f = sym q.replying ∙ ap role same ∙ p.asks in cc;
     }
 
--- the first request of a place goes
+-- Places are kept if the first request of a queue is taken.
 pub pop_request : (k : ℕ) (path : ℕ → ℕ → ℕ) (role : ℕ → Role) (net : Net) (d w : ℕ) (x : Request) (rest : List Request)
     → Placed k path role net → net.requests d w ≡ x ∷ rest → Placed k path role (put_requests net d w rest)
 pop_request k path role net d w x rest ok e = record {
@@ -100,12 +100,12 @@ pop_request k path role net d w x rest ok e = record {
   replies_apart = ok.replies_apart;
 }
 
--- and then its leader is named nowhere
+-- After the first request of a queue is taken, nothing names its leader.
 pub pop_request_unnamed : (k : ℕ) (path : ℕ → ℕ → ℕ) (role : ℕ → Role) (net : Net) (d w : ℕ) (x : Request) (rest : List Request)
     → Placed k path role net → net.requests d w ≡ x ∷ rest → Unnamed (put_requests net d w rest) x.leader
 pop_request_unnamed k path role net d w x rest ok e = others_request k path role net d w [] rest x ok e
 
--- a request comes to the end of a place, of a processor that nothing names
+-- Places are kept if a request whose leader nothing names is appended to a queue on its path.
 pub push_request : (k : ℕ) (path : ℕ → ℕ → ℕ) (role : ℕ → Role) (net : Net) (d w : ℕ) (x : Request)
     → Placed k path role net → Unnamed net x.leader → ((s w : ℕ) (z : Record) → In z (net.records s w) → z.leader ≡ x.leader → s < d) → path x.leader d ≡ w
     → d ≤ k
@@ -123,7 +123,7 @@ push_request k path role net d w x ok free below on deep =
       replies_apart = ok.replies_apart;
     }
 
--- likewise a reply
+-- Places are kept if a reply whose leader nothing names is appended to a queue on its path.
 pub push_reply : (k : ℕ) (path : ℕ → ℕ → ℕ) (role : ℕ → Role) (net : Net) (d w : ℕ) (x : Reply)
     → Placed k path role net → Unnamed net x.leader → ((s w : ℕ) (z : Record) → In z (net.records s w) → z.leader ≡ x.leader → s < d) → path x.leader d ≡ w
     → d ≤ k
@@ -141,7 +141,7 @@ push_reply k path role net d w x ok free below on deep =
       replies_apart = apart_pushed (λ (z : Reply). z.leader) net.replies d w ok.replies_apart x (free.replies d w);
     }
 
--- the first reply of a place goes
+-- Places are kept if the first reply of a queue is taken.
 pub pop_reply : (k : ℕ) (path : ℕ → ℕ → ℕ) (role : ℕ → Role) (net : Net) (d w : ℕ) (x : Reply) (rest : List Reply)
     → Placed k path role net → net.replies d w ≡ x ∷ rest → Placed k path role (put_replies net d w rest)
 pop_reply k path role net d w x rest ok e = record {
@@ -167,7 +167,7 @@ pop_reply_unnamed k path role net d w x rest ok e =
 
 -- ---- combining, and records
 
--- a request that nothing names is combined with an entry: the entry changes, but for its leader, and a record of it comes
+-- Places are kept if a request that nothing names is combined: the entry keeps its leader, and gets a record.
 pub combine : (k : ℕ) (path : ℕ → ℕ → ℕ) (role : ℕ → Role) (net : Net) (s w : ℕ) (front behind : List Request) (x y : Request) (z : Record)
     → Placed k path role net → net.requests (suc s) w ≡ front ++ x ∷ behind → y.leader ≡ x.leader → z.leader ≡ x.leader
     → Unnamed net z.second → depth (role z.second) ≤ s → path z.second (suc s) ≡ w
@@ -214,7 +214,7 @@ combine k path role net s w front behind x y z ok e ey ez free near on =
       replies_apart = ok.replies_apart;
     }
 
--- the records of p go from a buffer
+-- Places are kept if a buffer loses the records of p.
 pub drop_records : (k : ℕ) (path : ℕ → ℕ → ℕ) (role : ℕ → Role) (net : Net) (s w p : ℕ)
     → Placed k path role net → Placed k path role (put_records net s w (records_but p (net.records s w)))
 drop_records k path role net s w p ok = record {
@@ -232,7 +232,7 @@ drop_records k path role net s w p ok = record {
 pub not_led : (a b : ℕ) → a ≡ b → not (a == b) ≡ true → ⊥
 not_led a b e f = true≢false (sym f ∙ ap not (eq-eqb a b e))
 
--- and then their seconds are named nowhere
+-- After a buffer loses the records of p, nothing names their seconds.
 pub drop_records_unnamed : (k : ℕ) (path : ℕ → ℕ → ℕ) (role : ℕ → Role) (net : Net) (s w p : ℕ) (z : Record)
     → Placed k path role net → In z (net.records s w) → z.leader ≡ p → Unnamed (put_records net s w (records_but p (net.records s w))) z.second
 drop_records_unnamed k path role net s w p z ok here led =
@@ -259,7 +259,7 @@ unnamed_push_reply net d w x p free n = record {
   replies = each_pushed (λ d' w' y. y.leader ≡ p → ⊥) net.replies d w x n free.replies;
 }
 
--- all of them are put
+-- Places are kept if replies whose leaders nothing names are put before a stage.
 pub placed_push_all : (k : ℕ) (path : ℕ → ℕ → ℕ) (wire : ℕ → ℕ) (s : ℕ) (ys : List Reply) (role : ℕ → Role) (net : Net)
     → Placed k path role net → s ≤ k → ApartBy (λ (y : Reply). y.leader) ys
     → ((y : Reply) → In y ys
@@ -278,7 +278,7 @@ placed_push_all k path wire s (y ∷ ys) role net ok deep apart each =
       g.2,
     ))
 
--- other words and paths for a processor that nothing names and that leads no record
+-- Places are kept if the role and path of a processor change that nothing names and that leads no record.
 pub placed_change : (k : ℕ) (path path' : ℕ → ℕ → ℕ) (role : ℕ → Role) (r : Role) (net : Net) (p : ℕ)
     → Placed k path role net → Unnamed net p → ((s w : ℕ) (z : Record) → In z (net.records s w) → z.leader ≡ p → ⊥)
     → ((q d : ℕ) → (q ≡ p → ⊥) → path' q d ≡ path q d) → Placed k path' (put role p r) net
@@ -301,7 +301,7 @@ placed_change k path path' role r net p ok free none same =
 
 -- ---- by roles
 
--- nothing names one that has no role
+-- Nothing names a processor that is idle.
 pub unnamed_idle : (k : ℕ) (path : ℕ → ℕ → ℕ) (role : ℕ → Role) (net : Net) (p : ℕ) → Placed k path role net → role p ≡ Idle → Unnamed net p
 unnamed_idle k path role net p ok idle = record {
   requests = λ d w x m e. let h = ok.requests d w x m in let f = sym h.asks ∙ ap role e ∙ idle in cc;
@@ -320,7 +320,7 @@ small_put role n p r small l q = elim (cases_eq q p) [
   | inr m ↦ elim (small q) [ inl i ↦ inl (put_other role p r q m ∙ i) | inr j ↦ inr j ]
 ]
 
--- where every processor is idle, nothing stands in the network
+-- If every processor is idle, places are kept with any paths, since there are no messages.
 pub placed_nowhere : (k : ℕ) (path path' : ℕ → ℕ → ℕ) (role : ℕ → Role) (net : Net) → Placed k path role net → ((p : ℕ) → role p ≡ Idle)
     → Placed k path' role net
 placed_nowhere k path path' role net ok idle = record {

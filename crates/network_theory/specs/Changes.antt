@@ -1,5 +1,5 @@
--- What combining, answering and serving do to places and meanings. A message that is on its way between two places is
--- named by nothing: it was taken out of its place before.
+-- What combining, answering and serving do to places and meanings. Nothing names a message that is on its way between
+-- two places: it was taken out of its place before.
 use Rattle.std.specs.Prelude.{◌≡◌, ℕ, suc, ◌<◌, ◌≤◌, Bool, List, [], ◌∷◌, ◌++◌, Option, Some}
 use Rattle.messages.specs.phi_algebra.declared.phi.Phi.{Phi}
 use Rattle.messages.specs.declared.message.Request.{Request}
@@ -14,7 +14,7 @@ use Rattle.network_theory.specs.Meaning.{RequestMeans, ReplyMeans, Means, Groups
 
 -- ---- combining
 
--- A request that is combined before it goes further than stage s becomes the second of a record there.
+-- If a request is combined before it goes beyond stage s, it becomes the second of a record there.
 abbrev pub CombiningKeepsPlaces : Type 0
 CombiningKeepsPlaces =
     (k : ℕ) (path : ℕ → ℕ → ℕ) (role : ℕ → Role) (net : Net) (b r s w : ℕ) (x : Request) (j : Combination) →
@@ -35,7 +35,8 @@ CombiningJoinsGroups =
 
 -- ---- answering
 
--- the replies to a reply at output w of stage s, each on its leader's wire, and the records gone
+-- the network after a reply is answered at output w of stage s: the replies made from it are on their leaders' wires,
+-- and its records are gone
 abbrev pub answered_net : (wire : ℕ → ℕ) → (s w : ℕ) → Reply → Net → Net
 answered_net wire s w x net =
     push_all wire s (answers (records_of x.leader (net.records s w)) x)
@@ -52,7 +53,7 @@ AnsweringKeepsPlaces =
     ((q : ℕ) → (role q ≡ Idle → ⊥) → path q (suc s) ≡ w → path q s ≡ wire q) →
     Placed k path (answered_roles s w x net role) (answered_net wire s w x net)
 
--- Where the reply gives each what it is owed, so do the replies to it.
+-- If the reply gives each processor what it is owed, so do the replies made from it.
 abbrev pub AnsweringGivesEachItsOwn : Type 0
 AnsweringGivesEachItsOwn =
     (own : ℕ → Phi) (word : ℕ → ℕ) (path : ℕ → ℕ → ℕ) (group : ℕ → List ℕ) (owed : ℕ → Option ℕ) (wire : ℕ →
@@ -63,8 +64,8 @@ AnsweringGivesEachItsOwn =
 
 -- ---- serving
 
--- The reply to a request at its module, with the word there, gives to each of its group what it finds when they go one
--- after another on the flat side.
+-- The reply to a request at its module carries the word there. It gives each processor of the group what that processor
+-- finds if they refer one after another on the flat side.
 abbrev pub ServingExecutesTheGroup : Type 0
 ServingExecutesTheGroup =
     (own : ℕ → Phi) (word : ℕ → ℕ) (open_now : ℕ → Bool) (path : ℕ → ℕ → ℕ) (group : ℕ →

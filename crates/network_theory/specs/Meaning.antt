@@ -1,7 +1,7 @@
 -- What the messages stand for.
 --
--- `own p` and `word p` are the function and the word of p's open reference, `group p` is whom p's request stands for,
--- and `owed p` is what p's reference found, once it is served and until it retires.
+-- `own p` and `word p` are the function and the word of p's open reference. `group p` is the processors for which p's
+-- request stands. `owed p` is what p's reference found, from its service until it retires.
 use Rattle.std.specs.Prelude.{◌≡◌, ℕ, List, [], ◌∷◌, ◌++◌, Option, Some, None, Bool, true}
 use Rattle.messages.specs.phi_algebra.declared.phi.Phi.{Phi}
 use Rattle.messages.specs.phi_algebra.Functions.{IsInRange}
@@ -13,8 +13,8 @@ use Rattle.messages.specs.Queues.{applied}
 use Rattle.messages.specs.Network.{Net, records_on}
 use Rattle.network_theory.specs.Giving.{gives, finds, leaves}
 
--- A request at depth d means that its leader's group goes one after another: its function is theirs together, and a
--- reply to it gives to each what it finds.
+-- A request at depth d stands for its leader's group, one processor after another: its function is the composition of
+-- theirs, and a reply to it gives each of them what it finds.
 pub record RequestMeans (own : ℕ → Phi) (word : ℕ → ℕ) (group : ℕ → List ℕ) (R : ℕ → ℕ →
     List Record) (d : ℕ) (x : Request) : Type 0 where
   pub word_is : x.word ≡ word x.leader
@@ -22,7 +22,7 @@ pub record RequestMeans (own : ℕ → Phi) (word : ℕ → ℕ) (group : ℕ �
   pub function : (y : ℕ) → applied x.phi y ≡ leaves own (group x.leader) y
   pub answers : (y : ℕ) → gives R x.leader d y ≡ finds own (group x.leader) y
 
--- A reply at depth d gives to each what it is owed.
+-- A reply at depth d gives each processor what it is owed.
 abbrev pub ReplyMeans : (owed : ℕ → Option ℕ) → (R : ℕ → ℕ → List Record) → ℕ → Reply → Type 0
 ReplyMeans owed R d x = (m : ℕ × ℕ) → In m (gives R x.leader d x.value) → owed m.0 ≡ Some m.1
 
@@ -32,7 +32,8 @@ pub record Means (own : ℕ → Phi) (word : ℕ → ℕ) (path : ℕ → ℕ �
       RequestMeans own word group (records_on path net.records) d x
   pub replies : (d w : ℕ) (x : Reply) → In x (net.replies d w) → ReplyMeans owed (records_on path net.records) d x
 
--- The groups are of open references that are not served, each to one word, and each processor is in one group, once.
+-- The references of the groups are open and not served, those of one group are to one word, and each processor is in at
+-- most one group, once.
 pub record Groups (word : ℕ → ℕ) (open_now : ℕ → Bool) (group : ℕ → List ℕ) (owed : ℕ → Option ℕ) : Type 0 where
   pub opened : (p j : ℕ) → In j (group p) → open_now j ≡ true
   pub unserved : (p j : ℕ) → In j (group p) → owed j ≡ None
@@ -40,13 +41,13 @@ pub record Groups (word : ℕ → ℕ) (open_now : ℕ → Bool) (group : ℕ �
   pub home : (p q j : ℕ) → In j (group p) → In j (group q) → p ≡ q
   pub distinct : (p : ℕ) → Distinct (group p)
 
--- The flat side, as far as the network goes: the shared words, and what each executed and not yet retired reference
--- found.
+-- The flat side, as far as the network is concerned: the shared words, and what each reference found that is executed
+-- and not yet retired.
 pub record Executed : Type 0 where
   pub mem : ℕ → ℕ
   pub owed : ℕ → Option ℕ
 
--- j's reference is executed at once
+-- the flat side after j's reference is executed
 abbrev pub execute : (ℕ → Phi) → (ℕ → ℕ) → Executed → ℕ → Executed
 execute own word f j = record {
   mem = put f.mem (word j) (applied (own j) (f.mem (word j)));
@@ -57,6 +58,6 @@ unfoldable pub execute_all : (ℕ → Phi) → (ℕ → ℕ) → Executed → Li
 execute_all own word f [] = f
 execute_all own word f (j ∷ js) = execute_all own word (execute own word f j) js
 
--- q's group joins p's
+-- the groups after q's joins p's
 unfoldable pub joined : (ℕ → List ℕ) → ℕ → ℕ → ℕ → List ℕ
 joined group p q = put (put group p (group p ++ group q)) q []

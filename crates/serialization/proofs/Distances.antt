@@ -11,7 +11,7 @@ far_idle k role p n (asking _ _ d e f) r = let c = sym e ∙ r in cc
 far_idle k role p n (replying _ _ d e f) r = let c = sym e ∙ r in cc
 far_idle k role p n (waiting _ _ s b e f) r = let c = sym e ∙ r in cc
 
--- The distance of a processor whose request is at depth d makes 2 k + 2 together with d.
+-- The distance of a processor whose request is at depth d is 2 k + 2 - d.
 pub far_asking : (k : ℕ) (role : ℕ → Role) (p n d : ℕ) → Far k role p n → role p ≡ Asking d → n + d ≡ 2 * k + 2
 far_asking k role p n d (idle _ _ e f) r = let c = sym e ∙ r in cc
 far_asking k role p n d (asking _ _ i e f) r = let c : i ≡ d = (let g = sym e ∙ r in cc) in subst (λ j. n + j ≡ 2 * k + 2) c f
@@ -25,21 +25,21 @@ far_replying k role p n d (asking _ _ i e f) r = let c = sym e ∙ r in cc
 far_replying k role p n d (replying _ _ i e f) r = let c : i ≡ d = (let g = sym e ∙ r in cc) in f ∙ ap suc c
 far_replying k role p n d (waiting _ _ s b e f) r = let c = sym e ∙ r in cc
 
--- The distance of a processor that waits for another is the other's.
+-- The distance of a processor that waits for a leader is the leader's.
 pub far_waiting : (k : ℕ) (role : ℕ → Role) (p n s b : ℕ) → Far k role p n → role p ≡ Waiting s b → Far k role b n
 far_waiting k role p n s b (idle _ _ e f) r = let c = sym e ∙ r in cc
 far_waiting k role p n s b (asking _ _ i e f) r = let c = sym e ∙ r in cc
 far_waiting k role p n s b (replying _ _ i e f) r = let c = sym e ∙ r in cc
 far_waiting k role p n s b (waiting _ _ t a e f) r = let c : a ≡ b = (let g = sym e ∙ r in cc) in subst (λ j. Far k role j n) c f
 
--- there is one distance
+-- A processor has at most one distance.
 pub far_unique : (k : ℕ) (role : ℕ → Role) (p n m : ℕ) → Far k role p n → Far k role p m → n ≡ m
 far_unique k role p n m (idle _ _ e f) g = f ∙ sym (far_idle k role p m g e)
 far_unique k role p n m (asking _ _ d e f) g = let h = far_asking k role p m d g e in omega arith
 far_unique k role p n m (replying _ _ d e f) g = f ∙ sym (far_replying k role p m d g e)
 far_unique k role p n m (waiting _ _ s b e f) g = far_unique k role b n m f (far_waiting k role p m s b g e)
 
--- where each role stays or gets nearer, each distance does
+-- If each role stays or gets nearer, no distance grows.
 pub far_lower : (k : ℕ) (role role' : ℕ → Role) → ((q : ℕ) → (role' q ≡ role q) ⊎ ((i : ℕ) → Far k role q i → (j : ℕ) × Far k role' q j × (j ≤ i)))
     → (q i : ℕ) → Far k role q i → (j : ℕ) × Far k role' q j × (j ≤ i)
 far_lower k role role' each q i (idle _ _ e f) = elim (each q) [ inl s ↦ (i, idle q i (s ∙ e) f, omega arith) | inr h ↦ h i (idle q i e f) ]
@@ -70,7 +70,7 @@ unfolding total
 total_bound f zero b h = omega arith
 total_bound f (suc n) b h = let a = total_bound f n b (λ i l. h i (omega arith)) in let c = h n (omega arith) in omega arith
 
--- on the net and by the roles
+-- A distance by the messages and records is also the distance by the roles.
 pub far_distance : (k : ℕ) (path : ℕ → ℕ → ℕ) (role : ℕ → Role) (net : Net) → Placed k path role net → (p n : ℕ) → Distance k net p n → Far k role p n
 far_distance k path role net ok p n (asks _ _ d w x m e f) = asking p n d (ap role (sym e) ∙ (ok.requests d w x m).asks) f
 far_distance k path role net ok p n (tells _ _ d w x m e f) = replying p n d (ap role (sym e) ∙ (ok.replies d w x m).replying) f

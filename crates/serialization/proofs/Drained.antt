@@ -14,7 +14,7 @@ use Rattle.serialization.proofs.Steadying.{goes_step}
 use Rattle.serialization.proofs.Draining.{drain_is, bound, distances_are}
 use Rattle.serialization.proofs.Least.{LeastIs, GreatestIs, least_is, greatest_is}
 
--- ---- none is named where no reference is open
+-- ---- no step is named if no reference is open
 
 no_least : (f : ℕ → Bool) (n : ℕ) → ((j : ℕ) → f j ≡ false) → least f n ≡ None
 no_least f n h = go (least f n) (least_is f n)
@@ -62,7 +62,7 @@ idle_names_none z P M role ok no_open =
 
 -- ---- the end
 
--- a drain of as many steps as the distances make together ends idle
+-- A drain of n steps ends idle, if the sum of the distances is at most n.
 pub drained : {Core Pokes Entry : Type 0} → (z : Sizes) (P : Program Core Pokes Entry) (n : ℕ) (M : Machine Core) (role : ℕ → Role) (f : ℕ → ℕ)
     → Steady z P M role → z.r < z.c → AreDistances z M f → total f (wires z) ≤ n → (p : ℕ) → (machine_after z P (drain_steps z P n M) M).is_open p ≡ false
 unfolding drain_steps machine_after
@@ -95,7 +95,7 @@ drain_ends z P M role ok room =
     let f = distances_are z P M role ok in
     drained z P (drain_bound z) M role f.0 ok room f.1 (bound z P M role ok f.0 f.1)
 
--- A drain of up to n steps has at most n.
+-- A drain that may take n steps takes at most n.
 pub drain_is_short : {Core Pokes Entry : Type 0} → (z : Sizes) (P : Program Core Pokes Entry) (n : ℕ) (M : Machine Core) → length (drain_steps z P n M) ≤ n
 unfolding drain_steps
 drain_is_short z P zero M = omega arith

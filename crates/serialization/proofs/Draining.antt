@@ -36,7 +36,7 @@ is_nil : {X : Type 0} (xs : List X) → is_any xs ≡ false → xs ≡ []
 is_nil [] e = refl
 is_nil (x ∷ xs) e = absurd (true≢false e)
 
--- a first element
+-- A list that is not empty, as its first element and the others.
 pub record Front {X : Type 0} (xs : List X) : Type 0 where
   -- The first element.
   pub first : X
@@ -59,7 +59,7 @@ no_wire {X} at n = go (least (λ w. is_any (at w)) n) (least_is (λ w. is_any (a
     go None h e w l = h w l
     go (Some i) h e w l = absurd (true≢false e)
 
--- messages stand on wires alone
+-- Messages are only on the wires of the machine.
 reply_wire : {Core Pokes Entry : Type 0} → (z : Sizes) (P : Program Core Pokes Entry) (M : Machine Core) (role : ℕ → Role) → Steady z P M role
     → (d w : ℕ) (y : Reply) → In y (M.net.replies d w) → w < wires z
 reply_wire z P M role ok d w y m =
@@ -199,7 +199,7 @@ down_goes {Core} {Pokes} z P M role s w ok l lw room any none =
     named [] net = tt
     named (r ∷ rs) net = tt
 
--- with no message anywhere, no reference is open
+-- If there is no message anywhere, no reference is open.
 all_idle : {Core Pokes Entry : Type 0} → (z : Sizes) (P : Program Core Pokes Entry) (M : Machine Core) (role : ℕ → Role) → Steady z P M role
     → ((d w : ℕ) (y : Reply) → In y (M.net.replies d w) → ⊥) → ((d w : ℕ) (x : Request) → In x (M.net.requests d w) → ⊥) → (p : ℕ) → M.is_open p ≡ false
 all_idle z P M role ok no_replies no_requests p = (ok.shut p).1 (go z.k p (role p) refl (λ s b e. omega arith))
@@ -237,12 +237,12 @@ far_of z P M role ok f h p l = elim (cases_Bool (M.is_open p)) [
   | inr c ↦ idle p (f p) ((ok.shut p).0 c) ((h p l).0 c)
 ]
 
--- In a steady machine the distances make together at most 2 k + 2 for each processor.
+-- In a steady machine the sum of the distances is at most 2 k + 2 for each processor.
 pub bound : {Core Pokes Entry : Type 0} → (z : Sizes) (P : Program Core Pokes Entry) (M : Machine Core) (role : ℕ → Role) → Steady z P M role → (f : ℕ → ℕ)
     → AreDistances z M f → total f (wires z) ≤ wires z * (2 * z.k + 2)
 bound z P M role ok f h = total_bound f (wires z) (2 * z.k + 2) (λ i l. far_bound z P M role ok i (f i) (far_of z P M role ok f h i l))
 
--- a sum of which one part alone is not zero
+-- A sum whose terms are all zero is zero.
 total_none : (f : ℕ → ℕ) (n : ℕ) → ((q : ℕ) → q < n → f q ≡ 0) → total f n ≡ 0
 unfolding total
 total_none f zero none = refl
@@ -263,7 +263,7 @@ total_one f p b (suc n) none one = by (total_one f p b n) (cases_eq n p)
         let before = rest (λ q l d. none q (omega (arith, l)) d) (λ l. one (omega (arith, l))) in
         let last = none n (omega arith) other in omega (arith, before, last)
 
--- the distance of a reference that is open alone
+-- If only p's reference is open, the sum of the distances is at most 2 k + 2.
 pub bound_alone : {Core Pokes Entry : Type 0} → (z : Sizes) (P : Program Core Pokes Entry) (M : Machine Core) (role : ℕ → Role) → Steady z P M role → (p : ℕ)
     → ((q : ℕ) → (q ≡ p → ⊥) → M.is_open q ≡ false) →
     (f : ℕ → ℕ) → AreDistances z M f → total f (wires z) ≤ 2 * z.k + 2
@@ -284,7 +284,7 @@ advances_lower (Poked q) X c a = absurd c
 closer_runs : {Pokes : Type 0} → (o : Outcome Pokes) → Closer o → o ≡ Stalled → ⊥
 closer_runs o c e = subst Closer e c
 
--- a step that goes on lowers the sum
+-- A step that moves a message lowers the sum.
 closer_is : {Core Pokes Entry : Type 0} → (z : Sizes) (P : Program Core Pokes Entry) (M : Machine Core) (role : ℕ → Role) (st : Step Pokes)
     → Steady z P M role → Closer (step z P M st).outcome → DrainIs z P M (Some st)
 closer_is z P M role st ok c =
@@ -376,7 +376,7 @@ drain_is z P M role ok room = turns (least (λ w. is_any (M.net.replies 0 w)) (w
     turns None h = downs (no_reply z P M role ok 0 h) (least (λ s. some_wire (M.net.replies (suc s)) (wires z)) z.k)
         (least_is (λ s. some_wire (M.net.replies (suc s)) (wires z)) z.k)
 
--- each open reference has a distance
+-- A processor that is not idle has a distance.
 has_distance : {Core Pokes Entry : Type 0} → (z : Sizes) (P : Program Core Pokes Entry) (M : Machine Core) (role : ℕ → Role) → Steady z P M role
     → (fuel q : ℕ) (r : Role) → role q ≡ r → ((s b : ℕ) → r ≡ Waiting s b → z.k ≤ s + fuel) → (r ≡ Idle → ⊥) → (n : ℕ) × Distance z.k M.net q n
 has_distance z P M role ok fuel q Idle e near n = absurd (n refl)

@@ -1,4 +1,4 @@
--- The least and the greatest number that passes.
+-- The least and the greatest number that pass a test.
 use Rattle.std.proofs.Common.{◌≡◌, ℕ, zero, suc, ◌<◌, Bool, true, false, inl, inr, Option, Some, None, refl, ap, ◌∙◌, arith}
 use Rattle.std.specs.Prelude.{if◌then◌else◌}
 use Rattle.std.proofs.lemmas.Bool.{cases_eq}
@@ -20,7 +20,7 @@ pub record Greatest (f : ℕ → Bool) (n i : ℕ) : Type 0 where
   -- No greater number below n passes.
   pub behind : (j : ℕ) → i < j → j < n → f j ≡ false
 
--- what is found, as a fact about the answer
+-- What the search says: the number found is the least, and none found means none there.
 abbrev pub LeastIs : (ℕ → Bool) → ℕ → Option ℕ → Type 0
 LeastIs f n None = (j : ℕ) → j < n → f j ≡ false
 LeastIs f n (Some i) = Least f n i

@@ -1,4 +1,4 @@
--- What a run beside the flat machine says of the machine at the moment.
+-- What a run that follows the flat machine says of the machine at each moment.
 use Rattle.std.proofs.Common.{◌≡◌, ℕ, Bool, true, false, ◌&&◌, List, [], ◌∷◌, nat_lt, inl, inr, Option, Some, None, refl, sym, ap, ◌∙◌, subst}
 use Rattle.std.specs.Prelude.{if◌then◌else◌}
 use Rattle.std.proofs.lemmas.Bool.{cases_Bool, true≢false}
@@ -22,7 +22,7 @@ use Rattle.serialization.proofs.Simulating.{owed_reply}
 
 -- which steps issue, and which retire
 module _ {Core Pokes Entry : Type 0} (z : Sizes) (P : Program Core Pokes Entry) (M : Machine Core) where
-  -- a reply was there
+  -- A reply was on the wire of an open processor.
   pub record Replied (p value : ℕ) : Type 0 where
     pub opened : M.is_open p ≡ true
     -- The first reply on the processor's wire.
@@ -164,7 +164,7 @@ module _ {Core Pokes Entry : Type 0} (z : Sizes) (P : Program Core Pokes Entry) 
   pub shut_unserved : (p : ℕ) → h.machine.is_open p ≡ false → h.served p ≡ None
   shut_unserved p e = by_place p (h.served p) (f.places p) ((f.simulates.shut p e).1)
 
-  -- a reference is not served before its step
+  -- A processor that is owed nothing has no served reference.
   pub unserved_of : (p : ℕ) → f.owed p ≡ None → h.served p ≡ None
   unserved_of p e = by_place p (h.served p) (f.places p) e
 
@@ -192,7 +192,7 @@ module _ {Core Pokes Entry : Type 0} (z : Sizes) (P : Program Core Pokes Entry) 
       none : (p : ℕ) → h.served p ≡ None → f.owed p ≡ None
       none p e = subst (λ o. PlaceOf P first h.order h.machine.core p o (f.owed p)) e (f.places p)
 
--- from idle to idle
+-- If the machine is idle after a run, it is the flat machine after the order.
 pub idle_is_flat : {Core Pokes Entry : Type 0}
     → (z : Sizes) (P : Program Core Pokes Entry) (good : ℕ → Core → Type 0) (first : FlatMachine Core) (h : Passed Core Entry) → Follows z P good first h
     → IsIdle z h.machine → IsFlat h.machine (flat_run P first h.order)

@@ -43,7 +43,7 @@ unfolding groups_after
 groups_after-append group [] ps = refl
 groups_after-append group (o ∷ os) ps = groups_after-append (group_after group o) os ps
 
--- where the outcomes are cut, the steps are
+-- If the outcomes are cut in two, so are the steps.
 pub record CutAt {Core Pokes Entry : Type 0} (z : Sizes) (P : Program Core Pokes Entry) (h : Passed Core Entry) (os ps : List (Outcome Pokes)) : Type 0 where
   pub front : List (Step Pokes)
   -- The steps of the outcomes after the cut.
@@ -63,7 +63,7 @@ cut z P h (st ∷ sts) (o ∷ os) ps e =
     let c = cut z P (pass z P h st) sts os ps later in
     record { front = st ∷ c.front; back = c.back; front_is = ap₂ (λ a b. a ∷ b) first c.front_is; back_is = c.back_is }
 
--- the first step of outcomes that are there
+-- If there is an outcome, there is a first step.
 pub record Begun {Core Pokes Entry : Type 0} (z : Sizes) (P : Program Core Pokes Entry) (h : Passed Core Entry) (o : Outcome Pokes)
     (os : List (Outcome Pokes)) : Type 0 where
   -- The step of the first outcome.
@@ -82,7 +82,7 @@ begun z P h (st ∷ sts) o os e = record { first = st; rest = sts; first_is = cc
 
 -- ---- counting
 
--- 1 where a place is there
+-- 1 if there is a place, and otherwise 0
 abbrev mark : Option ℕ → ℕ
 mark None = 0
 mark (Some i) = 1
@@ -120,7 +120,7 @@ served_not_among p (j ∷ js) i served e = elim (cases_Bool (j == p)) [
       ∙ put_other served j (Some i) p (λ q. true≢false (sym (eq-eqb j p (sym q)) ∙ n))
 ]
 
--- a step that does not retire p serves p, or leaves it as it was
+-- A step that does not retire p either serves p or leaves its place as it was.
 counts : {Pokes Entry : Type 0} → (group : ℕ → List ℕ) (order : List Entry) (served : ℕ → Option ℕ) (p : ℕ) (o : Outcome Pokes) → (IsRetirement p o → ⊥)
     → ((l : ℕ) → In p (group l) → served p ≡ None)
     → mark (served_after group order served o p) ≡ mark (served p) + serves group p o
@@ -162,7 +162,7 @@ group_at : {Core Pokes Entry : Type 0}
 unfolding groups_after
 group_at z P h before st p group is = (λ i. group_after (group i) (is i)) ∙ sym (groups_after-append (λ q. []) before (Issued p ∷ []))
 
--- from after the issue on
+-- From after the issue on, a reference is served at most once, and exactly once if it retires.
 once_from : {Core Pokes Entry : Type 0} → (z : Sizes) (P : Program Core Pokes Entry) (good : ℕ → Core → Type 0) → Keeps P good
     → (first : FlatMachine Core) (h : Passed Core Entry) → Follows z P good first h → (steps : List (Step Pokes)) (between rest : List (Outcome Pokes)) (p : ℕ)
     → outcomes z P steps h.machine ≡ between ++ rest → HasNotRetired p between → h.served p ≡ None

@@ -1,4 +1,4 @@
--- The machine is the flat one after the order, at each moment.
+-- The machine is the flat machine after the order, at each moment.
 use Rattle.std.proofs.Common.{◌≡◌, ℕ, suc, ◌<◌, Bool, true, false, ◌&&◌, List, [], ◌∷◌, ◌++◌}
 use Rattle.std.proofs.Common.{length, map, nat_lt, inl, inr, Option, Some, None, refl, sym, ap}
 use Rattle.std.proofs.Common.{◌∙◌, subst, arith, ltb-true, append_assoc, length-append}
@@ -37,7 +37,7 @@ flat_run-append P f (j ∷ js) ks = flat_run-append P (flat_step P f j) js ks
 
 -- ---- the places of served references in the order
 
--- a processor is owed what its place says, and nothing without one
+-- A processor is owed the word that its place of the order finds, and nothing if it has no place.
 abbrev pub PlaceOf : {Core Pokes Entry : Type 0} → Program Core Pokes Entry → FlatMachine Core → List Entry → (ℕ → Core) → ℕ → Option ℕ → Option ℕ → Type 0
 PlaceOf P first order core p None owed = owed ≡ None
 PlaceOf P first order core p (Some place) owed = (word : ℕ) × (owed ≡ Some word) × FindsAt P first order core p place word
@@ -46,7 +46,7 @@ abbrev pub Places : {Core Pokes Entry : Type 0} → Program Core Pokes Entry →
     → Type 0
 Places P first order core served owed = (p : ℕ) → PlaceOf P first order core p (served p) (owed p)
 
--- a longer order, and the core as it was
+-- The place of a processor stays right if the order gets longer and the processor's core stays.
 place_further : {Core Pokes Entry : Type 0}
     → (P : Program Core Pokes Entry) (first : FlatMachine Core) (order more : List Entry) (core core' : ℕ → Core) (p : ℕ) (place owed : Option ℕ)
     → ((i : ℕ) → place ≡ Some i → core' p ≡ core p) → PlaceOf P first order core p place owed → PlaceOf P first (order ++ more) core' p place owed
@@ -80,7 +80,7 @@ places_retired {Core} P first order more core served owed p g h q = elim (cases_
       (place_further P first order more core (put core p g) q (served q) (owed q) (λ i e. put_other core p g q n) (h q)))
 ]
 
--- one goes, at the end of the order
+-- Places stay right if one reference is served, at the end of the order.
 place_one : {Core Pokes Entry : Type 0}
     → (P : Program Core Pokes Entry) (first : FlatMachine Core) (order : List Entry) (core : ℕ → Core) (served : ℕ → Option ℕ) (f : Executed) (j : ℕ)
     → ((a : ℕ) → f.mem a ≡ (flat_run P first order).mem a) → Places P first order core served f.owed
@@ -110,7 +110,7 @@ place_one {Core} {Entry = Entry} P first order core served f j mems h q = elim (
     order' : List Entry
     order' = order ++ P.entry.turn j ∷ []
 
--- a group goes
+-- Places stay right if a group is served, at the end of the order.
 places_served : {Core Pokes Entry : Type 0}
     → (P : Program Core Pokes Entry) (first : FlatMachine Core) (core : ℕ → Core) (js : List ℕ) (order : List Entry) (served : ℕ → Option ℕ) (f : Executed)
     → Distinct js → ((j : ℕ) → In j js → f.owed j ≡ None) → ((j : ℕ) → In j js → P.kind j (core j) ≡ Refers)
@@ -134,7 +134,7 @@ places_served {Core} {Entry = Entry} P first core (j ∷ js) order served f d no
     (subst (λ n. Places P first (order' ++ map P.entry.turn js) core (served_from n js served')
     (execute_all (own_of P core) (word_of P core) f' js).owed) longer rest)
 
--- ---- a run beside the flat machine
+-- ---- a run that follows the flat machine
 
 pub record Follows {Core Pokes Entry : Type 0} (z : Sizes) (P : Program Core Pokes Entry) (good : ℕ → Core → Type 0) (first : FlatMachine Core)
     (h : Passed Core Entry) : Type 0 where
@@ -145,7 +145,7 @@ pub record Follows {Core Pokes Entry : Type 0} (z : Sizes) (P : Program Core Pok
   -- Each reference that is served has a place in the order, at which it finds the word that is owed.
   pub places : Places P first h.order h.machine.core h.served owed
 
--- what a result needs, to be passed
+-- What a run that follows the flat machine needs of the result of a step.
 abbrev FollowsBy : {Core Pokes Entry : Type 0}
     → (z : Sizes) (P : Program Core Pokes Entry) (good : ℕ → Core → Type 0) (first : FlatMachine Core) (h : Passed Core Entry) (owed : ℕ → Option ℕ)
     → Result Core Pokes → Type 0
@@ -159,7 +159,7 @@ module _ {Core Pokes Entry : Type 0} (z : Sizes) (P : Program Core Pokes Entry) 
   abbrev By : Result Core Pokes → Type 0
   By r = FollowsBy z P good first h f.owed r
 
-  -- nothing of the processors changes
+  -- Places stay right if the order gets longer and the cores of served processors stay.
   plain : (more : List Entry) (core' : ℕ → Core) → ((p i : ℕ) → h.served p ≡ Some i → core' p ≡ h.machine.core p)
       → Places P first (h.order ++ more) core' h.served f.owed
   plain more core' same = places_further P first h.order more h.machine.core core' h.served f.owed f.places same
@@ -167,7 +167,7 @@ module _ {Core Pokes Entry : Type 0} (z : Sizes) (P : Program Core Pokes Entry) 
   by_stalled : By (stalled h.machine)
   by_stalled = (kept_stalled z P good h.machine h.group f.owed (flat_run P first h.order) f.simulates, plain [] h.machine.core (λ p i e. refl))
 
-  -- who is owed nothing has no place
+  -- A processor that is owed nothing has no place.
   no_place : (p i : ℕ) → f.owed p ≡ None → h.served p ≡ Some i → ⊥
   no_place p i none e =
       let g = subst (λ o. PlaceOf P first h.order h.machine.core p o (f.owed p)) e (f.places p) in
@@ -210,7 +210,7 @@ module _ {Core Pokes Entry : Type 0} (z : Sizes) (P : Program Core Pokes Entry) 
         (λ a. refl) f.simulates.shown f.places,
   )
 
-  -- a move changes the network alone
+  -- A request's move changes the network alone.
   by_up : (r : UpMove × Net) → Kept z P good h.machine.core h.group f.owed (flat_run P first h.order) (went_up h.machine r) → By (went_up h.machine r)
   by_up (up.Stalled, net) k = by_stalled
   by_up (up.Moved, net) k = (k, plain [] h.machine.core (λ q i s. refl))
@@ -283,7 +283,7 @@ module _ {Core Pokes Entry : Type 0} (z : Sizes) (P : Program Core Pokes Entry) 
         places = g.1;
       }
 
--- at the end of a list of steps, from any moment
+-- A run that follows the flat machine still follows it after a list of steps.
 pub follows_passes : {Core Pokes Entry : Type 0}
     → (z : Sizes) (P : Program Core Pokes Entry) (good : ℕ → Core → Type 0) (keeps : Keeps P good) (first : FlatMachine Core) (steps : List (Step Pokes))
     (h : Passed Core Entry) → Follows z P good first h → Follows z P good first (passes z P steps h)
@@ -291,7 +291,7 @@ unfolding passes
 follows_passes z P good keeps first [] h ok = ok
 follows_passes z P good keeps first (st ∷ sts) h ok = follows_passes z P good keeps first sts (pass z P h st) (follows_step z P good keeps first h ok st)
 
--- an idle machine is its own flat machine
+-- An idle machine follows the flat machine that it is.
 pub follows_idle : {Core Pokes Entry : Type 0} → (z : Sizes) (P : Program Core Pokes Entry) (good : ℕ → Core → Type 0) (M : Machine Core) → Begins z P good M
     → Follows z P good (flat_of M) (from_machine M)
 unfolding flat_run

@@ -1,4 +1,4 @@
--- Each step keeps how the machine stands to the flat one.
+-- Each step keeps the machine's relation to the flat machine.
 use Rattle.std.proofs.Common.{◌≡◌, ℕ, ◌%◌, ◌^◌, ◌<◌, true, false, List, [], ◌∷◌, map, inl, inr, Option, Some, None, refl, sym, ap, ap₂, ◌∙◌, subst, arith, drop}
 use Rattle.std.proofs.lemmas.Bool.{cases_eq, cases_Bool, true≢false}
 use Rattle.network_theory.specs.phi_algebra.declared.phi.Phi.{Phi}
@@ -34,7 +34,7 @@ pub kept_stalled : {Core Pokes Entry : Type 0}
 unfolding flat_run
 kept_stalled z P good M group owed F ok = ok
 
--- a reference in the flat machine, of a core that is known
+-- A reference in the flat machine, of a processor whose core is known.
 flat_refers : {Core Pokes Entry : Type 0} → (P : Program Core Pokes Entry) (F : FlatMachine Core) (j : ℕ) (c : Core) → F.core j ≡ c → P.kind j c ≡ Refers
     → flat_step P F (P.entry.turn j) ≡ record {
       mem = put F.mem (P.word_of j c) (applied (P.phi_of j c) (F.mem (P.word_of j c)));
@@ -42,12 +42,13 @@ flat_refers : {Core Pokes Entry : Type 0} → (P : Program Core Pokes Entry) (F 
     }
 flat_refers P F j c e refers = ap (flat_taken P F) (P.entry.of_turn j) ∙ (λ i. flat_turn P F j (e i) (P.kind j (e i))) ∙ ap (flat_turn P F j c) refers
 
--- a turn alone
+-- A turn without a reference in the flat machine, of a processor whose core is known.
 flat_advances : {Core Pokes Entry : Type 0} → (P : Program Core Pokes Entry) (F : FlatMachine Core) (j : ℕ) (c : Core) → F.core j ≡ c → P.kind j c ≡ Alone
     → flat_step P F (P.entry.turn j) ≡ record { mem = F.mem; core = put F.core j (P.alone j c) }
 flat_advances P F j c e alone = ap (flat_taken P F) (P.entry.of_turn j) ∙ (λ i. flat_turn P F j (e i) (P.kind j (e i))) ∙ ap (flat_turn P F j c) alone
 
--- one of a group in the flat machine, and in its view
+-- If the flat machine takes the turn of a processor of a group, its words and cores are those after that processor is
+-- served.
 pub flat_shows_one : {Core Pokes Entry : Type 0} → (P : Program Core Pokes Entry) (core : ℕ → Core) (j : ℕ) (f : Executed) (F : FlatMachine Core)
     → f.owed j ≡ None → P.kind j (core j) ≡ Refers
     → ((a : ℕ) → f.mem a ≡ F.mem a) → ((p : ℕ) → F.core p ≡ shows P p (f.owed p) (core p))
@@ -70,12 +71,12 @@ flat_shows_one {Core} P core j f F none refer mems shown =
     ]) in
     subst (λ (H : FlatMachine Core). ((i : ℕ) → f'.mem i ≡ H.mem i) × ((p : ℕ) → H.core p ≡ shows P p (f'.owed p) (core p))) (sym st) (same_mem, same_core)
 
--- the others of a group that begins with j are still to go
+-- After j of a group is served, the others are still owed nothing.
 pub still_none : (f : Executed) (own : ℕ → Phi) (word : ℕ → ℕ) (j : ℕ) (js : List ℕ) → Distinct (j ∷ js) → ((i : ℕ) → In i (j ∷ js) → f.owed i ≡ None)
     → (i : ℕ) → In i js → (execute own word f j).owed i ≡ None
 still_none f own word j js d none i m = put_other f.owed j (Some (f.mem (word j))) i (λ e. d.0 (subst (λ l. In l js) e m)) ∙ none i (inr m)
 
--- a group in the flat machine, and in its view
+-- If the flat machine takes the turns of a group, its words and cores are those after the group is served.
 pub flat_shows : {Core Pokes Entry : Type 0} → (P : Program Core Pokes Entry) (core : ℕ → Core) (js : List ℕ) (f : Executed) (F : FlatMachine Core)
     → Distinct js → ((j : ℕ) → In j js → f.owed j ≡ None) → ((j : ℕ) → In j js → P.kind j (core j) ≡ Refers)
     → ((a : ℕ) → f.mem a ≡ F.mem a) → ((p : ℕ) → F.core p ≡ shows P p (f.owed p) (core p))
@@ -101,7 +102,7 @@ small_put_word mem a v all one i = elim (cases_eq i a) [
   | inr n ↦ subst (λ m. m < 2 ^ 32) (sym (put_other mem a v i n)) (all i)
 ]
 
--- a group leaves words, and is owed words
+-- A group leaves words below 2^32, and is owed such words.
 executed_small : (own : ℕ → Phi) (word : ℕ → ℕ) (f : Executed) (js : List ℕ) → ((j : ℕ) → In j js → IsInRange (own j)) → ((a : ℕ) → f.mem a < 2 ^ 32)
     → ((p v : ℕ) → f.owed p ≡ Some v → v < 2 ^ 32)
     → ((a : ℕ) → (execute_all own word f js).mem a < 2 ^ 32) × ((p v : ℕ) → (execute_all own word f js).owed p ≡ Some v → v < 2 ^ 32)
@@ -152,7 +153,7 @@ kept_issue z P good M group owed F p ok l shut refers in_range =
       owed_words = ok.owed_words;
     }
 
--- a reply on its processor's wire is what the processor is owed
+-- A reply on its processor's wire has the value that the processor is owed.
 pub owed_reply : {Core Pokes Entry : Type 0}
     → (z : Sizes) (P : Program Core Pokes Entry) (good : ℕ → Core → Type 0) (M : Machine Core) (group : ℕ → List ℕ) (owed : ℕ → Option ℕ)
     (F : FlatMachine Core) (p : ℕ) (y : Reply) (rest : List Reply) → Simulates z P good M group owed F → M.net.replies 0 p ≡ y ∷ rest → owed p ≡ Some y.value
@@ -282,7 +283,7 @@ kept_serve z P good keeps M group owed F m x rest ok e =
       owed_words = small_words.1;
     }
 
--- a step with no segment and no new group, that changes the network alone
+-- After a step that adds no entry and changes no group, but only the network, the machine simulates the flat machine.
 pub kept_plain : {Core Pokes Entry : Type 0}
     → (z : Sizes) (P : Program Core Pokes Entry) (good : ℕ → Core → Type 0) (M : Machine Core) (group : ℕ → List ℕ) (owed : ℕ → Option ℕ)
     (F : FlatMachine Core) (net : Net) (role : ℕ → Role) (ok : Simulates z P good M group owed F)
@@ -305,7 +306,7 @@ kept_plain z P good M group owed F net role ok placed means idle = record {
   owed_words = ok.owed_words;
 }
 
--- a turn alone: a local instruction, or a stop
+-- After a local instruction or a stop, the machine simulates the flat machine.
 pub kept_advance : {Core Pokes Entry : Type 0}
     → (z : Sizes) (P : Program Core Pokes Entry) (good : ℕ → Core → Type 0) (keeps : Keeps P good) (M : Machine Core) (group : ℕ → List ℕ)
     (owed : ℕ → Option ℕ) (F : FlatMachine Core) (p : ℕ) → Simulates z P good M group owed F → p < wires z → M.is_open p ≡ false → P.kind p (M.core p) ≡ Alone
@@ -355,7 +356,7 @@ kept_advance {Core} z P good keeps M group owed F p ok l shut is =
     no_less : (s : ℕ) → s < 0 → ⊥
     no_less s h = omega arith
 
--- a poke of an idle machine
+-- After a poke of an idle machine, the machine simulates the flat machine.
 pub kept_poked : {Core Pokes Entry : Type 0}
     → (z : Sizes) (P : Program Core Pokes Entry) (good : ℕ → Core → Type 0) (keeps : Keeps P good) (M : Machine Core) (group : ℕ → List ℕ)
     (owed : ℕ → Option ℕ) (F : FlatMachine Core) (q : Pokes) → Simulates z P good M group owed F → ((p : ℕ) → p < wires z → M.is_open p ≡ false)

@@ -1,4 +1,4 @@
--- A reply goes down.
+-- A reply moves down.
 use Rattle.network_theory.proofs.Lemmas.{answering_meaning, answering_places, answers_led, means_pop_reply, pop_reply, pop_reply_unnamed, replying_other}
 use Rattle.std.proofs.Common.{◌≡◌, ℕ, suc, ◌%◌, ◌<◌, Bool, true, false, List, [], ◌∷◌, inl, inr, Option, refl, sym, ap, ◌∙◌}
 use Rattle.std.specs.Prelude.{if◌then◌else◌}

@@ -1,4 +1,4 @@
--- A request goes up.
+-- A request moves up.
 use Rattle.network_theory.specs.Meaning.{Groups, joined}
 use Rattle.network_theory.proofs.Lemmas.{below_role, combining_meaning, combining_places, groups_joined}
 use Rattle.network_theory.proofs.Lemmas.{means_pop_request, means_push_request, not_idle, pop_request}

@@ -1,4 +1,4 @@
--- Where each processor stands, after single changes.
+-- Where each processor is after single changes.
 use Rattle.std.proofs.Common.{◌≡◌, ℕ, Bool, true, false, cond, not, List, [], ◌∷◌, ◌++◌, filter, ◌==◌, inl, inr, refl, sym, ap, ◌∙◌, subst}
 use Rattle.std.proofs.lemmas.Bool.{cases_Bool}
 use Rattle.network_theory.specs.messages.declared.message.Request.{Request}
@@ -12,7 +12,7 @@ use Rattle.network_theory.specs.Roles.{Role, Idle, Asking, Waiting, Replying}
 use Rattle.serialization.specs.Steadiness.{Stands}
 use Rattle.network_theory.proofs.Lemmas.messages.{In-append, In-append_left, In-append_right, at_put2, put2_same}
 
--- into a place after a put
+-- An element is still at its place after a place changes that keeps it.
 pub into_put2 : {X : Type 0} (f : ℕ → ℕ → List X) (d w : ℕ) (xs : List X) (d' w' : ℕ) (y : X) → (In y (f d w) → In y xs) → In y (f d' w')
     → In y (put2 f d w xs d' w')
 into_put2 {X} f d w xs d' w' y keep m = elim (at_put2 f d w xs d' w') [
@@ -20,7 +20,7 @@ into_put2 {X} f d w xs d' w' y keep m = elim (at_put2 f d w xs d' w') [
   | inr h ↦ subst (In y) (sym h.1) m
 ]
 
--- q stands where it stood, if each place keeps what names q
+-- A processor is still where its role says, if each place keeps what names it.
 stands_map : (net now : Net) (q : ℕ) (r : Role)
     → ((d w : ℕ) (x : Request) → In x (net.requests d w) → x.leader ≡ q → (y : Request) × In y (now.requests d w) × (y.leader ≡ q))
     → ((s w : ℕ) (x : Record) → In x (net.records s w) → x.second ≡ q → In x (now.records s w))

@@ -1,4 +1,4 @@
--- Each step keeps what holds of the state, and each move brings its carrier nearer.
+-- Each step keeps a machine steady, and each move brings a reference nearer to its end.
 use Rattle.network_theory.proofs.Lemmas.{answering_places, answers_led, below_role, combine, not_led, others_request}
 use Rattle.network_theory.proofs.Lemmas.{placed_change, placed_nowhere, pop_reply, pop_reply_unnamed, pop_request}
 use Rattle.network_theory.proofs.Lemmas.{pop_request_unnamed, push_reply, push_request, records_drop_other}
@@ -47,7 +47,7 @@ shut_put role p r b h n m q = (
   ]),
 )
 
--- one role changes, and gets nearer
+-- If one processor gets a role that is nearer, no distance grows and one falls.
 lower_put : (k n : ℕ) (role : ℕ → Role) (p : ℕ) (r : Role) → p < n → ((i : ℕ) → Far k role p i → (j : ℕ) × Far k (put role p r) p j × (j < i))
     → Lower k n role (put role p r)
 lower_put k n role p r l h = record {
@@ -128,7 +128,8 @@ steady_moved z P M role s w v x rest ok l e on =
           (2 * z.k + 2 - suc s, asking p (2 * z.k + 2 - suc s) (suc s) (put_same role p (Asking (suc s))) (omega arith), omega arith));
     }
 
--- In a buffer off its path a leader has no record: what holds of the buffer on each leader's path holds of all buffers.
+-- Each leader has records only in the buffers on its path. So what holds of the buffer on the path of each leader holds
+-- of all buffers.
 few_everywhere : (z : Sizes) (path : ℕ → ℕ → ℕ) (role : ℕ → Role) (net : Net) → Placed z.k path role net
     → ((p s : ℕ) → length (records_on path net.records p s) ≤ z.r) → Few z net
 few_everywhere z path role net placed on_path p s w = elim (cases_eq (path p (suc s)) w) [
@@ -290,7 +291,7 @@ unfolding push_all
 kept_records wire s [] net = refl
 kept_records wire s (y ∷ ys) net = kept_records wire s ys (put_replies net s (wire y.leader) (net.replies s (wire y.leader) ++ y ∷ []))
 
--- whether one of these replies goes to q
+-- Either one of these replies is led by q, or none is.
 led_by : (ys : List Reply) (q : ℕ) → ((y : Reply) × In y ys × (y.leader ≡ q)) ⊎ ((y : Reply) → In y ys → y.leader ≡ q → ⊥)
 led_by [] q = inr (λ y m e. m)
 led_by (x ∷ ys) q = elim (cases_eq x.leader q) [
@@ -563,7 +564,7 @@ steady_start z P mem core = record {
   refers = λ p e. absurd (true≢false (sym e));
 }
 
--- none of the first n is open
+-- If all of the first n are shut, none of them is open.
 pub all_shut_is : (n : ℕ) (open_now : ℕ → Bool) → all_shut n open_now ≡ true → (p : ℕ) → p < n → open_now p ≡ false
 unfolding all_shut
 all_shut_is zero open_now e p l = absurd (omega arith)
@@ -579,7 +580,7 @@ all_shut_is (suc n) open_now e p l = elim (cases_eq p n) [
     is_shut true f = absurd (true≢false (sym f))
     is_shut false f = refl
 
--- a poke of an idle machine
+-- A steady machine without an open reference is still steady after a poke.
 pub steady_poked : {Core Pokes Entry : Type 0} → (z : Sizes) (P : Program Core Pokes Entry) (M : Machine Core) (role : ℕ → Role) (q : Pokes)
     → Steady z P M role → ((p : ℕ) → p < wires z → M.is_open p ≡ false) → Steady z P (poked P M q).machine role
 steady_poked z P M role q ok shut =
@@ -650,7 +651,7 @@ goes_down z P M role s w (x ∷ rest) ok l e =
     go true rs net h = named rs net h
     go false rs net h = goes_stalled z P M role ok
 
--- each step keeps what holds, and each that brings a message on brings its carrier nearer
+-- Each step keeps a machine steady, and each that moves a message lowers a distance.
 pub goes_step : {Core Pokes Entry : Type 0} → (z : Sizes) (P : Program Core Pokes Entry) (M : Machine Core) (role : ℕ → Role) (st : Step Pokes)
     → Steady z P M role → GoesOn z P role (step z P M st)
 unfolding moved_up moved_down

@@ -15,7 +15,7 @@ use Rattle.network_theory.specs.messages.Moves.{moved_up, moved_down, injected, 
 use Rattle.network_theory.specs.messages.Moves.{port_taken}
 use Rattle.serialization.specs.Program.{Program, Kind, Rests, Alone, Refers}
 
--- There is a processor and a module for each wire.
+-- A machine has a processor and a module for each wire.
 pub record Machine (Core : Type 0) : Type 0 where
   pub net : Net
   -- the shared words, by their numbers
@@ -58,7 +58,7 @@ with_net M net = record { net = net; mem = M.mem; core = M.core; is_open = M.is_
 
 -- ---- a turn
 
--- the first reply on the wire of an open processor is taken
+-- an open processor takes the first reply on its wire, if there is one
 abbrev pub retire_from : {Core Pokes Entry : Type 0} → Program Core Pokes Entry → Machine Core → ℕ → List Reply →
     Result Core Pokes
 retire_from P M p [] = stalled M
@@ -98,7 +98,7 @@ advance P M p = record {
   outcome = Advanced p;
 }
 
--- a turn of a processor that is not open
+-- a turn of a processor without an open reference
 abbrev pub begin : {Core Pokes Entry : Type 0} → Program Core Pokes Entry → Machine Core → ℕ → Kind → Result Core Pokes
 begin P M p Rests = stalled M
 begin P M p Alone = advance P M p
@@ -120,7 +120,7 @@ went_down M (down.Stalled, net) = stalled M
 went_down M (down.Moved, net) = record { machine = with_net M net; outcome = Moved }
 went_down M (down.Answered to, net) = record { machine = with_net M net; outcome = Answered to }
 
--- the first request at a module is executed, where its reply slot is empty
+-- a module executes its first request, if its reply slot is empty
 abbrev pub serve_from : {Core Pokes : Type 0} → Sizes → Machine Core → ℕ → List Request → List Reply → Result Core Pokes
 serve_from z M m [] replies = stalled M
 serve_from z M m (x ∷ rest) (y ∷ ys) = stalled M
@@ -136,7 +136,7 @@ serve_from z M m (x ∷ rest) [] = record {
 
 -- ---- pokes
 
--- none of the first n processors has a reference open
+-- whether none of the first n processors has a reference open
 unfoldable pub all_shut : ℕ → (ℕ → Bool) → Bool
 all_shut zero is_open = true
 all_shut (suc n) is_open = not (is_open n) && all_shut n is_open
@@ -152,7 +152,7 @@ poked P M q = record {
   outcome = Poked q;
 }
 
--- ---- the step: a number that names no place stalls
+-- ---- the step: a step that names no place of the machine stalls
 
 abbrev pub step : {Core Pokes Entry : Type 0} → Sizes → Program Core Pokes Entry → Machine Core → Step Pokes →
     Result Core Pokes
@@ -172,6 +172,6 @@ unfoldable pub machine_after : {Core Pokes Entry : Type 0} → Sizes → Program
 machine_after z P [] M = M
 machine_after z P (st ∷ sts) M = machine_after z P sts (step z P M st).machine
 
--- no reference is open
+-- No reference is open.
 abbrev pub IsIdle : {Core : Type 0} → Sizes → Machine Core → Type 0
 IsIdle z M = (p : ℕ) → p < wires z → M.is_open p ≡ false

@@ -1,4 +1,4 @@
--- Serialization: the machine is the flat one that takes the serial order.
+-- Serialization: the machine is the flat machine that takes the serial order.
 use Rattle.std.specs.Prelude.{◌≡◌, ℕ, ◌+◌, ◌^◌, ◌<◌, ◌≤◌, Bool, true, false, ◌==◌, ◌||◌, List, [], ◌∷◌, ◌++◌, length}
 use Rattle.std.specs.Prelude.{Some, None, if◌then◌else◌}
 use Rattle.network_theory.specs.messages.Network.{Sizes}
@@ -9,7 +9,7 @@ use Rattle.serialization.specs.Order.{group_after, groups_after, Passed, FlatMac
 use Rattle.serialization.specs.Order.{serial_order}
 use Rattle.serialization.specs.Steadiness.{Steady}
 
--- Where a run may begin: an idle machine that can have come about, with good cores and words of 32 bits.
+-- Where a run may begin: at a steady and idle machine, with good cores and words of 32 bits.
 pub record Begins {Core Pokes Entry : Type 0} (z : Sizes) (P : Program Core Pokes Entry) (good : ℕ → Core →
     Type 0) (M : Machine Core) : Type 0 where
   pub role : ℕ → Role
@@ -18,8 +18,7 @@ pub record Begins {Core Pokes Entry : Type 0} (z : Sizes) (P : Program Core Poke
   pub good_cores : (p : ℕ) → good p (M.core p)
   pub words : (a : ℕ) → M.mem a < 2 ^ 32
 
--- The entry of p at this place of the order, and the word that it finds: the flat machine's, after the entries before
--- it.
+-- The entry of p at this place of the order finds this word: the one in the flat machine after the entries before it.
 pub record FindsAt {Core Pokes Entry : Type 0} (P : Program Core Pokes Entry) (first : FlatMachine Core)
     (order : List Entry) (core : ℕ → Core)
     (p place word : ℕ) : Type 0 where
@@ -29,10 +28,10 @@ pub record FindsAt {Core Pokes Entry : Type 0} (P : Program Core Pokes Entry) (f
   pub at_place : length before ≡ place
   pub found : word ≡ (flat_run P first before).mem (P.word_of p (core p))
 
--- At every moment, after whatever steps: the shared words are the flat machine's after the order so far. A processor
--- whose open reference is not served, or that has none open, stands as there. One that was served stands one reference
--- after: with the word that its entry of the order found it becomes what it is there, and that word is the value of
--- its reply.
+-- At every moment, after any steps, the shared words are the flat machine's after the order so far. A processor whose
+-- reference is not served, or that has none open, is as in the flat machine. A processor whose reference is served is
+-- one reference behind it: with the word that its entry of the order found, it becomes what it is there, and that word
+-- is the value of its reply.
 pub record AtTheMoment {Core Pokes Entry : Type 0} (z : Sizes) (P : Program Core Pokes Entry)
     (first : FlatMachine Core) (h : Passed Core Entry) : Type 0 where
   pub words : (a : ℕ) → h.machine.mem a ≡ (flat_run P first h.order).mem a
@@ -44,7 +43,7 @@ pub record AtTheMoment {Core Pokes Entry : Type 0} (z : Sizes) (P : Program Core
   pub retires : (p value : ℕ) → (step z P h.machine (Turn p)).outcome ≡ Retired p value
       → (place : ℕ) × (h.served p ≡ Some place) × FindsAt P first h.order h.machine.core p place value
 
--- So where no reference is open, the machine is the flat one.
+-- So if no reference is open, the machine is the flat machine.
 abbrev pub IsFlat : {Core : Type 0} → Machine Core → FlatMachine Core → Type 0
 IsFlat M F = ((a : ℕ) → M.mem a ≡ F.mem a) × ((p : ℕ) → M.core p ≡ F.core p)
 
@@ -54,7 +53,7 @@ unfoldable pub is_among : ℕ → List ℕ → Bool
 is_among p [] = false
 is_among p (j ∷ js) = (j == p) || is_among p js
 
--- whether this outcome serves p: 1 if it does
+-- 1 if this outcome serves p, and otherwise 0
 abbrev pub serves : {Pokes : Type 0} → (ℕ → List ℕ) → ℕ → Outcome Pokes → ℕ
 serves group p (Served leader) = if is_among p (group leader) then 1 else 0
 serves group p _ = 0
@@ -72,14 +71,13 @@ unfoldable pub HasNotRetired : {Pokes : Type 0} → ℕ → List (Outcome Pokes)
 HasNotRetired p [] = Unit {0}
 HasNotRetired p (o ∷ os) = (IsRetirement p o → ⊥) × HasNotRetired p os
 
--- From the issue of a reference on, as long as it has not retired, it is served at most once. Where it then retires,
--- it was served exactly once.
+-- From its issue until it retires, a reference is served at most once. If it then retires, it was served exactly once.
 pub record ServedOnce {Pokes : Type 0} (before between rest : List (Outcome Pokes)) (p : ℕ) : Type 0 where
   pub at_most : times_served (groups_after (λ q. []) (before ++ Issued p ∷ [])) p between ≤ 1
   pub exactly : (value : ℕ) (later : List (Outcome Pokes)) → rest ≡ Retired p value ∷ later
       → times_served (groups_after (λ q. []) (before ++ Issued p ∷ [])) p between ≡ 1
 
--- so each issue in the outcomes
+-- So it is for each issue among the outcomes.
 abbrev pub EachServedOnce : {Pokes : Type 0} → List (Outcome Pokes) → Type 0
 EachServedOnce {Pokes} all = (before between rest : List (Outcome Pokes)) (p : ℕ) →
     all ≡ before ++ (Issued p ∷ (between ++ rest)) → HasNotRetired p between
@@ -88,11 +86,11 @@ EachServedOnce {Pokes} all = (before between rest : List (Outcome Pokes)) (p : �
 -- ---- the theorem, for every program and all lists of steps
 
 module _ (Core Pokes Entry : Type 0) where
-  -- cores are tested by a function
+  -- A core is good if this function says so.
   abbrev pub Holds : (ℕ → Core → Bool) → ℕ → Core → Type 0
   Holds good p g = good p g ≡ true
 
-  -- what is said of every run of a program that keeps its cores good, from where a run may begin
+  -- This holds of every run of a program that keeps its cores good, from a machine at which a run may begin.
   abbrev pub OfEachRun : (Sizes → Program Core Pokes Entry → Machine Core → List (Step Pokes) → Type 0) → Type 0
   OfEachRun Says = (z : Sizes) (P : Program Core Pokes Entry) (good : ℕ → Core →
       Bool) (M : Machine Core) (steps : List (Step Pokes)) → Keeps P (Holds good)
@@ -106,7 +104,7 @@ module _ (Core Pokes Entry : Type 0) where
       OfEachRun (λ z P M steps. IsIdle z (ran z P M steps).machine →
       IsFlat (ran z P M steps).machine (flat_run P (flat_of M) (ran z P M steps).order))
 
-  -- the order is the serial order of the outcomes
+  -- The order is the serial order of the outcomes.
   abbrev pub OrderIsOfOutcomes : Type 0
   OrderIsOfOutcomes = (z : Sizes) (P : Program Core Pokes Entry) (M : Machine Core) (steps : List (Step Pokes))
       → (ran z P M steps).order ≡ serial_order P.entry (λ p. []) (outcomes z P steps M)

@@ -1,4 +1,4 @@
--- How a machine stands to the flat machine at any moment.
+-- How a machine is related to the flat machine at any moment.
 use Rattle.std.specs.Prelude.{◌≡◌, ℕ, ◌^◌, ◌<◌, true, false, List, Option, Some, None, ◌⊎◌}
 use Rattle.network_theory.specs.messages.Places.{put}
 use Rattle.network_theory.specs.messages.Network.{Sizes, wires}
@@ -8,12 +8,13 @@ use Rattle.serialization.specs.Program.{Program, Refers, own_of, path_of, word_o
 use Rattle.serialization.specs.Machine.{Machine, Outcome, Served, Retired, Result}
 use Rattle.serialization.specs.Order.{FlatMachine, group_after, segment, flat_run}
 
--- the core in the flat machine: a processor that was served stands one reference after
+-- the core in the flat machine: a processor whose reference is served is one reference ahead there
 abbrev pub shows : {Core Pokes Entry : Type 0} → Program Core Pokes Entry → ℕ → Option ℕ → Core → Core
 shows P p None g = g
 shows P p (Some v) g = P.retire p g v
 
--- what the processors are owed after a step: the served group what it finds in the flat machine, one after another
+-- what the processors are owed after a step: each processor of a served group what it finds in the flat machine, one
+-- after another
 abbrev pub owed_after : {Core Pokes Entry : Type 0} → Program Core Pokes Entry → (ℕ → Core) → (ℕ → List ℕ) →
     FlatMachine Core → (ℕ → Option ℕ) → Outcome Pokes
     → ℕ → Option ℕ
@@ -39,7 +40,7 @@ pub record Simulates {Core Pokes Entry : Type 0} (z : Sizes) (P : Program Core P
   pub words : (a : ℕ) → M.mem a < 2 ^ 32
   pub owed_words : (p v : ℕ) → owed p ≡ Some v → v < 2 ^ 32
 
--- what a step leaves stands to the flat machine after the step's segment of the order
+-- After a step, the machine simulates the flat machine after the step's segment of the order.
 abbrev pub Kept : {Core Pokes Entry : Type 0} → Sizes → Program Core Pokes Entry → (ℕ → Core → Type 0) → (ℕ → Core) →
     (ℕ → List ℕ) → (ℕ → Option ℕ)
     → FlatMachine Core → Result Core Pokes → Type 0

@@ -3,8 +3,8 @@
 ghost use Rattle.serialization.specs.Serialization.{IsSerializedAtEveryMoment, IsSerializedFromIdleToIdle};
 ghost use Rattle.serialization.specs.Serialization.{OrderIsOfOutcomes, ReferencesAreServedOnce};
 
-/// After whatever steps the machine is the flat one that takes the serial order, up to references that
-/// are served and have not retired; each reference is served once, between its issue and its retirement.
+/// After any steps the machine is the flat machine after the serial order, except for references that are served and
+/// have not retired. Each reference is served once, between its issue and its retirement.
 pub fn serialization<Core, Pokes, Entry>()
     ensures moments { IsSerializedAtEveryMoment Core Pokes Entry }
     ensures idle { IsSerializedFromIdleToIdle Core Pokes Entry }
