@@ -30,15 +30,15 @@ use Rattle.machine_theory.specs.Processors.{next, poked_processors, port_at, pro
 use Rattle.steps.specs.declared.step.Outcome.{Outcome}
 use Rattle.machine_theory.specs.Steps.{after, machine_of_parts, IsStepOf}
 
--- the core of processor p is away
+-- whether the core of processor p is away
 abbrev pub away_in : Machine ObservedCore → (p : ℕ) → Bool
 away_in M p = is_away (M.core p).state
 
--- The cores stand where they stood.
+-- Each core is away after as before.
 abbrev Stay : (old new : ℕ → ObservedCore) → Type 0
 Stay old new = (p : ℕ) → is_away (new p).state ≡ is_away (old p).state
 
--- so they do where one goes on that stays
+-- Each core is still away as before if one of them is replaced by one that is away if it was.
 put_stay : (core : ℕ → ObservedCore) (q : ℕ) (g : ObservedCore) → is_away g.state ≡ is_away (core q).state → Stay core (put core q g)
 put_stay core q g same p = at (cases_eq p q)
   where
@@ -100,7 +100,7 @@ module _ (c : Config) (code : List ℕ) (M : Machine ObservedCore) where
   poke_stays (poke.Local p address value) = put_stay M.core p _ refl
   poke_stays (poke.Shared address value) = λ p. refl
 
-  -- what is done at a place, or nothing where there is none
+  -- A result that keeps cores where they are does so, and so does a stall.
   either : (b : Bool) (r : Result ObservedCore) → StayBy r → StayBy (if b then r else stalled M)
   either true r stays = stays
   either false r stays = λ p. refl
@@ -116,7 +116,7 @@ module _ (c : Config) (code : List ℕ) (M : Machine ObservedCore) where
       either (nat_lt w (wires (sizes_of c))) (went_down M (moved_down (sizes_of c) M.net s w)) (down_stays (moved_down (sizes_of c) M.net s w))
   cores_stay (step.Poke q) = either (all_shut (2 ^ c.k) M.is_open && may_poke c M.core q) (poked (program c code) M q) (poke_stays q)
 
--- so it is with the ports that a step leaves
+-- After a step of the machine's parts, each port's core is away as before.
 pub ports_stay : (c : Config) (code : List ℕ) (net net' : Net) (ports ports' : List PortState) (modules modules' : List (List ℕ)) (s : Step) (o : Outcome) →
     IsStepOf c code net ports modules s o net' ports' modules' → (p : ℕ) → is_away (port_at ports' p).core.state ≡ is_away (port_at ports p).core.state
 unfolding machine_of_parts

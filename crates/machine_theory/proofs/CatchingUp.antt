@@ -1,4 +1,4 @@
--- Local turns of a processor that has no reference open, one after another.
+-- Local turns, one after another, of a processor without an open reference.
 use Rattle.std.proofs.Common.{◌≡◌, ℕ, ◌^◌, ◌<◌, Bool, true, false, List, [], ◌∷◌, map, length, nat_lt}
 use Rattle.std.proofs.Common.{refl, sym, ap, ap₂, ◌∙◌, subst, lt-ltb, append_assoc, append-nil}
 use Rattle.std.specs.Prelude.{if◌then◌else◌}
@@ -22,7 +22,7 @@ use Rattle.machine_theory.proofs.Putting.{last_counts, stays_put}
 module _ (c : Config) (code : List ℕ) (p : ℕ) where
   -- ---- one turn
 
-  -- a turn of a processor that is there and has no reference open
+  -- A turn of a processor without an open reference begins as its kind says.
   begun : (M : theory.Machine ObservedCore) → p < 2 ^ c.k → M.is_open p ≡ false →
       taken c code M (step.Turn p) ≡ begin (program c code) M p (kind_of (is_running (M.core p).state.status) (next c code p (M.core p).state))
   begun M there shut =
@@ -63,8 +63,8 @@ module _ (c : Config) (code : List ℕ) (p : ℕ) where
   gone_nowhere : (g : ObservedCore) → gone_on g [] g.state ≡ g
   gone_nowhere g = ap (λ es. record { state = g.state; events = es }) (append-nil g.events)
 
-  -- If p is not open and its next instructions are local, as many turns of p retire these, and leave p's core
-  -- where these leave it.
+  -- If p has no reference open and its next instructions are local, as many turns of p retire them, and leave the core
+  -- that they leave.
   pub catch_up : (M : theory.Machine ObservedCore) (taken : List retirement.Retired) (last : Processor) → p < 2 ^ c.k → M.is_open p ≡ false →
       TakesLocal (setting_of c p) code (M.core p).state taken last →
       (answers_of c code M (turns_of p (length taken)) ≡ outcomes_of taken)

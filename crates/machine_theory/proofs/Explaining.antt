@@ -28,7 +28,7 @@ module _ (c : Config) (code : List ℕ) where
   bytes_of : (F : FlatState) → IsSoundFlat c code F → AreBelow 256 code
   bytes_of F sound = subst (AreBelow 256) sound.size.code_is sound.ranges.code
 
-  -- each processor of a sound flat machine is good
+  -- Each processor of a sound flat machine is good.
   good_flat : (F : FlatState) → IsSoundFlat c code F → (p : ℕ) → IsGood p ((read_flat F (λ p. [])).core p)
   good_flat F sound p = at (cases_lt p (length F.processors))
     where
@@ -104,7 +104,7 @@ module _ (c : Config) (code : List ℕ) where
     once : (steps : List Step) → EachServedOnce (outcomes (sizes_of c) (program c code) steps M)
     once steps = served_once (sizes_of c) (program c code) IsGood (keeps c code o.few (bytes_of F o.sound)) M (begins M F o) steps
 
--- a new machine, beside the flat machine that it is
+-- A run may begin from the machine of a sound flat machine.
 opens_on : (c : Config) (code : List ℕ) (F : FlatState) → c.k ≤ 6 → IsSoundFlat c code F →
     Opens c code (new_machine (read_flat F (λ p. [])).mem (read_flat F (λ p. [])).core) F
 opens_on c code F few sound = record {

@@ -1,4 +1,4 @@
--- The flat machine of lists takes the entries that the theory's does.
+-- The flat machine on lists does what the theory's flat machine does.
 use Rattle.std.proofs.Common.{◌≡◌, ℕ, ◌^◌, ◌<◌, Bool, true, false, List, [], ◌∷◌, ◌++◌, length, length-set, Option, Some, None, refl, sym, ap, ap₂, ◌∙◌, subst}
 use Rattle.std.specs.Prelude.{slice_get, slice_index, if◌then◌else◌}
 use Rattle.machine_ports.specs.flat_machine.declared.config.Config.{Config}
@@ -31,7 +31,7 @@ use Rattle.machine_theory.proofs.FlatPokes.{lawful_same, lawful_writes, size_wri
 use Rattle.machine_theory.proofs.Reading.{read_found, read_none, read_set, observed_set}
 use Rattle.machine_theory.specs.Flatness.{read_flat, with_events, IsLawful, AreLawful}
 
--- What a reference's function does to a word is what the turn makes of it, and the word is there.
+-- If a turn is a reference, its function does to a word what the turn does, and the word is there.
 pub record MeansChange (c : Config) (code : List ℕ) (j : ℕ) (p : Processor) : Type 0 where
   -- the word that the turn reaches is a shared word, and the function does to each word what the turn does
   pub change : (word : ℕ) (change : ℕ → ℕ) (after : ℕ → Processor × retirement.Retired) → next c code j p ≡ Reaches word change after →
@@ -158,7 +158,7 @@ module _ (c : Config) (code : List ℕ) where
     with_events_append shown [] ys = refl
     with_events_append shown ((p, x) ∷ xs) ys = with_events_append (put shown p (shown p ++ x ∷ [])) xs ys
 
-    -- the theory's run is the flat machine's
+    -- The theory's run of lawful entries is the flat machine's.
     pub run_agrees : (es : List Entry) (F : FlatState) (shown : ℕ → List Event) → AreLawful c es → IsSoundFlat c code F →
         theory.flat_run (program c code) (read_flat F shown) es ≡ read_flat (flat_run F es) (with_events shown (flat_events F es))
     unfolding theory.flat_run

@@ -1,4 +1,4 @@
--- What a lawful poke writes is what it writes of the flat machine.
+-- A lawful poke writes the same on the machine and on the flat machine.
 use Rattle.std.proofs.Common.{◌≡◌, ℕ, ◌+◌, ◌-◌, ◌*◌, ◌/◌, ◌%◌, ◌^◌, ◌<◌, ◌≤◌, true, List, length, length-set, Option, Some, None, sym, ap, ◌∙◌, subst, arith}
 use Rattle.std.specs.Prelude.{slice_get, slice_index, slice_index_or, ◌&&◌, nat_lt, nat_le}
 use Rattle.std.proofs.lemmas.Bool.{ltb-true, leb-true, and_parts}
@@ -21,18 +21,18 @@ use Rattle.machine_theory.proofs.Reading.{read_set, found_within, observed_chang
 abbrev pub cores_of : FlatState → (shown : ℕ → List Event) → ℕ → ObservedCore
 cores_of F shown = λ p. record { state = slice_index_or F.processors p no_processor; events = shown p }
 
--- its words and its processors
+-- the words and the processors of a flat machine
 abbrev pub parts_of : FlatState → (shown : ℕ → List Event) → (ℕ → ℕ) × (ℕ → ObservedCore)
 parts_of F shown = (slice_index F.shared, cores_of F shown)
 
--- what may be poked is lawful
+-- A poke that may be done is lawful.
 pub may_is_lawful : (c : Config) (core : ℕ → ObservedCore) (q : Poke) → may_poke c core q ≡ true → is_lawful_poke c q ≡ true
 may_is_lawful c core q h = (and_parts (are_home (2 ^ c.k) (λ p. (core p).state)) (is_lawful_poke c q) h).1
 
 module _ (c : Config) (code : List ℕ) where
   -- ---- what is written
 
-  -- a change of one processor
+  -- A change of one processor on the machine is the same change on the flat machine.
   processor_changed : (F : FlatState) (shown : ℕ → List Event) (j : ℕ) (change : Processor → Processor) → j < length F.processors →
       (slice_index F.shared, put {X = ObservedCore} (cores_of F shown) j (changed change (cores_of F shown j)))
       ≡ parts_of (with_processor F j change (slice_get F.processors j)) shown
@@ -50,7 +50,7 @@ module _ (c : Config) (code : List ℕ) where
   lawful_same F (poke.Shared address value) size h =
       ap (λ n. in_shared n address) size.shared ∙ (and_parts (nat_lt value 256) (in_shared c.shared_words address) h).1
 
-  -- a lawful poke writes words and bytes
+  -- A lawful poke writes a word or a byte in range.
   pub lawful_writes : (q : Poke) → is_lawful_poke c q ≡ true → WritesWords (entry.Poke q)
   lawful_writes (poke.Register j register value) h =
       ltb-true value (2 ^ 32) (and_parts (nat_lt value (2 ^ 32)) (nat_lt j (2 ^ c.k) && is_lawful_register register value) h).0

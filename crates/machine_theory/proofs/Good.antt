@@ -1,4 +1,4 @@
--- Processors keep their words, so their references go by functions in range.
+-- Processors keep their words in range, so the functions of their references are in range.
 use Rattle.std.proofs.Common.{◌≡◌, ℕ, ◌-◌, ◌/◌, ◌%◌, ◌^◌, ◌<◌, ◌≤◌, Bool, true, false, eqb, List, ◌⊎◌, inl, inr, refl, sym, ap, ◌∙◌, subst, arith}
 use Rattle.std.specs.Prelude.{◌&&◌, nat_lt, slice_set, if◌then◌else◌}
 use Rattle.std.proofs.Math.Nat.{pow-le-pow_right}
@@ -40,7 +40,7 @@ module _ (c : Config) (code : List ℕ) (few : c.k ≤ 6) (bytes : AreBelow 256 
   turn_leaves : (p : ℕ) (g : ObservedCore) → IsGood p g → is_running g.state.status ≡ true → LeavesWords (next c code p g.state)
   turn_leaves p g h runs = let small = number_small p g h runs in turn_words (setting_of c p) code g.state (omega arith) count_small bytes h.0
 
-  -- If a processor has words, its reference's function does to a word what its turn does.
+  -- If a processor's words are in range, its reference's function does to a word what its turn does.
   pub means_change : (p : ℕ) (state : Processor) → HasWords state → MeansChange c code p state
   means_change p state h = record { change = λ word change after e. let m = reference_means (setting_of c p) code state word change after h e in (m.2, m.1) }
 

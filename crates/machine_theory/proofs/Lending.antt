@@ -29,7 +29,7 @@ module _ (c : Config) (code : List ℕ) (p : ℕ) where
 
   -- ---- one step
 
-  -- what is said of other processors depends on their turns alone
+  -- The answer of an outcome that tells nothing of p does not depend on p's turn.
   fact_so : (f g : ℕ → Turn) → ((q : ℕ) → q ≢ p → f q ≡ g q) → (o : theory.Outcome) → TellsNotOf p o → answer_of f o ≡ answer_of g o
   fact_so f g same (Issued q) apart = refl
   fact_so f g same (Advanced q) apart = ap (λ t. answer_of (λ j. t) (Advanced q)) (same q apart)
@@ -41,7 +41,7 @@ module _ (c : Config) (code : List ℕ) (p : ℕ) where
   fact_so f g same (Poked poke) apart = refl
   fact_so f g same Stalled apart = refl
 
-  -- A step of others answers and leaves the same whatever core p has, and leaves that core.
+  -- A step of others has the same outcome and leaves the same with any core of p, and leaves that core.
   pub step_not_noticed : (M : theory.Machine ObservedCore) (core : ObservedCore) (s : Step) → IsOfOthers p s →
       (outcome_of c code (with_core M p core) s ≡ outcome_of c code M s) × (after c code (with_core M p core) s ≡ with_core (after c code M s) p core)
   unfolding outcome_of after
@@ -63,7 +63,7 @@ module _ (c : Config) (code : List ℕ) (p : ℕ) where
   unfolding after theory.machine_after
   step_first M s ss = refl
 
-  -- Steps of others answer and leave the same whatever core p has, and leave that core.
+  -- Steps of others have the same outcomes and leave the same with any core of p, and leave that core.
   pub run_not_noticed : (M : theory.Machine ObservedCore) (core : ObservedCore) (ss : List Step) → AreOfOthers p ss →
       (answers_of c code (with_core M p core) ss ≡ answers_of c code M ss)
       × (after_all c code (with_core M p core) ss ≡ with_core (after_all c code M ss) p core)
@@ -77,7 +77,7 @@ module _ (c : Config) (code : List ℕ) (p : ℕ) where
             ∙ ap (λ m. with_core m p core) (sym (step_first M s ss)),
       )
 
-  -- Steps of others leave p's core as it is, and p open or not as it was.
+  -- Steps of others leave p's core as it is, and p open if and only if it was.
   pub kept : (M : theory.Machine ObservedCore) (ss : List Step) → AreOfOthers p ss →
       ((after_all c code M ss).core p ≡ M.core p) × ((after_all c code M ss).is_open p ≡ M.is_open p)
   unfolding theory.machine_after after
@@ -100,8 +100,8 @@ module _ (c : Config) (code : List ℕ) (p : ℕ) where
 
   -- ---- a loan
 
-  -- If p is not open and its next instructions are local, they may be taken while others step: put back, the core
-  -- is where those steps and then p's turns leave it, and both answer the same.
+  -- If p has no reference open and its next instructions are local, they may be taken while others take steps: with the
+  -- core put back, the machine is the one after those steps and then p's turns, and the outcomes are the same.
   pub loans : (M : theory.Machine ObservedCore) (ss : List Step) (taken : List retirement.Retired) (last : Processor) → p < 2 ^ c.k → M.is_open p ≡ false →
       AreOfOthers p ss → TakesLocal (setting_of c p) code (M.core p).state taken last →
       (after_all c code M (ss ++ turns_of p (length taken)) ≡ with_core (after_all c code (without M p) ss) p (gone_on (M.core p) taken last))
@@ -120,7 +120,7 @@ module _ (c : Config) (code : List ℕ) (p : ℕ) where
         both.1 ∙ ap₂ (λ os more. os ++ more) (sym lent.0) caught.0,
       )
 
--- cores of several processors
+-- Steps of others have the same outcomes and leave the same with any cores of several processors.
 pub several_not_noticed : (c : Config) (code : List ℕ) (M : theory.Machine ObservedCore) (cores : List (ℕ × ObservedCore)) (ss : List Step) →
     AreOfAllOthers cores ss →
     (answers_of c code (with_cores M cores) ss ≡ answers_of c code M ss)

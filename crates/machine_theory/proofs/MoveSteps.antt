@@ -29,7 +29,8 @@ use Rattle.machine_theory.proofs.TurnSteps.{stalls, step_of}
 
 -- ---- a move that stalls changes nothing
 
--- of two results the second changes nothing; nor does the first, where it stalls
+-- A move that is made only if b holds, and stalls otherwise, changes nothing if it stalls, given that the move itself
+-- does so.
 either_stays : {Kind : Type 0} (b : Bool) (x : Kind × Net) (stall : Kind) (net : Net) → (x.0 ≡ stall → x.1 ≡ net) →
     (if b then x else (stall, net)).0 ≡ stall → (if b then x else (stall, net)).1 ≡ net
 either_stays true x stall net first e = first e
@@ -81,7 +82,7 @@ module _ (c : Config) (code : List ℕ) (net : Net) (ports : List PortState) (mo
   abbrev M : (ℕ → List Event) → Machine ObservedCore
   M shown = machine_of_parts c net ports modules shown
 
-  -- a move answers the kind r of what it did, and leaves n
+  -- A step that makes a move has the outcome of the move, and leaves the network that the move leaves.
   module _ {Kind : Type 0} (st : Step) (w : ℕ) (went : Machine ObservedCore → Kind × Net → Result ObservedCore) (moved : Kind × Net)
       (takes : (shown : ℕ → List Event) → taken c code (M shown) st ≡ (if nat_lt w (2 ^ c.k) then went (M shown) moved else stalled (M shown))) where
     goes : (r : Kind) (n : Net) (o : Outcome) → w < 2 ^ c.k → r ≡ moved.0 → n ≡ moved.1 →
@@ -117,7 +118,7 @@ module _ (c : Config) (code : List ℕ) (net : Net) (ports : List PortState) (mo
     unfolding machine_of_parts
     takes_up shown = refl
 
-    -- On a wire of the network, a step up answers and leaves what the move up does.
+    -- On a wire of the network, a step up does what the move up does.
     pub goes_up : (r : UpMove) (net' : Net) → w < 2 ^ c.k → r ≡ up_move.0 → net' ≡ up_move.1 →
         IsStepOf c code net ports modules (step.Up s w) (outcome_of_up r) net' ports modules
     unfolding machine_of_parts
@@ -146,7 +147,7 @@ module _ (c : Config) (code : List ℕ) (net : Net) (ports : List PortState) (mo
     unfolding machine_of_parts
     takes_down shown = refl
 
-    -- On a wire of the network, a step down answers and leaves what the move down does.
+    -- On a wire of the network, a step down does what the move down does.
     pub goes_down : (r : DownMove) (net' : Net) → w < 2 ^ c.k → r ≡ down_move.0 → net' ≡ down_move.1 →
         IsStepOf c code net ports modules (step.Down s w) (outcome_of_down r) net' ports modules
     unfolding machine_of_parts

@@ -1,4 +1,4 @@
--- A step that is neither a turn of a processor nor a write from outside does the same whatever core of it stands there.
+-- A step of others than p does the same with any core of p.
 use Rattle.std.proofs.Common.{◌≡◌, ◌≢◌, ℕ, Bool, true, false, List, [], ◌∷◌, nat_lt, refl, sym, ap, ◌∙◌}
 use Rattle.std.specs.Prelude.{if◌then◌else◌}
 use Rattle.serialization.specs.messages.declared.message.Request.{Request}
@@ -18,7 +18,7 @@ use Rattle.serialization.proofs.Lemmas.messages.{put_other, put_same}
 use Rattle.machine_theory.specs.Loans.{with_core}
 use Rattle.machine_theory.proofs.Putting.{put_swap, stays_put}
 
--- in the words of the theory, for any kind of processor
+-- The step is neither a turn of processor p nor a poke, in the theory's terms.
 abbrev pub IsAnothers : {Pokes : Type 0} → (p : ℕ) → Step Pokes → Type 0
 IsAnothers p (Turn q) = q ≢ p
 IsAnothers p (Up s w) = Unit {0}
@@ -27,7 +27,7 @@ IsAnothers p (Down s w) = Unit {0}
 IsAnothers p (Poke poke) = ⊥
 
 module _ {Core Pokes Entry : Type 0} (z : Sizes) (P : Program Core Pokes Entry) (M : Machine Core) (p : ℕ) (core : Core) where
-  -- the same result, with the other core
+  -- the same result, with the other core in p's place
   abbrev with_core_too : Result Core Pokes → Result Core Pokes
   with_core_too r = record { machine = with_core r.machine p core; outcome = r.outcome }
 
@@ -105,9 +105,9 @@ module _ {Core Pokes Entry : Type 0} (z : Sizes) (P : Program Core Pokes Entry) 
       by false = refl
   not_noticed (Poke poke) other = absurd other
 
--- ---- of whom it says
+-- ---- what outcomes tell
 
--- the outcome says of no turn of the processor that its core has to say more of
+-- The outcome is neither that p has advanced nor that its reference has retired.
 abbrev pub TellsNotOf : {Pokes : Type 0} → (p : ℕ) → Outcome Pokes → Type 0
 TellsNotOf p (Issued q) = Unit {0}
 TellsNotOf p (Advanced q) = q ≢ p
@@ -153,7 +153,7 @@ module _ {Core Pokes Entry : Type 0} (z : Sizes) (P : Program Core Pokes Entry) 
   serve_not m (x ∷ rest) (y ∷ ys) = tt
   serve_not m (x ∷ rest) [] = tt
 
-  -- A step of others answers neither that p has advanced nor that a reference of p has retired.
+  -- A step of others tells neither that p has advanced nor that a reference of p has retired.
   pub tells_not : (s : Step Pokes) → IsAnothers p s → TellsNotOf p (step z P M s).outcome
   tells_not (Turn q) apart = turn_not q apart (nat_lt q (wires z))
   tells_not (Up s w) other = by (nat_lt w (wires z))
@@ -173,7 +173,7 @@ module _ {Core Pokes Entry : Type 0} (z : Sizes) (P : Program Core Pokes Entry) 
       by false = tt
   tells_not (Poke poke) other = absurd other
 
--- ---- whether the processor is open
+-- ---- whether p is open
 
 module _ {Core Pokes Entry : Type 0} (z : Sizes) (P : Program Core Pokes Entry) (M : Machine Core) (p : ℕ) where
   module _ (q : ℕ) (apart : q ≢ p) where
@@ -213,7 +213,7 @@ module _ {Core Pokes Entry : Type 0} (z : Sizes) (P : Program Core Pokes Entry) 
   serve_open m (x ∷ rest) (y ∷ ys) = refl
   serve_open m (x ∷ rest) [] = refl
 
-  -- A step of others leaves p open or not as it was.
+  -- A step of others leaves p open if and only if it was.
   pub open_kept : (s : Step Pokes) → IsAnothers p s → (step z P M s).machine.is_open p ≡ M.is_open p
   open_kept (Turn q) apart = turn_open q apart (nat_lt q (wires z))
   open_kept (Up s w) other = by (nat_lt w (wires z))
@@ -233,7 +233,7 @@ module _ {Core Pokes Entry : Type 0} (z : Sizes) (P : Program Core Pokes Entry) 
       by false = refl
   open_kept (Poke poke) other = absurd other
 
-  -- and its core is left alone
+  -- A step of others leaves p's core alone.
   pub core_kept : (s : Step Pokes) → IsAnothers p s → (step z P M s).machine.core p ≡ M.core p
   core_kept s other =
       ap (λ (m : Machine Core). (step z P m s).machine.core p) (sym (stays_put M p))

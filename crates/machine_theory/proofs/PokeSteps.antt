@@ -58,7 +58,7 @@ module _ (c : Config) (code : List ℕ) (net : Net) (ports : List PortState) (mo
   abbrev M : (ℕ → List Event) → Machine ObservedCore
   M shown = machine_of_parts c net ports modules shown
 
-  -- no core is away
+  -- whether no core is away
   abbrev all_home : Bool
   all_home = are_home (2 ^ c.k) (λ p. (port_at ports p).core.state)
 
@@ -104,7 +104,7 @@ module _ (c : Config) (code : List ℕ) (net : Net) (ports : List PortState) (mo
     pub unlawful : (q : Poke) → is_lawful_poke c q ≡ false → IsStepOf c code net ports modules (step.Poke q) Stalled net ports modules
     unlawful q e = poke_refused q (may q false e)
 
-    -- a port changes
+    -- A lawful poke that changes one processor alone is done, and changes that processor's port.
     port_poked : (q : Poke) (p : ℕ) (change : Processor → Processor) → p < length ports → is_lawful_poke c q ≡ true →
         poked_words q (word_at c.k modules) ≡ word_at c.k modules →
         ((core : ℕ → ObservedCore) → poked_processors q core ≡ put core p (changed change (core p))) →

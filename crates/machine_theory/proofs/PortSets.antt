@@ -1,4 +1,4 @@
--- Ports, read as functions of processors' numbers, after one of them has changed.
+-- Ports as functions of processors' numbers, after one of them changes.
 use Rattle.std.proofs.Common.{◌≡◌, ℕ, ◌<◌, Bool, List, length, get_or-set_same, get_or-set_other, ◌⊎◌, inl, inr, sym, ap, ap₂, ◌∙◌}
 use Rattle.std.specs.Prelude.{slice_set}
 use Rattle.std.proofs.lemmas.Bool.{cases_eq}
@@ -9,7 +9,7 @@ use Rattle.serialization.specs.messages.Places.{put}
 use Rattle.serialization.proofs.Lemmas.messages.{put_other, put_same}
 use Rattle.machine_theory.specs.Processors.{ObservedCore, port_at, observed_at, open_at, no_port}
 
--- what is written where it stood already
+-- A function is as before if its own value is put at a place.
 pub put_self : {X : Type 0} (f : ℕ → X) (p : ℕ) → put f p (f p) ≡ f
 put_self {X} f p = fun_ext (λ q. at q (cases_eq q p))
   where
@@ -24,7 +24,7 @@ module _ (ports : List PortState) (p : ℕ) (x : PortState) (within : p < length
   there : (q : ℕ) → (q ≡ p → ⊥) → port_at (slice_set ports p x) q ≡ port_at ports q
   there q n = get_or-set_other ports p q x no_port n
 
-  -- the processor with more events
+  -- If a port is replaced and its processor's events too, that processor is the new one with the new events.
   pub core_set : (shown : ℕ → List Event) (events : List Event) →
       observed_at (slice_set ports p x) (put shown p events)
       ≡ put {X = ObservedCore} (observed_at ports shown) p (record { state = x.core.state; events = events })
@@ -44,7 +44,7 @@ module _ (ports : List PortState) (p : ℕ) (x : PortState) (within : p < length
           ap₂ (λ (s : PortState) es. record { state = s.core.state; events = es }) (there q n) (put_other shown p events q n)
           ∙ sym (put_other f p (record { state = x.core.state; events = events }) q n)
 
-  -- the processor with the events that it had
+  -- If a port is replaced, its processor is the new one with the events that it had.
   pub core_changed : (shown : ℕ → List Event) →
       observed_at (slice_set ports p x) shown
       ≡ put {X = ObservedCore} (observed_at ports shown) p (record { state = x.core.state; events = shown p })
@@ -52,7 +52,7 @@ module _ (ports : List PortState) (p : ℕ) (x : PortState) (within : p < length
       ap (observed_at (slice_set ports p x)) (sym (put_self shown p))
       ∙ core_set shown (shown p)
 
-  -- the processor as it was
+  -- If a port is replaced by one with the same processor, the processors are as before.
   pub core_kept : (shown : ℕ → List Event) → x.core.state ≡ (port_at ports p).core.state →
       observed_at (slice_set ports p x) shown
       ≡ (observed_at ports shown)

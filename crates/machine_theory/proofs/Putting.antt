@@ -1,4 +1,4 @@
--- Cores that are put in their places: of two the last counts, and what is true of the messages stays true.
+-- Cores put in places: the last one counts, and the machine stays steady.
 use Rattle.std.proofs.Common.{◌≡◌, ◌≢◌, ℕ, ◌%◌, false, length, ◌⊎◌, inl, inr, sym, ap, ◌∙◌, subst, suc, arith}
 use Rattle.std.proofs.lemmas.Bool.{cases_eq, true≢false}
 use mathlib.Core.Path.{fun_ext}
@@ -16,7 +16,7 @@ use Rattle.machine_theory.specs.Cores.{with_core}
 use Rattle.machine_theory.proofs.PortSets.{put_self}
 
 module _ {X : Type 0} where
-  -- what is equal at the place and elsewhere is equal
+  -- Two functions are equal if they are equal at one place and at all others.
   by_place : (f g : ℕ → X) (p : ℕ) → f p ≡ g p → ((q : ℕ) → q ≢ p → f q ≡ g q) → f ≡ g
   by_place f g p here others = fun_ext (λ q. at q (cases_eq q p))
     where
@@ -30,7 +30,7 @@ module _ {X : Type 0} where
       (put_same (put f p x) p y ∙ sym (put_same f p y))
       (λ q n. put_other (put f p x) p y q n ∙ put_other f p x q n ∙ sym (put_other f p y q n))
 
-  -- puts in two places, in either order
+  -- Values put in two different places may be put in either order.
   pub put_swap : (f : ℕ → X) (p q : ℕ) (x y : X) → q ≢ p → put (put f p x) q y ≡ put (put f q y) p x
   put_swap f p q x y apart = by_place (put (put f p x) q y) (put (put f q y) p x) q
       (put_same (put f p x) q y ∙ sym (put_other (put f q y) p x q apart ∙ put_same f q y))
@@ -50,7 +50,7 @@ module _ {Core : Type 0} where
   stays_put M p = ap (λ f. record { net = M.net; mem = M.mem; core = f; is_open = M.is_open }) (put_self M.core p)
 
 module _ {Core Pokes Entry : Type 0} where
-  -- no message stands for a processor that has no reference open
+  -- A steady machine is still steady with another core of a processor without an open reference.
   pub steady_with : (z : Sizes) (P : Program Core Pokes Entry) (M : Machine Core) (role : ℕ → Role) (p : ℕ) (core : Core) → Steady z P M role →
       M.is_open p ≡ false → Steady z P (with_core M p core) role
   steady_with z P M role p core ok shut =

@@ -1,4 +1,4 @@
--- Lists, read as functions of places.
+-- Lists as functions of places.
 use Rattle.std.proofs.Common.{◌≡◌, ℕ, zero, suc, ◌<◌, List, [], ◌∷◌, length, get_or-set_same, get_or-set_other}
 use Rattle.std.proofs.Common.{Some, None, ◌⊎◌, inl, inr, refl, sym, ap, ap₂, ◌∙◌, arith}
 use Rattle.std.specs.Prelude.{slice_get, slice_set, slice_index_or}
@@ -10,7 +10,7 @@ use Rattle.serialization.specs.messages.Places.{put}
 use Rattle.serialization.proofs.Lemmas.messages.{put_other, put_same}
 use Rattle.machine_theory.specs.Processors.{ObservedCore, no_processor}
 
--- a list with a place written, read as a function
+-- A list with an element replaced is the function of the old list with that value put there.
 pub read_set : {X : Type 0} (xs : List X) (p : ℕ) (x d : X) → p < length xs →
     (λ q. slice_index_or (slice_set xs p x) q d) ≡ put (λ q. slice_index_or xs q d) p x
 read_set {X} xs p x d within = fun_ext (λ q. at q (cases_eq q p))
@@ -20,7 +20,7 @@ read_set {X} xs p x d within = fun_ext (λ q. at q (cases_eq q p))
         ∙ ap (put (λ j. slice_index_or xs j d) p x) (sym e)
     at q (inr n) = get_or-set_other xs p q x d n ∙ sym (put_other (λ j. slice_index_or xs j d) p x q n)
 
--- what is found at a place is read there, and what isn't is not
+-- An element found at a place is read there, and the place is in the list.
 pub read_found : {X : Type 0} (xs : List X) (p : ℕ) (x d : X) → slice_get xs p ≡ Some x → (slice_index_or xs p d ≡ x) × (p < length xs)
 read_found [] p x d e = absurd (cc)
 read_found (y ∷ ys) zero x d e = ((let same : y ≡ x = cc in same), omega arith)
@@ -38,7 +38,7 @@ found_within [] p d within = absurd (omega arith)
 found_within (y ∷ ys) zero d within = refl
 found_within (y ∷ ys) (suc p) d within = found_within ys p d (omega arith)
 
--- the processors with their events, one of which is another now
+-- A list of processors with one of them and its events replaced is the old function with that core put there.
 pub observed_set : (ps : List Processor) (p : ℕ) (x : Processor) (shown : ℕ → List Event) (events : List Event) → p < length ps →
     (λ q. record { state = slice_index_or (slice_set ps p x) q no_processor; events = put shown p events q })
     ≡ put {X = ObservedCore} (λ q. record { state = slice_index_or ps q no_processor; events = shown q }) p (record { state = x; events = events })
@@ -57,7 +57,7 @@ observed_set ps p x shown events within = fun_ext (λ q. at q (cases_eq q p))
         ap₂ (λ s es. record { state = s; events = es }) (get_or-set_other ps p q x no_processor n) (put_other shown p events q n)
         ∙ sym (put_other f p (record { state = x; events = events }) q n)
 
--- the same, where it has shown no more
+-- The same, if the events stay.
 pub observed_changed : (ps : List Processor) (p : ℕ) (x : Processor) (shown : ℕ → List Event) → p < length ps →
     (λ q. record { state = slice_index_or (slice_set ps p x) q no_processor; events = shown q })
     ≡ put {X = ObservedCore} (λ q. record { state = slice_index_or ps q no_processor; events = shown q }) p (record { state = x; events = shown p })

@@ -25,12 +25,12 @@ use Rattle.machine_theory.specs.Processors.{ObservedCore, sizes_of, word_at, obs
 use Rattle.machine_theory.specs.Steps.{taken, machine_of_parts, IsStepOf}
 use Rattle.machine_theory.proofs.TurnSteps.{stalls, step_of}
 
--- on a word, the value is the function's
+-- On a word, `applied` is `apply`.
 pub applied_word : (phi : Phi) (x : ℕ) → x < 2 ^ 32 → applied phi x ≡ apply phi x
 unfolding applied
 applied_word phi x small = ap (apply phi) (mod-eq_of_lt small)
 
--- a module with a word written, among all
+-- If a module's word is replaced, that word of the interleaved memory is replaced.
 pub words_set : (k : ℕ) (modules : List (List ℕ)) (number word v : ℕ) → word % 2 ^ k ≡ number → number < length modules →
     word / 2 ^ k < length (slice_index_or modules number []) →
     word_at k (slice_set modules number (slice_set (slice_index_or modules number []) (word / 2 ^ k) v)) ≡ put (word_at k modules) word v
@@ -71,7 +71,7 @@ module _ (c : Config) (code : List ℕ) (net : Net) (ports : List PortState) (mo
   abbrev M : (ℕ → List Event) → Machine ObservedCore
   M shown = machine_of_parts c net ports modules shown
 
-  -- where nothing is served, nothing changes
+  -- A serve step stalls if there is no such module.
   pub no_module : (m : ℕ) → 2 ^ c.k ≤ m → IsStepOf c code net ports modules (step.Serve m) Stalled net ports modules
   unfolding machine_of_parts
   no_module m past = stalls c code net ports modules (step.Serve m) (λ shown.
@@ -100,7 +100,7 @@ module _ (c : Config) (code : List ℕ) (net : Net) (ports : List PortState) (mo
       by (x ∷ xs) [] some shown = absurd (some refl)
       by (x ∷ xs) (y ∷ ys) some shown = refl
 
-  -- a module executes a request
+  -- A serve step executes the first request at its module, if there is no reply.
   pub serves : (m : ℕ) (x : Request) (rest : List Request) (memory' : List ℕ) (net' : Net) → m < 2 ^ c.k → net.requests c.k m ≡ x ∷ rest →
       net.replies c.k m ≡ [] →
       x.word % 2 ^ c.k ≡ m → m < length modules → x.word / 2 ^ c.k < length (slice_index_or modules m []) → ((i : ℕ) → word_at c.k modules i < 2 ^ 32) →

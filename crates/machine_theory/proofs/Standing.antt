@@ -1,4 +1,4 @@
--- What a steady machine has where: that its handlers find things as they need them, and that it stays steady.
+-- What a steady machine has at its places, and that a step keeps it steady.
 use Rattle.std.proofs.Common.{◌≡◌, ℕ, ◌%◌, ◌^◌, ◌<◌, Bool, true, false, List, [], ◌∷◌, ◌⊎◌, inl, inr, refl, sym, ap, ◌∙◌, subst}
 use Rattle.std.proofs.lemmas.Nat.{mod_below, pow_pos}
 use Rattle.machine_ports.specs.flat_machine.declared.config.Config.{Config}
@@ -28,14 +28,14 @@ module _ (c : Config) (code : List ℕ) (net : Net) (ports : List PortState) (mo
   abbrev SteadyAs : (ℕ → List Event) → (ℕ → Role) → Type 0
   SteadyAs shown role = Steady (sizes_of c) (program c code) (machine_of_parts c net ports modules shown) role
 
-  -- events that were shown make no difference
+  -- A steady machine is steady with any events shown.
   pub observed_again : (shown shown' : ℕ → List Event) (role : ℕ → Role) → SteadyAs shown role → SteadyAs shown' role
   unfolding machine_of_parts
   observed_again shown shown' role s =
       record { placed = s.placed; worded = s.worded; marked = s.marked; few = s.few; stands = s.stands; shut = s.shut; small = s.small; refers = s.refers }
 
   module _ (shown : ℕ → List Event) (role : ℕ → Role) (s : SteadyAs shown role) where
-    -- an open processor's turn is a reference
+    -- In a steady machine, an open processor runs, and its next turn is a reference.
     reaches : (p : ℕ) → open_at ports p ≡ true → (is_running (port_at ports p).core.state.status ≡ true) × Reached (next c code p (port_at ports p).core.state)
     unfolding machine_of_parts
     reaches p opened =
@@ -50,7 +50,7 @@ module _ (c : Config) (code : List ℕ) (net : Net) (ports : List PortState) (mo
     refers p opened setting = subst IsReference (ap (λ s. turn_of s code (port_at ports p).core.state) (sym setting))
         (is_reference (next c code p (port_at ports p).core.state) (reaches p opened).1)
 
-    -- the slot of a processor that is not open is free
+    -- In a steady machine, the slot of a processor that is not open is free.
     pub slot_free : (p : ℕ) → open_at ports p ≡ false → net.requests 0 p ≡ []
     unfolding machine_of_parts
     slot_free p shut = by (net.requests 0 p) refl
@@ -64,7 +64,8 @@ module _ (c : Config) (code : List ℕ) (net : Net) (ports : List PortState) (mo
             let c : Asking 0 ≡ Idle = sym at.asks ∙ ap role leads ∙ idle in
             absurd (cc)
 
-    -- a request at a module is for one of its words
+    -- In a steady machine, the first request at a module is for a word of that module, and for the one that its open
+    -- leader refers to.
     pub at_its_module : (m : ℕ) (x : Request) (rest : List Request) → net.requests c.k m ≡ x ∷ rest →
         (x.word % 2 ^ c.k ≡ m) × (x.word ≡ word_by (next c code x.leader (port_at ports x.leader).core.state)) × (open_at ports x.leader ≡ true)
     unfolding machine_of_parts
@@ -95,7 +96,7 @@ module _ (c : Config) (code : List ℕ) (net : Net) (ports : List PortState) (mo
         let m = reference_means (setting_of c p) code (port_at ports p).core.state r.word r.change r.after (words p) r.is in
         subst (λ w. w < c.shared_words) (sym (a.1 ∙ ap word_by r.is)) m.2
 
-  -- a step keeps it
+  -- A step of the machine's parts keeps a machine steady.
   pub stays_steady : (role : ℕ → Role) (s : Step) (o : Outcome) (net' : Net) (ports' : List PortState) (modules' : List (List ℕ)) → SteadyAs (λ p. []) role →
       IsStepOf c code net ports modules s o net' ports' modules' →
       (role' : ℕ → Role) × Steady (sizes_of c) (program c code) (machine_of_parts c net' ports' modules' (with_shown (λ p. []) s o)) role'

@@ -6,7 +6,7 @@ use Rattle.machine_ports.specs.flat_machine.Turns.{Turn, Retires, Reaches, Stops
 use Rattle.serialization.specs.Program.{Kind, Rests, Refers}
 use Rattle.machine_theory.specs.Processors.{kind_of, kind_of_turn}
 
--- a turn that refers reaches a word
+-- The turn reaches a word.
 pub record Reached (t : Turn) : Type 0 where
   -- the word that it reaches
   pub word : ℕ
@@ -23,7 +23,7 @@ reaches_of (Reaches word change after) e = record { word = word; change = change
 reaches_of (Retires after retired) e = absurd (cc)
 reaches_of (Stops cause) e = absurd (cc)
 
--- a processor with a turn of its own runs
+-- A processor whose turn does not rest runs, and the kind is that of its turn.
 pub runs_by : (b : Bool) (t : Turn) (k : Kind) → kind_of b t ≡ k → (k ≡ Rests → ⊥) → (b ≡ true) × (kind_of_turn t ≡ k)
 runs_by true t k e some = (refl, e)
 runs_by false t k e some = absurd (some (sym e))

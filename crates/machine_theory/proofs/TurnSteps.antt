@@ -27,19 +27,19 @@ use Rattle.machine_theory.specs.Turning.{IsBegun, IsFinished, IsFinishedBy}
 use Rattle.machine_theory.proofs.PortSets.{core_set, core_kept, open_set, open_kept}
 
 module _ (c : Config) (code : List ℕ) where
-  -- a step by its result
+  -- The step has this result, outcome and new parts.
   pub record Takes (net : Net) (ports : List PortState) (modules : List (List ℕ)) (s : Step) (o : Outcome) (net' : Net) (ports' : List PortState)
       (modules' : List (List ℕ)) : Type 0 where
-    -- what the step gives, by the events shown before
+    -- the result of the step, given the events shown before
     pub result : (shown : ℕ → List Event) → Result ObservedCore
-    -- the machine of the old parts takes the step with that result
+    -- from the old parts, the step has that result
     pub is : (shown : ℕ → List Event) → taken c code (machine_of_parts c net ports modules shown) s ≡ result shown
-    -- the answer is that of the result
+    -- the outcome is that of the result
     pub answers : o ≡ answer_of (λ p. next c code p (port_at ports p).core.state) (result (λ p. [])).outcome
-    -- the machine of the new parts, with the event of the step, is that of the result
+    -- the new parts, with the event of the step, are the machine of the result
     pub leaves : (shown : ℕ → List Event) → machine_of_parts c net' ports' modules' (with_shown shown s o) ≡ (result shown).machine
 
-  -- If a step has this result, its answer and the new parts are those of the machine step.
+  -- A step with this result is the machine step: its outcome and new parts are as defined.
   pub step_of : (net net' : Net) (ports ports' : List PortState) (modules modules' : List (List ℕ)) (s : Step) (o : Outcome) →
       Takes net ports modules s o net' ports' modules' → IsStepOf c code net ports modules s o net' ports' modules'
   unfolding outcome_of after machine_of_parts
@@ -55,7 +55,7 @@ module _ (c : Config) (code : List ℕ) where
   none_shown (step.Down st w) shown = refl
   none_shown (step.Poke poke) shown = refl
 
-  -- a step that stalls
+  -- A step that stalls in the theory is a machine step that stalls.
   pub stalls : (net : Net) (ports : List PortState) (modules : List (List ℕ)) (s : Step) →
       ((shown : ℕ → List Event) → taken c code (machine_of_parts c net ports modules shown) s ≡ stalled (machine_of_parts c net ports modules shown)) →
       IsStepOf c code net ports modules s Stalled net ports modules
@@ -167,7 +167,7 @@ module _ (c : Config) (code : List ℕ) where
           (refers_takes (Reaches word change later) word net' e refl refl
           (b.1 ∙ ap (λ s. injected net (record { leader = p; word = word; phi = reference_phi s code state; marks = 0 })) setting))
 
-      -- A turn that a port begins is the machine step, if the processor runs and is not open.
+      -- If the processor runs and is not open, the turn that its port begins is the machine step.
       pub begins : (port port' : PortState) (o : Outcome) (net' : Net) → port ≡ port_at ports p → port.core.setting ≡ setting_of c p →
           port' ≡ (begun port code (turn port code)).1 →
           IsBegun p port code (turn port code) net o net' → IsStepOf c code net ports modules (step.Turn p) o net' (slice_set ports p port') modules
@@ -240,7 +240,8 @@ module _ (c : Config) (code : List ℕ) where
                 (open_kept ports p port' inside (ap (λ (q : PortState). q.is_open) stays));
           }))
 
-      -- A turn that a port finishes, or in which it waits for its reply, is the machine step, if the processor is open.
+      -- If the processor is open, the turn that its port finishes, or in which it waits for its reply, is the machine
+      -- step.
       pub finishes : (port port' : PortState) (o : Outcome) (net' : Net) → port ≡ port_at ports p → port.core.setting ≡ setting_of c p →
           IsFinishedBy p (turn port code) port net (slice_get (net.replies 0 p) 0) o port' net' →
           IsStepOf c code net ports modules (step.Turn p) o net' (slice_set ports p port') modules

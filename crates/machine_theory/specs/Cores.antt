@@ -8,7 +8,7 @@ use Rattle.machine_theory.specs.Processors.{ObservedCore, no_processor}
 abbrev pub with_core : {Core : Type 0} → theory.Machine Core → (p : ℕ) → Core → theory.Machine Core
 with_core M p core = record { net = M.net; mem = M.mem; core = put M.core p core; is_open = M.is_open }
 
--- What is read where a core is away: a processor that does not run. Its events are those that it had shown.
+-- what is read of a core that is away: a processor that does not run, with the events that it had shown
 abbrev pub away : ObservedCore → ObservedCore
 away g = record { state = no_processor; events = g.events }
 

@@ -18,7 +18,7 @@ use Rattle.machine_theory.specs.FlatSizes.{IsSoundFlat}
 use Rattle.machine_theory.specs.Flatness.{read_flat, with_events}
 
 module _ (c : Config) (code : List ℕ) where
-  -- A run begins with an idle machine beside the flat machine that it is. Its processors have shown nothing yet.
+  -- A run begins with an idle machine and the flat machine that it is. Its processors have shown nothing yet.
   pub record Opens (M : Machine ObservedCore) (F : FlatState) : Type 0 where
     pub few : c.k ≤ 6
     pub sound : IsSoundFlat c code F
@@ -27,11 +27,11 @@ module _ (c : Config) (code : List ℕ) where
     pub idle : IsIdle (sizes_of c) M
     pub reads : flat_of M ≡ read_flat F (λ p. [])
 
-  -- the flat machine after these entries, with the events that each of its processors has shown
+  -- the flat machine after these entries, with the events that each processor has shown
   abbrev pub flat_after : FlatState → List Entry → FlatMachine ObservedCore
   flat_after F order = read_flat (flat.flat_run F order) (with_events (λ p. []) (flat.flat_events F order))
 
-  -- Processor p's entry at this place of the order finds this word: the one that it refers to, in the flat machine
+  -- Processor p's entry at this place of the order finds this word: the one to which it refers, in the flat machine
   -- after the entries before it.
   pub record Finds (F : FlatState) (order : List Entry) (p place found : ℕ) (g : ObservedCore) : Type 0 where
     pub before : List Entry
@@ -40,28 +40,28 @@ module _ (c : Config) (code : List ℕ) where
     pub at_place : length before ≡ place
     pub word : found ≡ slice_index (flat.flat_run F before).shared (word_by (next c code p g.state))
 
-  -- After whatever steps, the order so far explains the machine.
+  -- After any steps, the order so far explains the machine.
   pub record IsExplained (F : FlatState) (h : Passed ObservedCore) : Type 0 where
     -- the shared words are the flat machine's
     pub words : (i : ℕ) → h.machine.mem i ≡ slice_index (flat.flat_run F h.order).shared i
-    -- a processor that has no reference open has none served
+    -- no reference of a processor without an open reference is served
     pub shut : (p : ℕ) → h.machine.is_open p ≡ false → h.served p ≡ None
-    -- a processor none of whose references is served stands as in the flat machine, and has shown the same events
+    -- a processor whose reference is not served is as in the flat machine, and has shown the same events
     pub unserved : (p : ℕ) → h.served p ≡ None → h.machine.core p ≡ (flat_after F h.order).core p
-    -- One that was served stands one reference after. With the word that its entry of the order found it retires as
-    -- there.
+    -- a processor whose reference is served is one reference behind the flat machine: when it retires with the word
+    -- that its entry of the order found, it becomes what it is there
     pub served : (p place : ℕ) → h.served p ≡ Some place →
         (found : ℕ) × Finds F h.order p place found (h.machine.core p) ×
         ((flat_after F h.order).core p
         ≡ retired_by (h.machine.core p) (after_reply (next c code p (h.machine.core p).state) found))
-    -- and that is the word with which it retires
+    -- a reference retires with the word that its entry of the order found
     pub retires : (p found : ℕ) → (step (sizes_of c) (program c code) h.machine (Turn p)).outcome ≡ Retired p found →
         (place : ℕ) × (h.served p ≡ Some place) × Finds F h.order p place found (h.machine.core p)
 
-  -- The theorem: every run from an idle machine is explained at every moment, each reference is served once, between
-  -- its issue and its retirement, and where no reference is open the machine is the flat one.
+  -- The theorem: every run from an idle machine is explained at every moment, and each reference is served once,
+  -- between its issue and its retirement.
   pub record RunsAreExplained : Type 0 where
-    -- and a run may begin on every flat machine in range
+    -- a run may begin from every sound flat machine
     pub opens : (F : FlatState) → c.k ≤ 6 → IsSoundFlat c code F →
         Opens (new_machine (read_flat F (λ p. [])).mem (read_flat F (λ p. [])).core) F
     pub moments : (M : Machine ObservedCore) (F : FlatState) (steps : List Step) → Opens M F →

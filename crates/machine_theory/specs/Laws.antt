@@ -1,4 +1,4 @@
--- What the laws of cores that are away speak of.
+-- The laws of cores that are away.
 use Rattle.std.specs.Prelude.{◌≡◌, ℕ, ◌^◌, ◌<◌, false, List, ◌++◌, length}
 use Rattle.machine_ports.specs.flat_machine.declared.config.Config.{Config}
 use Rattle.machine_ports.specs.flat_machine.declared.event.Retired as retirement
@@ -15,18 +15,19 @@ use Rattle.machine_ports.specs.hart.LocalRuns.{TakesLocal}
 use Rattle.machine_theory.specs.Loans.{with_core, with_cores, without, gone_on, IsOfOthers, AreOfOthers}
 use Rattle.machine_theory.specs.Loans.{AreOfAllOthers, turns_of, after_all, answers_of, outcomes_of}
 
--- ---- cores that are put in a place
+-- ---- cores put in a place
 
--- the last counts
+-- Of two cores put in one place, the last counts.
 abbrev pub LastCoreCounts : Type 0
 LastCoreCounts = (M : theory.Machine ObservedCore) (p : ℕ) (first second : ObservedCore) →
     with_core (with_core M p first) p second ≡ with_core M p second
 
--- and what stands there already changes nothing
+-- A machine is as before if the core that is there already is put in its place.
 abbrev pub CoresStayPut : Type 0
 CoresStayPut = (M : theory.Machine ObservedCore) (p : ℕ) → with_core M p (M.core p) ≡ M
 
--- A machine whose processor p has no reference open can have come about with any core of it: no message stands for it.
+-- A steady machine is still steady with another core of a processor that has no reference open: no message stands for
+-- it.
 abbrev pub MachinesStaySteady : Type 0
 MachinesStaySteady = (c : Config) (code : List ℕ) (M : theory.Machine ObservedCore) (role : ℕ →
     Role) (p : ℕ) (core : ObservedCore) →
@@ -35,21 +36,21 @@ MachinesStaySteady = (c : Config) (code : List ℕ) (M : theory.Machine Observed
 
 -- ---- steps of others
 
--- What a step of others answers, and what it leaves of all else, does not depend on a core,
+-- The outcome of a step of others, and what it leaves of all else, do not depend on processor p's core.
 abbrev pub OthersDoNotNotice : Type 0
 OthersDoNotNotice = (c : Config) (code : List ℕ) (M : theory.Machine ObservedCore) (p : ℕ) (core : ObservedCore)
     (s : Step) → IsOfOthers p s →
     (outcome_of c code (with_core M p core) s ≡ outcome_of c code M s)
     × (after c code (with_core M p core) s ≡ with_core (after c code M s) p core)
 
--- nor do those of a list of them.
+-- The same holds of a list of steps of others.
 abbrev pub RunsDoNotNotice : Type 0
 RunsDoNotNotice = (c : Config) (code : List ℕ) (M : theory.Machine ObservedCore) (p : ℕ) (core : ObservedCore)
     (ss : List Step) → AreOfOthers p ss →
     (answers_of c code (with_core M p core) ss ≡ answers_of c code M ss)
     × (after_all c code (with_core M p core) ss ≡ with_core (after_all c code M ss) p core)
 
--- It is so of several cores at once.
+-- The same holds for several cores at once.
 abbrev pub RunsDoNotNoticeSeveral : Type 0
 RunsDoNotNoticeSeveral =
     (c : Config) (code : List ℕ) (M : theory.Machine ObservedCore) (cores : List (ℕ × ObservedCore)) (ss : List Step) →
@@ -57,7 +58,7 @@ RunsDoNotNoticeSeveral =
     (answers_of c code (with_cores M cores) ss ≡ answers_of c code M ss)
     × (after_all c code (with_cores M cores) ss ≡ with_cores (after_all c code M ss) cores)
 
--- They leave the core as it is, and its processor open or not as it was.
+-- Steps of others leave p's core as it is, and leave p open if and only if it was.
 abbrev pub CoresAreKept : Type 0
 CoresAreKept = (c : Config) (code : List ℕ) (M : theory.Machine ObservedCore) (p : ℕ) (ss : List Step) →
     AreOfOthers p ss →
@@ -65,14 +66,14 @@ CoresAreKept = (c : Config) (code : List ℕ) (M : theory.Machine ObservedCore) 
 
 -- ---- turns of a core that is away, and of one that has come back
 
--- While it is away, a turn of its processor stalls, and changes nothing.
+-- While a core is away, a turn of its processor stalls, and changes nothing.
 abbrev pub AwayCoresRest : Type 0
 AwayCoresRest = (c : Config) (code : List ℕ) (M : theory.Machine ObservedCore) (p : ℕ) → M.is_open p ≡ false →
     (outcome_of c code (without M p) (step.Turn p) ≡ outcome.Stalled)
     × (after c code (without M p) (step.Turn p) ≡ without M p)
 
--- This many turns of a processor that has no reference open, and whose next instructions are local, retire these, and
--- leave the core that these leave.
+-- If a processor has no reference open and its next instructions are local, as many of its turns retire them, and leave
+-- the core that they leave.
 abbrev pub LocalTurnsCatchUp : Type 0
 LocalTurnsCatchUp = (c : Config) (code : List ℕ) (M : theory.Machine ObservedCore) (p : ℕ)
     (taken : List retirement.Retired) (last : Processor) →
@@ -82,9 +83,9 @@ LocalTurnsCatchUp = (c : Config) (code : List ℕ) (M : theory.Machine ObservedC
 
 -- ---- a loan
 
--- While the core of a processor that has no reference open is away, the machine takes steps, and the core
--- instructions. Put back, the core stands in the machine that takes these steps and then its turns, and both have
--- answered the same.
+-- While the core of a processor without an open reference is away, the machine takes steps, and the core takes
+-- instructions. With the core put back, the machine is the one that takes these steps and then the processor's turns,
+-- with the same outcomes.
 abbrev pub LoansAreRuns : Type 0
 LoansAreRuns = (c : Config) (code : List ℕ) (M : theory.Machine ObservedCore) (p : ℕ) (ss : List Step)
     (taken : List retirement.Retired) (last : Processor) →

@@ -9,6 +9,6 @@ pub mod Flatness
 pub mod Explained
 pub mod Loans
 pub mod Laws
--- Words of lower crates, passed on to those above.
+-- Definitions of lower crates, passed on to those above.
 pub use Rattle.serialization.specs.network_theory as network_theory
 pub use Rattle.serialization.specs as serialization

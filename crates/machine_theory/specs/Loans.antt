@@ -15,18 +15,18 @@ use Rattle.steps.specs.declared.step.Outcome.TheVariants as outcome
 
 -- ---- cores
 
--- the machine with these cores of these processors; of two for one processor the first counts
+-- the machine with these cores of these processors; of two cores for one processor, the first counts
 abbrev pub with_cores : {Core : Type 0} → theory.Machine Core → List (ℕ × Core) → theory.Machine Core
 with_cores M [] = M
 with_cores M ((p, core) ∷ more) = with_core (with_cores M more) p core
 
--- a processor that has gone on to another state, and has shown these instructions since
+-- a processor that has gone on to another state, and has since shown that these instructions retired
 abbrev pub gone_on : ObservedCore → List retirement.Retired → Processor → ObservedCore
 gone_on g taken state = record { state = state; events = g.events ++ map event.Retired taken }
 
 -- ---- steps
 
--- The step is neither a turn of processor p nor a write from outside,
+-- The step is neither a turn of processor p nor a write from outside.
 abbrev pub IsOfOthers : (p : ℕ) → Step → Type 0
 IsOfOthers p (step.Turn q) = q ≢ p
 IsOfOthers p (step.Up s w) = Unit {0}
@@ -34,12 +34,12 @@ IsOfOthers p (step.Serve m) = Unit {0}
 IsOfOthers p (step.Down s w) = Unit {0}
 IsOfOthers p (step.Poke poke) = ⊥
 
--- and so are all of these.
+-- All steps of the list are of others than p.
 abbrev pub AreOfOthers : (p : ℕ) → List Step → Type 0
 AreOfOthers p [] = Unit {0}
 AreOfOthers p (s ∷ ss) = IsOfOthers p s × AreOfOthers p ss
 
--- They are neither turns of any of these processors nor writes from outside.
+-- All steps of the list are of others than these processors.
 abbrev pub AreOfAllOthers : List (ℕ × ObservedCore) → List Step → Type 0
 AreOfAllOthers [] ss = Unit {0}
 AreOfAllOthers ((p, core) ∷ more) ss = AreOfOthers p ss × AreOfAllOthers more ss
@@ -48,15 +48,15 @@ AreOfAllOthers ((p, core) ∷ more) ss = AreOfOthers p ss × AreOfAllOthers more
 abbrev pub turns_of : (p count : ℕ) → List Step
 turns_of p count = replicate count (step.Turn p)
 
--- the machine after these steps,
+-- the machine after these steps
 abbrev pub after_all : Config → (code : List ℕ) → theory.Machine ObservedCore → List Step → theory.Machine ObservedCore
 after_all c code M ss = theory.machine_after (sizes_of c) (program c code) (map named ss) M
 
--- and what they answer, one after another
+-- the outcomes of these steps, in their order
 abbrev pub answers_of : Config → (code : List ℕ) → theory.Machine ObservedCore → List Step → List Outcome
 answers_of c code M [] = []
 answers_of c code M (s ∷ ss) = outcome_of c code M s ∷ answers_of c code (after c code M s) ss
 
--- what turns answer in which these instructions retire
+-- the outcomes of turns in which these instructions retire
 abbrev pub outcomes_of : List retirement.Retired → List Outcome
 outcomes_of taken = map outcome.Retired taken

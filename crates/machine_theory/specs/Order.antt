@@ -1,4 +1,4 @@
--- The words of the serial order, for the entries of the flat machine.
+-- The definitions of the serial order, with the entries of the flat machine.
 use Rattle.std.specs.Prelude.{ℕ, List}
 use Rattle.machine_ports.specs.flat_machine.declared.poke.Entry.{Entry}
 use Rattle.serialization.specs.Order as order

@@ -1,5 +1,5 @@
--- The processors of the machine, as the theory of serialization asks for them. What a turn of each does is the flat
--- machine's definition; nothing is said of it a second time.
+-- The processors of the machine, as a program of the theory of serialization. What a turn does is the flat machine's
+-- definition, and is not said again.
 use Rattle.std.specs.Prelude.{ℕ, zero, suc, ◌-◌, ◌/◌, ◌%◌, ◌^◌, Bool, true, false, ◌&&◌, not, List, [], ◌∷◌}
 use Rattle.std.specs.Prelude.{◌++◌, Option, Some, None, nat_lt, slice_index, slice_index_or, if◌then◌else◌}
 use Rattle.machine_ports.specs.flat_machine.declared.config.Config.{Config}
@@ -30,7 +30,7 @@ sizes_of c = record { k = c.k; c = c.c; b = c.b; r = c.r }
 abbrev pub setting_of : Config → ℕ → Setting
 setting_of c p = record { number = p; processors = 2 ^ c.k; shared_words = c.shared_words }
 
--- what is read where no port is
+-- the port of a number that names none
 abbrev pub no_port : PortState
 no_port = record {
   core = record {
@@ -43,7 +43,7 @@ no_port = record {
 abbrev pub port_at : List PortState → ℕ → PortState
 port_at ports p = slice_index_or ports p no_port
 
--- word i of modules that share the words in turns
+-- word i of memory that is interleaved over the modules
 abbrev pub word_at : (k : ℕ) → List (List ℕ) → ℕ → ℕ
 word_at k modules i = slice_index (slice_index_or modules (i % 2 ^ k) []) (i / 2 ^ k)
 
@@ -52,7 +52,7 @@ pub record ObservedCore : Type 0 where
   pub state : Processor
   pub events : List Event
 
--- the processor at a port, which has shown these events; and whether its reference is open
+-- the processor at a port, with the events that it has shown
 abbrev pub observed_at : List PortState → (shown : ℕ → List Event) → ℕ → ObservedCore
 observed_at ports shown p = record { state = (port_at ports p).core.state; events = shown p }
 
@@ -78,7 +78,7 @@ alone_by g (Retires after retired) = shows g after (event.Retired retired)
 alone_by g (Stops cause) = shows g (record g.state { status = status_of cause }) (event.Stopped cause)
 alone_by g (Reaches word change after) = g
 
--- the word that a turn refers to
+-- the word to which a turn refers
 abbrev pub word_by : Turn → ℕ
 word_by (Reaches word change after) = word
 word_by (Retires after retired) = 0
@@ -91,19 +91,19 @@ retired_by g (Some done) = shows g done.0 (event.Retired done.1)
 
 -- ---- pokes
 
--- none of the first n cores is away, where the processors stand like this
+-- whether none of the first n cores is away, if these are the processors
 unfoldable pub are_home : ℕ → (ℕ → Processor) → Bool
 are_home zero states = true
 are_home (suc n) states = not (is_away (states n)) && are_home n states
 
--- The value is a word or a byte, the processor is there, and so is what is written.
+-- the value is a word or a byte, the processor is there, and so is the register, byte or word to be written
 abbrev pub is_lawful_poke : Config → Poke → Bool
 is_lawful_poke c (poke.Register p register value) = nat_lt value (2 ^ 32)
     && (nat_lt p (2 ^ c.k) && is_lawful_register register value)
 is_lawful_poke c (poke.Local p address value) = nat_lt value 256 && (nat_lt p (2 ^ c.k) && in_local address)
 is_lawful_poke c (poke.Shared address value) = nat_lt value 256 && in_shared c.shared_words address
 
--- a lawful poke is done where no core is away
+-- a lawful poke is done if no core is away
 abbrev pub may_poke : Config → (ℕ → ObservedCore) → Poke → Bool
 may_poke c core q = are_home (2 ^ c.k) (λ p. (core p).state) && is_lawful_poke c q
 
@@ -125,7 +125,7 @@ poked_words (poke.Local p address value) mem = mem
 -- ---- all of it
 
 module _ (c : Config) (code : List ℕ) where
-  -- the next turn of processor p, where it stands like this
+  -- the next turn of processor p in this state
   abbrev pub next : ℕ → Processor → Turn
   next p state = turn_of (setting_of c p) code state
 

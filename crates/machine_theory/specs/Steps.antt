@@ -1,4 +1,4 @@
--- The machine step: what each step answers, and the machine after it.
+-- The machine step: its outcome, and the machine after it.
 use Rattle.std.specs.Prelude.{◌≡◌, ℕ, List, [], ◌∷◌, ◌++◌, Option, Some, None}
 use Rattle.machine_ports.specs.flat_machine.declared.config.Config.{Config}
 use Rattle.machine_ports.specs.flat_machine.declared.event.Event.{Event}
@@ -26,11 +26,11 @@ named (step.Serve m) = theory.Serve m
 named (step.Down s w) = theory.Down s w
 named (step.Poke poke) = theory.Poke poke
 
--- what the machine does by a step
+-- the machine after a step, with the theory's outcome
 abbrev pub taken : Config → List ℕ → theory.Machine ObservedCore → Step → theory.Result ObservedCore
 taken c code m s = theory.step (sizes_of c) (program c code) m (named s)
 
--- ---- what it answers
+-- ---- the outcome
 
 abbrev pub outcome_of_turn : Turn → Outcome
 outcome_of_turn (Retires after retired) = Retired retired
@@ -41,7 +41,7 @@ abbrev pub outcome_of_reply : Option (Processor × retirement.Retired) → Outco
 outcome_of_reply (Some done) = Retired done.1
 outcome_of_reply None = Stalled
 
--- The answer says of a turn what the processor has done, as the flat machine says.
+-- the outcome of a step: that of a turn says what the processor has done, as the flat machine says
 abbrev pub answer_of : (next : ℕ → Turn) → theory.Outcome → Outcome
 answer_of next (theory.Issued p) = Issued
 answer_of next (theory.Advanced p) = outcome_of_turn (next p)
@@ -67,10 +67,10 @@ with_shown shown (step.Turn p) (Retired retired) = put shown p (shown p ++ event
 with_shown shown (step.Turn p) (Stopped cause) = put shown p (shown p ++ event.Stopped cause ∷ [])
 with_shown shown _ _ = shown
 
--- ---- the machine of its parts
+-- ---- the machine of these parts
 
--- A machine of ports and modules, whose processors have shown these events. Shared word i is in module i % 2 ^ k, at
--- place i / 2 ^ k.
+-- the machine of these ports and modules, whose processors have shown these events; shared word i is in module i % 2 ^
+-- k, at place i / 2 ^ k
 unfoldable pub machine_of_parts : Config → Net → List PortState → List (List ℕ) → (shown : ℕ → List Event) →
     theory.Machine ObservedCore
 machine_of_parts c net ports modules shown = record {
@@ -80,7 +80,7 @@ machine_of_parts c net ports modules shown = record {
   is_open = open_at ports;
 }
 
--- The step and its answer are as the definitions say, for any processors have shown before.
+-- The step and its outcome are as defined, for any events that processors have shown before.
 pub record IsStepOf (c : Config) (code : List ℕ) (net : Net) (ports : List PortState) (modules : List (List ℕ))
     (s : Step) (o : Outcome) (net' : Net)
     (ports' : List PortState) (modules' : List (List ℕ)) : Type 0 where

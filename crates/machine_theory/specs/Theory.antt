@@ -1,4 +1,4 @@
--- The words of the theory, for the pokes and the entries of the flat machine.
+-- The definitions of the theory, with the pokes and the entries of the flat machine.
 use Rattle.std.specs.Prelude.{ℕ, List, Option, refl}
 use Rattle.serialization.specs.messages.declared.message.Request.{Request}
 use Rattle.serialization.specs.messages.declared.message.Reply.{Reply}
@@ -17,7 +17,7 @@ pub use Rattle.serialization.specs.Machine.{Moved, Combined, Served, Answered, P
 pub use Rattle.serialization.specs.Machine.{issue, advance, begin, turned, poked, step}
 unfoldable pub use Rattle.serialization.specs.Machine.{machine_after}
 
--- an entry of the flat machine says of a turn or of a poke
+-- what an entry of the flat machine says: a turn, or a poke
 abbrev pub content_of : Entry → Content pokes.Poke
 content_of (entry.Processor p) = TurnOf p
 content_of (entry.Poke q) = PokeOf q

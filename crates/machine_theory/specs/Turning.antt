@@ -1,4 +1,4 @@
--- What a port does in a turn, with the network, and what moves answer.
+-- What a port does in a turn, with the network, and the outcomes of moves.
 use Rattle.std.specs.Prelude.{◌≡◌, ℕ, ◌<◌, ◌^◌, false, List, Option, Some, None}
 use Rattle.machine_ports.specs.flat_machine.declared.event.Retired as retirement
 use Rattle.machine_ports.specs.flat_machine.State.{Processor}
@@ -15,7 +15,7 @@ use Rattle.serialization.specs.messages.Moves.{injected, port_taken}
 use Rattle.steps.specs.declared.step.Outcome.{Outcome}
 use Rattle.steps.specs.declared.step.Outcome.TheVariants.{Retired, Issued, Stopped, Moved, Combined, Answered, Stalled}
 
--- A turn that a port begins: what is answered, and the network then.
+-- A port begins a turn: its outcome, and the network after it.
 abbrev pub IsBegun : ℕ → PortState → (code : List ℕ) → Turn → Net → Outcome → Net → Type 0
 IsBegun p port code (Retires after retired) net o net' = (o ≡ Retired retired) × (net' ≡ net)
 IsBegun p port code (Stops cause) net o net' = (o ≡ Stopped cause) × (net' ≡ net)
@@ -28,7 +28,7 @@ IsBegun p port code (Reaches word change after) net o net' =
       marks = 0;
     }))
 
--- A turn that a port finishes with a reply: what the processor becomes by it.
+-- A port finishes a turn with a reply: the outcome, the port and the network after it.
 pub record IsFinished (p : ℕ) (turn : Turn) (old : PortState) (net : Net) (reply : Reply) (o : Outcome)
     (new : PortState) (net' : Net) : Type 0 where
   pub done : Processor × retirement.Retired
@@ -38,14 +38,14 @@ pub record IsFinished (p : ℕ) (turn : Turn) (old : PortState) (net : Net) (rep
   pub network : net' ≡ port_taken net p
   pub word : reply.value < 2 ^ 32
 
--- Without a reply nothing changes.
+-- A port finishes its turn if its reply is there. Without a reply nothing changes.
 abbrev pub IsFinishedBy : ℕ → Turn → PortState → Net → Option Reply → Outcome → PortState → Net → Type 0
 IsFinishedBy p turn old net None o new net' = (o ≡ Stalled) × (new ≡ old) × (net' ≡ net)
 IsFinishedBy p turn old net (Some reply) o new net' = IsFinished p turn old net reply o new net'
 
 -- ---- moves
 
--- What a move answers is what its step does.
+-- the outcome of the step that makes this move
 abbrev pub outcome_of_up : UpMove → Outcome
 outcome_of_up up.Moved = Moved
 outcome_of_up (up.Combined first second) = Combined first second

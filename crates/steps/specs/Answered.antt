@@ -1,8 +1,8 @@
--- Steps with what they did.
+-- Steps with their outcomes.
 use Rattle.steps.specs.declared.step.Step.{Step}
 use Rattle.steps.specs.declared.step.Outcome.{Outcome}
 
--- a step, and what it did
+-- a step and its outcome
 pub record Answer : Type 0 where
   pub step : Step
   pub outcome : Outcome

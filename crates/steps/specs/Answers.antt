@@ -1,4 +1,4 @@
--- The answers of steps.
+-- Which outcomes are stalls.
 use Rattle.std.specs.Prelude.{Bool, true, false}
 use Rattle.steps.specs.declared.step.Outcome.{Outcome}
 use Rattle.steps.specs.declared.step.Outcome.TheVariants.{Retired, Issued, Stopped, Moved, Combined, Served, Answered}

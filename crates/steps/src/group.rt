@@ -1,4 +1,4 @@
-//! For whom one request stands.
+//! The group of one request.
 
 ghost use Rattle.std.specs.Prelude.{◌≡◌, []};
 
@@ -20,7 +20,7 @@ impl Model for Group {
 }
 
 impl Group {
-    /// A request that stands for none.
+    /// A group of no processors.
     pub fn new(alloc: Global) -> Self
         ensures { result ≡ [] }
     {
@@ -29,14 +29,14 @@ impl Group {
         }
     }
 
-    /// A request that stands for these.
+    /// The group of these processors.
     pub fn of(members: Vec<u8>) -> Self
         ensures { result ≡ members.items }
     {
         Group { members }
     }
 
-    /// For whom it stands.
+    /// The processors of the group, in their order.
     pub fn members(&self) -> &[u8]
         ensures { result.now ≡ self.now }
     {

@@ -1,4 +1,4 @@
-//! The groups of the requests that are on their way.
+//! The groups of the requests in the network.
 
 ghost use Rattle.std.specs.Prelude.{◌≡◌, ◌∷◌, [], IfOk, OnOk, slice_set};
 ghost use Rattle.steps.specs.Groups.{group_in, groups_after, issued, joined, no_groups};
@@ -8,7 +8,7 @@ use crate::step::{Outcome, Step};
 use std::alloc::{AllocError, Global};
 use std::marker::Model;
 
-/// For each processor the group that its request leads.
+/// For each processor, the group of the request that it leads.
 #[derive(Debug, Drop)]
 pub struct Groups {
     groups: Vec<Group>,
@@ -23,11 +23,11 @@ impl Model for Groups {
 }
 
 impl Groups {
-    /// No request is on its way.
+    /// The groups before any step: all are empty.
     ///
     /// # Errors
     ///
-    /// [`AllocError`] where there is no memory for it.
+    /// [`AllocError`] if there is no memory for them.
     pub fn new(alloc: Global) -> Result<Self, AllocError>
         ensures { IfOk result (λ g. g ≡ no_groups) }
     {
@@ -48,11 +48,11 @@ impl Groups {
         }
     }
 
-    /// Goes on with what a step did.
+    /// Updates the groups by what a step did.
     ///
     /// # Errors
     ///
-    /// [`AllocError`] where there is no memory for it.
+    /// [`AllocError`] if there is no memory for the group.
     pub fn observe(
         &mut self,
         alloc: Global,
@@ -68,7 +68,7 @@ impl Groups {
         }
     }
 
-    /// A processor's turn has sent a request, which stands for the processor alone.
+    /// A processor's turn has sent a request: its group is the processor alone.
     fn issue(&mut self, alloc: Global, step: &Step) -> Result<(), AllocError>
         ensures { OnOk result (self.new ≡ issued self.old step.now) }
     {
@@ -82,7 +82,7 @@ impl Groups {
         }
     }
 
-    /// The request of the second is combined into that of the first.
+    /// The request of the second leader is combined into that of the first.
     fn join(&mut self, alloc: Global, first: u8, second: u8) -> Result<(), AllocError>
         ensures { OnOk result (self.new ≡ joined self.old first second) }
     {

@@ -2,7 +2,7 @@
 
 ghost use Rattle.steps.specs.Groups.{GroupsGoOn};
 
-/// After no step there are no groups, and they go on with each.
+/// Before any step all groups are empty, and each step updates them.
 #[tactic(auto, using(crate::proofs::Going::groups_more))]
 pub fn groups_go_on()
     ensures { GroupsGoOn }

@@ -1,11 +1,12 @@
-//! The steps that a machine is asked to take, and what it answers.
+//! The steps that a machine is asked to take, and their outcomes.
 //!
 //! A step is one event of the machine: a processor's turn, one move of one message through one switch, one service by
-//! one memory module, or a write from outside. Each is applied whole. What each step does is said where the machine is
-//! (`machine_steps`).
+//! one memory module, or a write from outside. Each step is taken whole. The crate `machine_steps` says what each of
+//! them does.
 //!
-//! `specs/Answered.antt` has a step with its outcome. A machine says the steps that it takes to [`StepObserver`], one
-//! at a time. `specs/Groups.antt` says for whom the request of a leader stands; [`Groups`] go on with each step.
+//! `specs/Answered.antt` pairs a step with its outcome. A machine reports each step that it takes to a
+//! [`StepObserver`]. `specs/Groups.antt` says for which processors the request of a leader stands; [`Groups`] keeps
+//! these groups from step to step.
 #![tactic(auto)]
 
 mod group;

@@ -5,26 +5,26 @@ ghost use Rattle.std.specs.Prelude.{◌≡◌, ◌≤◌, ◌+◌, ◌++◌, ◌
 use crate::step::{Outcome, Step};
 use std::convert::Infallible;
 
-/// An observer of steps, as a machine takes them: a log, a tally, or [`NoObserver`].
+/// An observer of the steps that a machine takes: a log, a tally, or [`NoObserver`].
 pub trait StepObserver {
     ghost use Rattle.std.specs.Prelude.{ℕ};
     ghost use Rattle.steps.specs.declared.step.Step.{Step};
     ghost use Rattle.steps.specs.declared.step.Outcome.{Outcome};
 
-    /// Why a step could not be noted.
+    /// Why the observer refused a step.
     type Refusal;
 
-    /// There is room for this many steps.
+    /// The observer has room for this many steps.
     ghost has_room: { Self → ℕ → Type 0 };
 
-    /// What becomes of what was noted by a step with what it did.
+    /// How a step and its outcome change the observer.
     ghost observed: { Self → Step → Outcome → Self → Type 0 };
 
-    /// Observes a step that the machine has just taken, and what it did.
+    /// Observes a step that the machine has just taken, and its outcome.
     ///
     /// # Errors
     ///
-    /// That of the notes, where the step could not be noted.
+    /// The observer's own, if it refuses the step.
     fn observe(&mut self, step: Step, outcome: &Outcome) -> Result<(), Self::Refusal>
         requires room { (more : ℕ) × Self.has_room self.old (more + 1) }
         ensures observed { OnOk result (Self.observed self.old step outcome.now self.new) }
@@ -48,7 +48,7 @@ impl StepObserver for NoObserver {
     }
 }
 
-/// A list has room as far as its memory reaches, and what is noted stands at its end.
+/// A list has room up to its capacity, and appends each step.
 impl StepObserver for Vec<Step> {
     ghost use Rattle.std.specs.Prelude.{◌≤◌, ◌+◌, length};
     ghost use Rattle.std.specs.Vec.{vec_capacity};

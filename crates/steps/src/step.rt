@@ -1,4 +1,4 @@
-//! Steps, and what they did.
+//! Steps and their outcomes.
 
 ghost use Rattle.std.specs.Prelude.{◌≡◌};
 ghost use Rattle.steps.specs.Answers.{is_stalled};
@@ -9,18 +9,18 @@ use messages::Seconds;
 /// The most steps that a trace has.
 pub const MAX_STEPS: usize = 4_194_304;
 
-/// One step of the machine, which is applied whole.
+/// One step of the machine, which is taken whole.
 #[derive(Clone, Copy, Debug, PartialEq, Eq, Drop)]
 pub enum Step {
     /// A turn of a processor.
     Turn(u8),
     /// The request before a stage, on this wire, is offered to its switch.
     Up { stage: u8, wire: u8 },
-    /// A memory module executes the request that stands at it.
+    /// A memory module executes the first request at it.
     Serve(u8),
     /// The reply after a stage, on this wire, is answered at its switch.
     Down { stage: u8, wire: u8 },
-    /// A write from outside, on a machine in which no reference is open.
+    /// A write from outside, to a machine in which no reference is open.
     Poke(Poke),
 }
 
@@ -33,13 +33,13 @@ pub enum Outcome {
     Issued,
     /// The processor has stopped.
     Stopped(Cause),
-    /// A message stands one stage further.
+    /// A message has moved one stage.
     Moved,
     /// A request was combined with one that waited at the switch.
     Combined {
-        /// The leader of the one that waited, which leads both.
+        /// The leader of the request that waited. It leads both now.
         first: u8,
-        /// The leader of the one that came.
+        /// The leader of the request that came.
         second: u8,
     },
     /// The module has executed the request of this leader.
@@ -51,11 +51,10 @@ pub enum Outcome {
         /// The seconds, in the order of their combinations.
         to: Seconds,
     },
-    /// The poke is written.
+    /// The poke was written.
     Poked,
-    /// Nothing: the step names no place of the machine, nothing was there to move, there was no
-    /// room, the processor does not run or waits for its reply, or the poke is unlawful or met an
-    /// open reference.
+    /// Nothing was done: the step names no place of the machine, there was nothing to move or no room for it, the
+    /// processor does not run or waits for its reply, or the poke is not lawful or a reference was open.
     Stalled,
 }
 
