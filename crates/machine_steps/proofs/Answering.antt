@@ -1,4 +1,4 @@
--- Answers begin with none, and go on with the outcome of each step that is taken next.
+-- A machine begins with no answers, and each step that is taken next adds its outcome.
 use Rattle.std.proofs.Common.{◌≡◌, ℕ, suc, List, [], ◌∷◌, ◌++◌, length, refl, sym, ap, ◌∙◌}
 use Rattle.flat_machine.specs.declared.config.Config.{Config}
 use Rattle.machine_theory.specs.Theory as theory
@@ -17,11 +17,11 @@ answers_none : (m : MachineLists) → answers_of m [] ≡ []
 unfolding answers_of answers_from
 answers_none m = refl
 
--- A machine is the run of itself over no step, with no answers.
+-- A machine is a run of itself, with no step and no answers.
 pub answers_begin : (m : MachineLists) → IsRun m [] m × (answers_of m [] ≡ [])
 answers_begin m = ((replay_begins m).run, answers_none m)
 
--- what a step does that is taken next
+-- The answers to steps and one more are the answers to these steps, and the outcome of the one.
 answered_more : (c : Config) (code : List ℕ) (M : theory.Machine ObservedCore) (done : List Step) (s : Step) →
     answers_from c code M (done ++ s ∷ []) ≡ answers_from c code M done ++ answer s (outcome_of c code (all_after c code M done) s) ∷ []
 unfolding answers_from all_after
@@ -36,7 +36,7 @@ module _ (old m new : MachineLists) (done : List Step) (s : Step) (o : Outcome) 
       ∙ ap (λ o. answers_from old.config old.code (machine_of old (λ p. [])) done ++ answer s o ∷ [])
       (outcome_there old m done r s ∙ sym is.step.outcome)
 
--- A step that is taken next, and its outcome, stand at the end of the run and of its answers.
+-- A step that is taken next comes last in the run, and its outcome comes last among the answers.
 pub answers_more : (opening mid new : MachineLists) (done : List Step) (s : Step) (o : Outcome) → IsRun opening done mid → IsStep mid s o new →
     IsRun opening (done ++ s ∷ []) new × (answers_of opening (done ++ s ∷ []) ≡ answers_of opening done ++ answer s o ∷ [])
 answers_more opening mid new done s o r is = (run_more opening mid new done s o r is, more_answers opening mid new done s o r is)

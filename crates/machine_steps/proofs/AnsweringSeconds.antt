@@ -1,4 +1,4 @@
--- A step that splits a reply says all who get one beside its leader.
+-- The outcome of a step that splits a reply names all seconds.
 use Rattle.std.proofs.Common.{◌≡◌, ◌≤◌, ℕ, suc, ◌^◌, [], Bool, true, false, map, length, nat_lt, Some, sym, ap, ◌∙◌, arith}
 use Rattle.std.specs.Prelude.{if◌then◌else◌, slice_get}
 use Rattle.messages.specs.declared.message.Record.{Record}
@@ -60,7 +60,7 @@ module _ (m : MachineLists) (is : IsMachine m) (law : SecondsAreAnswered) where
   down_tells s w Poked e = tt
   down_tells s w Stalled e = tt
 
-  -- A step that splits a reply answers with the seconds of all records of the reply's leader.
+  -- The outcome of a step that splits a reply names the seconds of all records of the reply's leader.
   pub tells_all : (s : Step) (o : Outcome) → o ≡ outcome_of m.config m.code (machine_of m (λ p. [])) s → AnswersAllSeconds m s o
   tells_all (step.Turn p) o e = tt
   tells_all (step.Up s w) o e = tt

@@ -1,5 +1,4 @@
--- A replay that is cut in two, and runs that are joined: what processors have shown before changes nothing but what they
--- have shown.
+-- Replays are cut and runs are joined. What processors have shown before changes nothing but what they have shown.
 use Rattle.std.proofs.Common.{◌≡◌, ℕ, List, [], ◌∷◌, ◌++◌, refl, sym, ap, ◌∙◌, subst}
 use Rattle.flat_machine.specs.declared.config.Config.{Config}
 use Rattle.flat_machine.specs.declared.event.Event.{Event}
@@ -20,12 +19,12 @@ none p = []
 abbrev pub Alikes : Machine ObservedCore → Machine ObservedCore → Type 0
 Alikes M N = (fact : ℕ → List Event) → observe_as fact M ≡ observe_as fact N
 
--- a machine is reported what it has shown
+-- A machine that is given the events that it has shown is the same.
 own_is_observed : (M : Machine ObservedCore) → observe_as (events_of M) M ≡ M
 own_is_observed M = refl
 
 module _ (c : Config) (code : List ℕ) where
-  -- Machines that differ in shown events alone differ in these alone after the same step.
+  -- If two machines differ only in shown events, so do the machines after the same step.
   pub after_alikes : (M N : Machine ObservedCore) (s : Step) → Alikes M N → Alikes (after c code M s) (after c code N s)
   after_alikes M N s same fact =
       sym (after_alike c code M none fact s) ∙ ap (λ K. observe_as fact (after c code K s)) (same none) ∙ after_alike c code N none fact s
@@ -35,7 +34,7 @@ module _ (c : Config) (code : List ℕ) where
   all_alikes M N [] same = same
   all_alikes M N (s ∷ ss) same = all_alikes (after c code M s) (after c code N s) ss (after_alikes M N s same)
 
-  -- Machines that differ in shown events alone answer the same to a step.
+  -- If two machines differ only in shown events, a step has the same outcome on both.
   pub outcome_alike : (M N : Machine ObservedCore) (s : Step) → Alikes M N → outcome_of c code M s ≡ outcome_of c code N s
   outcome_alike M N s same = sym (outcome_same c code M none s) ∙ ap (λ K. outcome_of c code K s) (same none) ∙ outcome_same c code N none s
 
@@ -44,7 +43,7 @@ module _ (c : Config) (code : List ℕ) where
   none_alike M N (s ∷ ss) alike moves =
       (λ e. moves.0 (outcome_alike M N s alike ∙ e), none_alike (after c code M s) (after c code N s) ss (after_alikes M N s alike) moves.1)
 
-  -- The machine after some steps and more is the machine after the more steps from where the first ones lead.
+  -- The machine after steps and more steps is the one after the latter from where the former lead.
   pub all_joined : (M : Machine ObservedCore) (steps more : List Step) → all_after c code M (steps ++ more) ≡ all_after c code (all_after c code M steps) more
   unfolding all_after
   all_joined M [] more = refl
@@ -61,7 +60,7 @@ observed_alike : (m : MachineLists) (shown : ℕ → List Event) → Alikes (mac
 unfolding machine_of_parts
 observed_alike m shown fact = refl
 
--- a machine after a run, whatever it has shown, is the one that the run's definition says but for that
+-- A machine after a run differs from the theory's machine after the steps only in shown events.
 pub run_alike : (opening mid : MachineLists) (steps : List Step) → IsRun opening steps mid → (shown : ℕ → List Event) →
     Alikes (machine_of mid shown) (all_after opening.config opening.code (machine_of opening none) steps)
 run_alike opening mid steps r shown fact =
@@ -99,7 +98,7 @@ module _ (opening mid new : MachineLists) (steps more : List Step) (first : IsRe
       none_alike C opening.code M1 (machine_of mid none) more (λ fact. sym (run_alike opening mid steps first.run none fact))
       (none_behind C opening.code (machine_of opening none) steps more all.moved)
 
-  -- The steps that a replay takes after a machine that its first ones lead to are a replay from that machine.
+  -- The steps of a replay after a machine on its way are a replay from that machine.
   pub cut_at : IsReplay mid more new
   cut_at = record {
     run = record {
@@ -116,7 +115,7 @@ module _ (opening mid new : MachineLists) (steps more : List Step) (first : IsRe
 
 -- ---- runs, joined
 
--- A run, and a run from where it ends, are one run over the steps of both.
+-- A run followed by a run is one run over the steps of both.
 pub run_joined : (opening mid new : MachineLists) (steps more : List Step) → IsRun opening steps mid → IsRun mid more new → IsRun opening (steps ++ more) new
 run_joined opening mid new steps more first second = record {
   config = second.config ∙ first.config;
@@ -143,7 +142,7 @@ unfolding all_after
 none_joined c code M [] more first second = second
 none_joined c code M (s ∷ ss) more first second = (first.0, none_joined c code (after c code M s) ss more first.1 second)
 
--- A replay, and a replay from where it ends, are one replay over the steps of both.
+-- A replay followed by a replay is one replay over the steps of both.
 pub replay_joined : (opening mid new : MachineLists) (steps more : List Step) → IsReplay opening steps mid → IsReplay mid more new →
     IsReplay opening (steps ++ more) new
 replay_joined opening mid new steps more first second = record {

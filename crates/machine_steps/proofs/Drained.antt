@@ -40,7 +40,7 @@ named_again (theory.Down s w) = refl
 named_again (theory.Poke q) = refl
 
 module _ (m : MachineLists) (is : IsMachine m) where
-  -- what is searched for in the network is the machine's
+  -- The step found in the network is the next step of the machine's drain.
   pub step_is : network_step m.network ≡ drain_step m
   unfolding machine_of_parts
   step_is = ap (λ z. step_in z (net_of m.network)) is.sizes
@@ -48,7 +48,7 @@ module _ (m : MachineLists) (is : IsMachine m) where
   room : m.config.r < m.config.c
   room = is.limits.answers
 
-  -- the step that is named does something, and lowers the sum of the distances
+  -- The next step of a drain does something, and lowers the sum of the distances.
   pub goes_on : (s : Step) → drain_step m ≡ Some s → BringsNearer m s
   unfolding outcome_of after machine_of_parts
   goes_on s names =
@@ -94,15 +94,16 @@ no_tail : (xs ys : List Step) → length (xs ++ ys) ≤ length xs → xs ++ ys �
 no_tail xs [] few = append-nil xs
 no_tail xs (y ∷ ys) few = let all = length-append xs (y ∷ ys) in absurd (omega (arith, all, few))
 
--- A drain of at most this many steps has taken these. Those that are still to come are named from where the machine stands.
+-- A drain of at most `bound` steps has taken these. The steps to come are those of a drain from the machine as it is
+-- now.
 pub record IsUnderWay (old : MachineLists) (bound : ℕ) (done : List Step) (m : MachineLists) : Type 0 where
   -- how many steps may still come
   pub left : ℕ
-  -- with those that were taken they are the bound
+  -- taken and to come, they are the bound
   pub split : length done + left ≡ bound
   -- the steps that were taken are a run
   pub run : IsRun old done m
-  -- the steps of the drain are those that were taken, and those from where they lead
+  -- the steps of the drain are those taken, followed by those from where they lead
   pub rest : first_steps bound old ≡ done ++ map step_of
       (draining.drain_steps (sizes_of old.config) (program old.config old.code) left (all_after old.config old.code (machine_of old (λ p. [])) done))
 
@@ -118,7 +119,7 @@ module _ (old m : MachineLists) (bound : ℕ) (done : List Step) (d : IsUnderWay
   abbrev here : theory.Machine ObservedCore
   here = all_after old.config old.code M0 done
 
-  -- the step that is named is the theory's
+  -- The next step of the machine's drain is that of the theory's drain.
   same_next : theory.drain_step (sizes_of old.config) here ≡ draining.drain_step (sizes_of m.config) (machine_of m (λ p. []))
   unfolding machine_of_parts
   same_next = ap (draining.drain_step (sizes_of old.config)) (sym (d.run.after (λ p. [])))
@@ -149,7 +150,7 @@ module _ (old m : MachineLists) (bound : ℕ) (done : List Step) (d : IsUnderWay
   after_is st s e =
       ap after_named (sym (named_again st)) ∙ ap (λ t. after_named (named t)) e ∙ sym (all_after_more old.config old.code M0 done s)
 
-  -- If the next step of a drain is taken within its bound, the drain is under way with that step at the end.
+  -- If the next step of a drain is taken within its bound, the drain is under way with that step last.
   pub drain_goes_on : (s : Step) (o : Outcome) (new : MachineLists) → length done < bound → drain_step m ≡ Some s → IsStep m s o new →
       IsUnderWay old bound (done ++ s ∷ []) new
   drain_goes_on s o new within names is =
@@ -175,11 +176,11 @@ module _ (old m : MachineLists) (bound : ℕ) (done : List Step) (d : IsUnderWay
   ended : draining.drain_steps (sizes_of old.config) (program old.config old.code) d.left here ≡ [] → first_steps bound old ≡ done
   ended e = d.rest ∙ ap (λ xs. done ++ map step_of xs) e ∙ append-nil done
 
-  -- all steps were taken where no more is named
+  -- All steps are taken if no further step is named.
   pub all_taken : drain_step m ≡ None → first_steps bound old ≡ done
   all_taken none = ended (no_rest d.left (same_next ∙ some_none (draining.drain_step (sizes_of m.config) (machine_of m (λ p. []))) none))
 
-  -- and where as many were taken as there are
+  -- All steps are taken if as many were taken as there are.
   pub none_more : length (first_steps bound old) ≤ length done → first_steps bound old ≡ done
   none_more few =
       let rest : List Step = map step_of (draining.drain_steps (sizes_of old.config) (program old.config old.code) d.left here) in
@@ -193,7 +194,7 @@ module _ (old m : MachineLists) (bound : ℕ) (done : List Step) (d : IsUnderWay
       ap (λ u. all_after old.config old.code (theory.step (sizes_of old.config) (program old.config old.code) M u).machine (map step_of ts)) (named_again t)
       ∙ machine_is ts (theory.step (sizes_of old.config) (program old.config old.code) M t).machine
 
-  -- and a drain of more steps takes no other
+  -- the steps of a drain of at most n steps
   abbrev drained_from : ℕ → theory.Machine ObservedCore → List theory.Step
   drained_from n K = draining.drain_steps (sizes_of old.config) (program old.config old.code) n K
 
@@ -220,7 +221,7 @@ module _ (old m : MachineLists) (bound : ℕ) (done : List Step) (d : IsUnderWay
       by later None e = refl
       by later (Some st) e = ap (λ xs. st ∷ xs) (later st e)
 
-  -- no reference is open then, where the distances were no more together than the bound
+  -- After all steps, no reference is open if the sum of the distances is at most the bound.
   pub taken_idle : IsMachine old → first_steps bound old ≡ done → (f : ℕ → ℕ) → AreDistances (sizes_of old.config) M0 f → total f (2 ^ old.config.k) ≤ bound →
       IsIdle m
   unfolding machine_of_parts
@@ -242,11 +243,11 @@ module _ (old m : MachineLists) (done : List Step) (d : IsUnderWay old (drain_bo
     idle = idle;
   }
 
-  -- where no step is named
+  -- If no step is named, the machine is drained.
   pub drain_stops : drain_step m ≡ None → IsIdle m → IsDrained old (length done) m
   drain_stops none idle = is_drained (all_taken old m (drain_bound old.config) done d none) idle
 
-  -- where all steps were taken
+  -- If all steps are taken, the machine is drained.
   pub drain_is_whole : IsMachine old → drain_steps old ≡ done → IsDrained old (length done) m
   drain_is_whole is e =
       let M = machine_of old (λ p. []) in
@@ -264,7 +265,7 @@ drain_is_bounded m =
     let few = drain_is_short (sizes_of m.config) (program m.config m.code) (drain_bound m.config) (machine_of m (λ p. [])) in
     omega (arith, same, few)
 
--- no more than the distances together
+-- A drain takes at most as many steps as the sum of the distances.
 pub steps_short : (m : MachineLists) → IsMachine m → (n : ℕ) (f : ℕ → ℕ) → AreDistances (sizes_of m.config) (machine_of m (λ p. [])) f →
     total f (2 ^ m.config.k) ≤ n → n ≤ drain_bound m.config →
     length (drain_steps m) ≤ n

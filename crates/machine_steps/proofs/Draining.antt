@@ -1,4 +1,4 @@
--- Searching for the next step of a drain, and what a drain's steps do.
+-- The search for the next step of a drain, and what a drain's steps do.
 use Rattle.std.proofs.Common.{◌≡◌, ℕ, zero, suc, ◌+◌, ◌^◌, ◌<◌, ◌≤◌, Bool, true, false, List, [], ◌∷◌, Option}
 use Rattle.std.proofs.Common.{Some, None, is_some, ◌⊎◌, inl, inr, refl, sym, ap, ◌∙◌, subst, arith}
 use Rattle.std.proofs.lemmas.Bool.{cases_lt, true≢false}
@@ -16,7 +16,7 @@ pub any_is : {X : Type 0} (xs : List X) → is_some (slice_get xs 0) ≡ is_any 
 any_is [] = refl
 any_is (x ∷ xs) = refl
 
--- The first wire of a set is the least on which something stands, where the set has the wires of k stages on which something does.
+-- The first wire of a set is the least with a message, if the set has the wires of k stages that have one.
 pub first_is_least : {X : Type 0} (k : ℕ) (at : ℕ → List X) (s : ℕ) (o : Option ℕ) → k ≤ 6 →
     ((w : ℕ) → w < 2 ^ k → members s w ≡ is_some (slice_get (at w) 0)) → ((w : ℕ) → 2 ^ k ≤ w → members s w ≡ false)
     → IfSome o (IsFirst (members s) 0) → (o ≡ None → HasNoneIn (members s) 0 64) → o ≡ least (λ w. is_any (at w)) (2 ^ k)

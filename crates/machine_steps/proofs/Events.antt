@@ -1,4 +1,4 @@
--- The events that outcomes say of are those that processors have shown, and the flat machine shows the same.
+-- The events of which outcomes tell are those that processors have shown, and the flat machine shows the same.
 use Rattle.std.proofs.Common.{◌≡◌, ℕ, ◌^◌, ◌≤◌, cond, eqb, Bool, true, false, List, [], ◌∷◌, ◌++◌, length}
 use Rattle.std.proofs.Common.{nat_lt, inl, inr, Option, Some, None, refl, sym, ap, ◌∙◌, arith}
 use Rattle.std.specs.Prelude.{◌&&◌, map, if◌then◌else◌}
@@ -63,7 +63,7 @@ put_own : (f : ℕ → List Event) (p : ℕ) → put f p (f p) ≡ f
 put_own f p =
     fun_ext (λ q. elim (cases_eq q p) [ inl same ↦ ap (put f p (f p)) same ∙ put_same f p (f p) ∙ ap f (sym same) | inr other ↦ put_other f p (f p) q other ])
 
--- a processor that shows nothing
+-- If a processor shows nothing new, no processor does.
 put_silent : (f : ℕ → ObservedCore) (p : ℕ) (g : ObservedCore) → g.events ≡ (f p).events → shown_by (put f p g) ≡ shown_by f
 put_silent f p g e = put_shown f p g ∙ ap (put (shown_by f) p) e ∙ put_own (shown_by f) p
 
@@ -145,7 +145,7 @@ module _ (c : Config) (code : List ℕ) (M : Machine ObservedCore) where
 
 -- ---- a list of steps
 
--- The events shown before some steps, and those that their outcomes tell of, are those shown after the steps.
+-- The events shown before some steps, followed by those of which their outcomes tell, are those shown after the steps.
 pub steps_tell : (c : Config) (code : List ℕ) (M : Machine ObservedCore) (steps : List Step) →
     shown_after c code M steps (events_of M) ≡ events_of (all_after c code M steps)
 unfolding shown_after all_after
@@ -171,7 +171,7 @@ module _ (opening : MachineLists) (steps : List Step) (machine : MachineLists) (
   unserved_same : (p : ℕ) → h.served p ≡ None → events_of_steps opening steps p ≡ shown_in_order opening steps p
   unserved_same p none = events_are_these p ∙ ap (λ (g : ObservedCore). g.events) (explained.unserved p none)
 
-  -- what the flat machine has shown of a processor, with what it retires next
+  -- the flat machine has shown of a processor what the outcomes tell, and at most one event more
   abbrev Later : ℕ → Type 0
   Later p = (later : List Event) × (shown_in_order opening steps p ≡ events_of_steps opening steps p ++ later) × (length later ≤ 1)
 
@@ -192,7 +192,7 @@ module _ (opening : MachineLists) (steps : List Step) (machine : MachineLists) (
       let found = explained.served p place e in
       retired_later p (after_reply (next opening.config opening.code p (h.machine.core p).state) found.0) found.2
 
-  -- The outcomes of a run that begins where no reference is open tell of the events that the flat machine shows.
+  -- The outcomes of a run that begins with no open reference tell of the events that the flat machine shows.
   pub events_are_shown : AreShown opening steps machine
   events_are_shown = record {
     shut = λ p shut. unserved_same p (explained.shut p (sym (open_same opening machine steps r p) ∙ shut));

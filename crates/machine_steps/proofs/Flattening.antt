@@ -14,7 +14,7 @@ use Rattle.machine_steps.specs.Machines.{MachineLists, IsIdle, IsMachine}
 use Rattle.machine_steps.specs.Openings.{flat_state}
 use Rattle.machine_steps.proofs.Keeping.{count_small}
 
--- past its end a list has the other element
+-- Past its end, a list is read as the default.
 pub past_end : {X : Type 0} (xs : List X) (i : ℕ) (d : X) → length xs ≤ i → slice_index_or xs i d ≡ d
 past_end [] i d l = refl
 past_end (x ∷ xs) zero d l = absurd (omega arith)
@@ -26,7 +26,7 @@ none_past [] i l = refl
 none_past (x ∷ xs) zero l = absurd (omega arith)
 none_past (x ∷ xs) (suc i) l = none_past xs i (omega arith)
 
--- lists that are as long and have the same elements are the same
+-- Lists of the same length with the same elements are the same.
 pub same_list : {X : Type 0} (xs ys : List X) (d : X) → length xs ≡ length ys → ((i : ℕ) → slice_index_or xs i d ≡ slice_index_or ys i d) → xs ≡ ys
 same_list [] [] d n e = refl
 same_list [] (y ∷ ys) d n e = absurd (omega arith)
@@ -79,7 +79,7 @@ module _ (m : MachineLists) (is : IsMachine m) where
         };
       }
 
-  -- a processor past the last has nothing open
+  -- In an idle machine no processor is open, also none past the last.
   pub all_shut : IsIdle m → (p : ℕ) → open_at m.ports p ≡ false
   all_shut idle p = at (cases_lt p (2 ^ m.config.k))
     where
@@ -87,7 +87,7 @@ module _ (m : MachineLists) (is : IsMachine m) where
       at (inl within) = idle p within
       at (inr past) = ap (λ (port : PortState). port.is_open) (past_end m.ports p no_port (subst (λ n. n ≤ p) (sym is.ports.all) past))
 
-  -- a flat machine of this size with these processors, words and code is the one that they make
+  -- A flat machine of this size with these processors, words and code is the one that they make.
   pub flat_is : (F : FlatState) → HasSize m.config m.code F → ((p : ℕ) → (port_at m.ports p).core.state ≡ slice_index_or F.processors p no_processor)
       → ((i : ℕ) → word_at m.config.k m.modules i ≡ slice_index F.shared i) → flat_state m ≡ F
   flat_is F size states words =

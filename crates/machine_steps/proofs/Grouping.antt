@@ -1,4 +1,4 @@
--- Groups in a list, and what an outcome enters.
+-- Groups in a list, and how an outcome is entered.
 use Rattle.std.proofs.Common.{◌≡◌, ℕ, zero, suc, ◌+◌, ◌<◌, ◌≤◌, List, [], ◌∷◌, ◌++◌, length, ◌⊎◌, inl, inr, refl, sym, ap, ap₂, ◌∙◌, subst, arith}
 use Rattle.std.specs.Prelude.{map, slice_index_or, slice_set}
 use Rattle.std.proofs.lemmas.Bool.{cases_eq}
@@ -17,7 +17,7 @@ use Rattle.machine_steps.specs.Ordering.{no_group, group_in, count_in, IsEntered
 
 -- ---- a list of groups
 
--- one of them is another now
+-- If one group of the list is replaced, only that group changes.
 pub group_set : (gs : List (ArrayVec ℕ)) (p : ℕ) (v : ArrayVec ℕ) → p < length gs → group_in (slice_set gs p v) ≡ put (group_in gs) p v.items
 group_set gs p v within = fun_ext at
   where
@@ -34,19 +34,19 @@ count_set [] p v within = absurd (omega arith)
 count_set (g ∷ gs) zero v within = omega arith
 count_set (g ∷ gs) (suc p) v within = let rest = count_set gs p v (omega arith) in omega (arith, rest)
 
--- what is read at a place is the group there
+-- The group read at a place is the one there.
 pub group_at : (gs : List (ArrayVec ℕ)) (p : ℕ) (v : ArrayVec ℕ) → p < length gs → v ≡ slice_index_or gs p v → v.items ≡ group_in gs p
 group_at [] p v within e = absurd (omega arith)
 group_at (g ∷ gs) zero v within e = ap (λ (x : ArrayVec ℕ). x.items) e
 group_at (g ∷ gs) (suc p) v within e = group_at gs p v (omega arith) e
 
--- all who wait in one group wait
+-- No group has more processors than wait in all groups.
 pub group_counts : (gs : List (ArrayVec ℕ)) (p : ℕ) → length (group_in gs p) ≤ count_in gs
 group_counts [] p = omega arith
 group_counts (g ∷ gs) zero = omega arith
 group_counts (g ∷ gs) (suc p) = let rest = group_counts gs p in omega (arith, rest)
 
--- one more at the end
+-- If all groups are empty, they still are with an empty one appended.
 pub group_more : (gs : List (ArrayVec ℕ)) (v : ArrayVec ℕ) → v.items ≡ [] → ((p : ℕ) → group_in gs p ≡ []) → (p : ℕ) → group_in (gs ++ v ∷ []) p ≡ []
 group_more [] v none all zero = none
 group_more [] v none all (suc p) = refl
@@ -97,14 +97,14 @@ module _ (gs : List (ArrayVec ℕ)) (es : List Entry) where
         omega (arith, n, zero_now, more));
   }
 
-  -- what stood at a place is gone after the next write there
+  -- What was put at a place is gone after the next put there.
   put_put : (f : ℕ → List ℕ) (p : ℕ) (x y z : List ℕ) → put (put f p x) p z ≡ put (put f p y) p z
   put_put f p x y z = fun_ext (λ q. elim (cases_eq q p) [
     | inl e ↦ ap (put (put f p x) p z) e ∙ put_same (put f p x) p z ∙ sym (ap (put (put f p y) p z) e ∙ put_same (put f p y) p z)
     | inr n ↦ put_other (put f p x) p z q n ∙ put_other f p x q n ∙ sym (put_other (put f p y) p z q n ∙ put_other f p y q n)
   ])
 
-  -- After a combination the second leader's group waits at the end of the first one's, if no group has more than 64.
+  -- After a combination, the second leader's group waits at the end of the first's, if no group has more than 64.
   pub enters_combined : (p q : ℕ) (v w : ArrayVec ℕ) → p < length gs → q < length gs →
       (length (group_in gs p) + length (group_in gs q) ≤ 64 → v.items ≡ group_in gs p ++ group_in gs q) → w.items ≡ [] →
       ((i : ℕ) → length (joined (group_in gs) p q i) ≤ 64)

@@ -52,7 +52,7 @@ with_port m net p x = record { config = m.config; image = m.image; network = net
 abbrev pub with_module : MachineLists → NetworkLists → ℕ → List ℕ → MachineLists
 with_module m net i words = record { config = m.config; image = m.image; network = net; ports = m.ports; modules = slice_set m.modules i words; code = m.code }
 
--- a step that leaves a machine
+-- The step is taken, and leaves a machine.
 abbrev pub Done : MachineLists → Step → Outcome → MachineLists → Type 0
 Done m s o m' = IsStep m s o m' × IsMachine m'
 
@@ -63,7 +63,7 @@ module _ (m : MachineLists) (is : IsMachine m) where
   pub k_is : m.network.k ≡ m.config.k
   k_is = ap (λ (z : Sizes). z.k) is.sizes
 
-  -- nothing is done
+  -- A step that stalls leaves the machine as it is.
   same : (s : Step) → IsStepOf c m.code (net_of m.network) m.ports m.modules s Stalled (net_of m.network) m.ports m.modules → IsStep m s Stalled m
   same s st = record { config = refl; image = refl; code = refl; cores = λ p. refl; step = st }
 
@@ -85,7 +85,7 @@ module _ (m : MachineLists) (is : IsMachine m) where
 
   -- ---- moves
 
-  -- there are as many wires as ports
+  -- There are as many wires as ports.
   pub on_a_wire : (w : ℕ) → w < length m.ports → w < 2 ^ m.network.k
   on_a_wire w within = subst (λ k. w < 2 ^ k) (sym k_is) (subst (λ n. w < n) is.ports.all within)
 
@@ -346,11 +346,11 @@ module _ (m : MachineLists) (is : IsMachine m) where
         (place_there c m.modules is.modules number word 0 is_number there)
         (becomes ∙ ap (slice_set (slice_index_or m.modules number []) (word / 2 ^ c.k)) (means old old_small)))
 
--- what is said of a machine is said of the same machine
+-- A step of a machine is a step of an equal machine, with an equal outcome.
 pub step_by : {m now new : MachineLists} {s : Step} {o o' : Outcome} → m ≡ now → o' ≡ o → IsStep m s o new → IsStep now s o' new
 step_by {m} {now} {new} {s} {o} {o'} e f st = subst (λ a. IsStep a s o' new) e (subst (λ b. IsStep m s b new) (sym f) st)
 
--- A step that leaves a machine as it is does so to the same machine in other words.
+-- If a step leaves a machine as it is, it does so to an equal machine.
 pub same_by : {m now : MachineLists} {s : Step} {o : Outcome} → m ≡ now → IsStep m s o m → IsStep now s o now
 same_by {m} {now} {s} {o} e st = subst (λ a. IsStep a s o a) e st
 
@@ -361,7 +361,7 @@ same_default [] i d e within = absurd (omega arith)
 same_default (x ∷ xs) zero d e within = refl
 same_default (x ∷ xs) (suc i) d e within = same_default xs i d e (omega arith)
 
--- What is read at a place within a list is the element there, whatever is read past the end.
+-- What is read at a place within a list is the element there, with any default.
 pub found : {X : Type 0} (xs : List X) (i place : ℕ) (d x : X) → place ≡ i → i < length xs → x ≡ slice_index_or xs place x → x ≡ slice_index_or xs i d
 found xs i place d x same within is = is ∙ ap (λ j. slice_index_or xs j x) same ∙ same_default xs i x d within
 
@@ -380,7 +380,7 @@ module _ (m : MachineLists) (is : IsMachine m) (p place : ℕ) (same : place ≡
     port_refers opened = subst (λ code. IsReference (turn port code)) (sym code_is)
         (subst (λ (q : PortState). IsReference (turn q m.code)) (sym port_is) (turn_refers m is p within opened))
 
-    -- A turn that is begun at that port is a step, and leaves a machine.
+    -- A turn that the port at that place begins is a step, and leaves a machine.
     pub begin_there : (port' : PortState) (o : Outcome) (net' : NetworkLists) → (port_at m.ports p).is_open ≡ false →
         is_running (port_at m.ports p).core.state.status ≡ true →
         port' ≡ (begun port code (turn port code)).1 → IsBegun p port code (turn port code) (net_of m.network) o (net_of net') →
@@ -392,7 +392,7 @@ module _ (m : MachineLists) (is : IsMachine m) (p place : ℕ) (same : place ≡
         (subst (λ code. IsBegun p (port_at m.ports p) code (turn (port_at m.ports p) code) (net_of m.network) o (net_of net')) code_is
         (subst (λ (q : PortState). IsBegun p q code (turn q code) (net_of m.network) o (net_of net')) port_is b)) sizes)
 
-    -- A turn that is finished at that port is a step, and leaves a machine.
+    -- A turn that the port at that place finishes is a step, and leaves a machine.
     pub finish_there : (port' : PortState) (o : Outcome) (net' : NetworkLists) → (port_at m.ports p).is_open ≡ true →
         IsFinishedBy p (turn port code) port (net_of m.network) (slice_get ((net_of m.network).replies 0 p) 0) o port' (net_of net') →
         network.sizes_of net' ≡ network.sizes_of m.network →
@@ -403,7 +403,7 @@ module _ (m : MachineLists) (is : IsMachine m) (p place : ℕ) (same : place ≡
         (subst (λ code. IsFinishedBy p (turn (port_at m.ports p) code) (port_at m.ports p) (net_of m.network) reply o port' (net_of net')) code_is
         (subst (λ (q : PortState). IsFinishedBy p (turn q code) q (net_of m.network) reply o port' (net_of net')) port_is f)) sizes)
 
-  -- A poke of a register at that port, lawful or not, is a step, and leaves a machine.
+  -- A poke of a register at the port at that place, lawful or not, is a step, and leaves a machine.
   pub register_there : (register value : ℕ) (port' : PortState) (o : Outcome) (written : Bool) → IsIdle m → AreHome m → value < 2 ^ 32 →
       written ≡ is_lawful_register register value →
       port' ≡ (if is_lawful_register register value then with_state port (with_poked_register register value port.core.state) else port) →
@@ -414,7 +414,7 @@ module _ (m : MachineLists) (is : IsMachine m) (p place : ℕ) (same : place ≡
       (becomes ∙ ap (λ (q : PortState). if is_lawful_register register value then with_state q (with_poked_register register value q.core.state)
       else q) port_is) answers)
 
-  -- A poke of local memory at that port, lawful or not, is a step, and leaves a machine.
+  -- A poke of local memory at the port at that place, lawful or not, is a step, and leaves a machine.
   pub local_there : (address value : ℕ) (port' : PortState) (o : Outcome) (written : Bool) → IsIdle m → AreHome m → value < 256 → written ≡ in_local address →
       port' ≡ (if in_local address then with_state port (with_poked_byte address value port.core.state) else port) →
       o ≡ (if written then Poked else Stalled) → Done m (step.Poke (poke.Local p address value)) o (with_port m m.network place port')
@@ -466,7 +466,7 @@ module _ (m : MachineLists) (is : IsMachine m) (i place : ℕ) (same : place ≡
       (apply phi (slice_index xs ((address - 2 ^ 31) / 4 / 2 ^ m.config.k)))) words_are)
       (subst (λ (xs : List ℕ). apply phi (slice_index xs ((address - 2 ^ 31) / 4 / 2 ^ m.config.k)) < 2 ^ 32) words_are below))
 
-  -- the word at a place that there is
+  -- A shared word is at its place in its module.
   pub word_there_is : (word : ℕ) → word < m.config.shared_words → i ≡ word % 2 ^ m.config.k →
       slice_get words (word / 2 ^ m.config.k) ≡ Some (word_at m.config.k m.modules word)
   word_there_is word inside number =

@@ -1,4 +1,4 @@
--- What holds of every machine is kept where a port, a module or the network changes.
+-- What holds of every machine still holds if a port, a module or the network changes.
 use Rattle.std.proofs.Common.{◌≡◌, ℕ, ◌/◌, ◌%◌, ◌^◌, ◌<◌, ◌≤◌, Bool, true, false, List, [], length, Some, ◌⊎◌}
 use Rattle.std.proofs.Common.{inl, inr, refl, sym, ap, ◌∙◌, subst, arith, get_or-set_same, get_or-set_other}
 use Rattle.std.specs.Prelude.{slice_index_or, slice_set}
@@ -42,8 +42,8 @@ module _ (c : Config) (ports : List PortState) (all : ArePorts c ports) (p : ℕ
   there : (q : ℕ) → (q ≡ p → ⊥) → port_at (slice_set ports p x) q ≡ port_at ports q
   there q other = get_or-set_other ports p q x no_port other
 
-  -- The ports stay what they must be if a port gets a core of the same setting that has words, and of which
-  -- nothing is left if it is away.
+  -- `ArePorts` still holds if a port gets a core of the same setting that has words in range, and of which nothing is
+  -- left if it is away.
   pub ports_set : x.core.setting ≡ (port_at ports p).core.setting → HasWords x.core.state →
       (is_away x.core.state ≡ true → x.core.state ≡ no_processor) → ArePorts c (slice_set ports p x)
   ports_set setting words rest = record {
@@ -70,7 +70,7 @@ module _ (c : Config) (ports : List PortState) (all : ArePorts c ports) (p : ℕ
       words_at q (inl e) = subst (λ (y : PortState). HasWords y.core.state) (sym here ∙ ap (port_at (slice_set ports p x)) (sym e)) words
       words_at q (inr other) = subst (λ (y : PortState). HasWords y.core.state) (sym (there q other)) (all.words q)
 
-  -- so it is where the core stays at home
+  -- `ArePorts` still holds if the new core is at home.
   pub home_set : x.core.setting ≡ (port_at ports p).core.setting → HasWords x.core.state → is_away x.core.state ≡ false → ArePorts c (slice_set ports p x)
   home_set setting words home = ports_set setting words (λ e. absurd (true≢false (sym e ∙ home)))
 
@@ -85,11 +85,11 @@ module _ (c : Config) (ports : List PortState) (all : ArePorts c ports) (p : ℕ
       at true e = absurd (some (all.rest p e))
       at false e = e
 
-  -- a processor runs only where its core is,
+  -- A processor that runs has its core at home.
   pub home_running : is_running (port_at ports p).core.state.status ≡ true → is_away (port_at ports p).core.state ≡ false
   home_running runs = home_unless (λ e. true≢false (sym runs ∙ ap (λ (s : Processor). is_running s.status) e))
 
-  -- and refers to a word only there
+  -- A processor whose next turn is a reference has its core at home.
   pub home_referring : (code : List ℕ) → IsReference (turn (port_at ports p) code) → is_away (port_at ports p).core.state ≡ false
   home_referring code r = home_unless (λ e. no_reference (port_at ports p).core.setting code
       (subst (λ s. IsReference (turn_of (port_at ports p).core.setting code s)) e r))
@@ -108,7 +108,7 @@ module _ (c : Config) (code : List ℕ) (limits : IsWithinLimits c) (bytes : Are
       subst (λ s. LeavesWords (turn_of s code (port_at ports p).core.state)) (sym (all.settings p within))
       (turn_words (setting_of c p) code (port_at ports p).core.state (omega arith) (omega arith) bytes (all.words p))
 
-  -- where it is begun
+  -- `ArePorts` still holds after a port begins its turn.
   pub begun_kept : (port' : PortState) → port' ≡ (begun (port_at ports p) code (turn (port_at ports p) code)).1 →
       is_running (port_at ports p).core.state.status ≡ true → ArePorts c (slice_set ports p port')
   begun_kept port' is runs = subst (λ y. ArePorts c (slice_set ports p y)) (sym is) (by (turn (port_at ports p) code) refl leaves)
@@ -126,7 +126,7 @@ module _ (c : Config) (code : List ℕ) (limits : IsWithinLimits c) (bytes : Are
           home_set c ports all p within (begun (port_at ports p) code (Stops cause)).1 refl
           (record { pc = old.pc; registers = old.registers; local = old.local }) home
 
-  -- where it is finished with a word
+  -- `ArePorts` still holds after a port finishes its turn with a word.
   pub finished_kept : (port' : PortState) (found : ℕ) (done : Processor × retirement.Retired) → found < 2 ^ 32 →
       IsReference (turn (port_at ports p) code) → after_reply (turn (port_at ports p) code) found ≡ Some done →
       port' ≡ record { core = record { setting = (port_at ports p).core.setting; state = done.0 }; is_open = false } → ArePorts c (slice_set ports p port')
@@ -161,7 +161,7 @@ module _ (c : Config) (modules : List (List ℕ)) (all : AreModules c modules) (
   pub place_there : word / 2 ^ c.k < length (slice_index_or modules number [])
   place_there = subst (λ n. word / 2 ^ c.k < n) (sym (all.places number within)) (quotient_small word c.shared_words (2 ^ c.k) (pow_pos c.k) inside)
 
-  -- The modules stay what they must be if a shared word becomes another word.
+  -- `AreModules` still holds if a shared word becomes another word.
   pub modules_set : v < 2 ^ 32 → AreModules c (slice_set modules number (slice_set (slice_index_or modules number []) (word / 2 ^ c.k) v))
   modules_set small =
       let w = words_set c.k modules number word v is module_there place_there in
@@ -188,12 +188,12 @@ module _ (c : Config) (modules : List (List ℕ)) (all : AreModules c modules) (
 
 -- ---- the machine
 
--- a step's machine is one, where its parts are
+-- a machine with this configuration, code and image
 module _ (config : Config) (code : List ℕ) (image : ImageContents) where
   abbrev machine : NetworkLists → List PortState → List (List ℕ) → MachineLists
   machine net ports modules = record { config = config; image = image; network = net; ports = ports; modules = modules; code = code }
 
-  -- What a step leaves is a machine if the network keeps its sizes and the ports and modules are what they must be.
+  -- After a step, `IsMachine` still holds if the network keeps its sizes, and `ArePorts` and `AreModules` hold.
   pub parts_kept : (net net' : NetworkLists) (ports ports' : List PortState) (modules modules' : List (List ℕ)) (s : Step) (o : Outcome) →
       IsMachine (machine net ports modules) →
       IsStepOf config code (net_of net) ports modules s o (net_of net') ports' modules' → network.sizes_of net' ≡ network.sizes_of net →

@@ -1,4 +1,4 @@
--- A core is taken out of a machine, or put into it, and what is read where cores are at home.
+-- A core is taken out of a machine, or put into it, and what is read if cores are at home.
 use Rattle.std.proofs.Common.{◌≡◌, ℕ, ◌^◌, ◌<◌, Bool, true, false, List, [], length, nat_lt, refl, sym, ap, ap₂, ◌∙◌, subst, lt-ltb, ltb-true, arith}
 use Rattle.std.specs.Prelude.{◌==◌, ◌&&◌, not, slice_index_or, slice_set}
 use Rattle.std.proofs.lemmas.Bool.{true≢false}
@@ -23,7 +23,7 @@ module _ (m : MachineLists) (is : IsMachine m) (p : ℕ) (within : p < 2 ^ m.con
   inside : p < length m.ports
   inside = subst (λ n. p < n) (sym is.ports.all) within
 
-  -- a processor whose core is away has no reference open
+  -- A processor whose core is away has no reference open.
   pub away_shut : away_at m p ≡ true → open_at m.ports p ≡ false
   away_shut away = by (open_at m.ports p) refl
     where
@@ -43,8 +43,8 @@ module _ (m : MachineLists) (is : IsMachine m) (p : ℕ) (within : p < 2 ^ m.con
         ap₂ (λ (f : ℕ → ObservedCore) (b : ℕ → Bool). record { net = net_of m.network; mem = word_at m.config.k m.modules; core = f; is_open = b })
         (core_changed m.ports p port inside shown) (open_kept m.ports p port inside refl)
 
-    -- A machine with another core at a port is a machine if no reference is open there, the setting is the same,
-    -- the core has words, and nothing is left of it if it is away.
+    -- `IsMachine` still holds with another core at a port, if no reference is open there, the setting is the same, the
+    -- core's words are in range, and nothing is left of it if it is away.
     pub put_is_machine : open_at m.ports p ≡ false → core.setting ≡ (port_at m.ports p).core.setting → HasWords core.state →
         (is_away core.state ≡ true → core.state ≡ no_processor) → IsMachine (with_core_at m p core)
     unfolding machine_of_parts
@@ -60,9 +60,9 @@ module _ (m : MachineLists) (is : IsMachine m) (p : ℕ) (within : p < 2 ^ m.con
           shut);
     }
 
--- ---- what a call leaves that changes the core of a port
+-- ---- after a call that changes the core of a port
 
--- where a core has registers, it is at home
+-- A core that has registers is at home.
 pub home_by_registers : (core : CoreState) → length core.state.registers ≡ 32 → is_away core.state ≡ false
 home_by_registers core e = ap (λ n. n == 0) e
 
@@ -81,12 +81,13 @@ module _ (m : MachineLists) (is : IsMachine m) (p place : ℕ) (same : place ≡
         record { config = m.config; image = m.image; network = m.network; ports = slice_set m.ports i q; modules = m.modules; code = m.code }) same
         (becomes ∙ ap (λ (q : PortState). record q { core = core }) found_port)
 
-    -- a core is put in
+    -- The machine after a core is put in is the theory's machine with that core.
     pub put_there : (shown : ℕ → List Event) →
         machine_of left shown ≡ cores.with_core (machine_of m shown) p (record { state = core.state; events = shown p })
     put_there shown = ap (λ (n : MachineLists). machine_of n shown) left_is ∙ core_put m is p within core shown
 
-    -- If a core of the processor's setting, with words and 32 registers, is put where one is away, a machine is left.
+    -- `IsMachine` still holds if a core of the processor's setting, with words in range and 32 registers, is put in for
+    -- one that is away.
     pub put_keeps : away_at m p ≡ true → core.setting ≡ setting_of m.config p → HasWords core.state → length core.state.registers ≡ 32 → IsMachine left
     put_keeps away setting words registers = subst IsMachine (sym left_is)
         (put_is_machine m is p within core (away_shut m is p within away) (setting ∙ sym (is.ports.settings p within)) words
@@ -99,12 +100,12 @@ module _ (m : MachineLists) (is : IsMachine m) (p place : ℕ) (same : place ≡
     becomes_none : port' ≡ record port { core = none }
     becomes_none = becomes ∙ ap (λ (q : PortState). record port { core = record q.core { state = no_processor } }) found_port
 
-    -- a core is taken out
+    -- The machine after a core is taken out is the theory's machine without that core.
     pub taken_there : (shown : ℕ → List Event) → machine_of left shown ≡ cores.without (machine_of m shown) p
     unfolding machine_of_parts
     taken_there shown = put_there none becomes_none shown
 
-    -- If a core is taken out where no reference is open, a machine is left.
+    -- `IsMachine` still holds if a core is taken out of a port with no open reference.
     pub taken_keeps : port.is_open ≡ false → IsMachine left
     taken_keeps shut = subst IsMachine (sym (left_is none becomes_none))
         (put_is_machine m is p within none (ap (λ (q : PortState). q.is_open) (sym found_port) ∙ shut) refl
@@ -112,7 +113,7 @@ module _ (m : MachineLists) (is : IsMachine m) (p place : ℕ) (same : place ≡
 
 -- ---- what is read of cores
 
--- where no core is away, each processor is there
+-- If no core is away, each processor is there.
 pub home_there : (m : MachineLists) → AreHome m → (p : ℕ) → is_there m p ≡ nat_lt p (2 ^ m.config.k)
 home_there m home p = by (nat_lt p (2 ^ m.config.k)) refl
   where
@@ -120,6 +121,6 @@ home_there m home p = by (nat_lt p (2 ^ m.config.k)) refl
     by true e = ap not (home p (ltb-true p (2 ^ m.config.k) e))
     by false e = refl
 
--- and so is each that is not read as one whose core is away
+-- A processor whose state is not that of a core that is away is there.
 pub there_unless : (m : MachineLists) → IsMachine m → (p : ℕ) → p < 2 ^ m.config.k → ((port_at m.ports p).core.state ≡ no_processor → ⊥) → is_there m p ≡ true
 there_unless m is p within some = ap₂ (λ a b. a && not b) (lt-ltb p (2 ^ m.config.k) within) (home_unless m.config m.ports is.ports p some)

@@ -15,13 +15,13 @@ number_of_byte bytes place = omega arith
 pub byte_is_aligned : (address : ℕ) → is_aligned 1 address ≡ true
 byte_is_aligned address = let e : address % 1 ≡ 0 = omega arith in rw e refl
 
--- what a load of one byte gives
+-- A load of one byte gives the byte at the address, if it is inside.
 byte_loaded : (bytes : List ℕ) (address : ℕ) (inside : Bool) →
     result_ok (load_of bytes 1 address inside) ≡ (if inside then Some (slice_index bytes (address % 2 ^ 16)) else None)
 byte_loaded bytes address true = rw (byte_is_aligned address) (ap (λ b. Some b) (number_of_byte bytes (address % 2 ^ 16)))
 byte_loaded bytes address false = rw (byte_is_aligned address) refl
 
--- the byte of a processor that there is
+-- A byte of a processor's core is the byte of its local memory, if the processor is there.
 pub byte_of_core : (is_there inside : Bool) (core found : CoreState) (address : ℕ) → Some found ≡ (if is_there then Some core else None) →
     result_ok (load_of found.state.local 1 address inside) ≡ (if is_there && inside then Some (slice_index core.state.local (address % 2 ^ 16)) else None)
 byte_of_core true inside core found address e =

@@ -1,4 +1,4 @@
--- One processor alone has a reference open, and a drain brings it back: its entry comes to stand in the order, and no other.
+-- One processor alone has a reference open, and a drain retires it: only its entry is added to the order.
 use Rattle.std.proofs.Common.{◌≡◌, ℕ, suc, ◌%◌, ◌<◌, Bool, true, false, List, [], ◌∷◌, ◌++◌, length, drop, map}
 use Rattle.std.proofs.Common.{nat_lt, ◌⊎◌, inl, inr, Option, Some, None, refl, sym, ap, ap₂, ◌∙◌, subst, lt-ltb}
 use Rattle.std.specs.Prelude.{if◌then◌else◌}
@@ -31,7 +31,7 @@ use Rattle.machine_theory.specs.Order.{Passed}
 
 -- ---- the step that a drain takes next
 
--- a turn is one of a processor with a reply on its wire
+-- The step is no poke, and a turn only of a processor with a reply on its wire.
 abbrev pub Named : {Core : Type 0} → Machine Core → Step → Type 0
 Named M (Turn q) = is_any (M.net.replies 0 q) ≡ true
 Named M (Poke q) = ⊥
@@ -80,13 +80,13 @@ module _ (Core : Type 0) (M : Machine Core) where
 
 -- ---- a turn where no reference is open
 
--- it stalls, is one of its own, or sends a request
+-- The turn stalls, is an advance, or sends a request.
 abbrev pub FirstTurn : {Core : Type 0} → Sizes → Program Core → Machine Core → ℕ → Type 0
 FirstTurn z P M p =
     ((step z P M (Turn p) ≡ stalled M) × ((nat_lt p (wires z) ≡ false) ⊎ (P.kind p (M.core p) ≡ Rests)))
     ⊎ ((step z P M (Turn p) ≡ advance P M p) ⊎ (step z P M (Turn p) ≡ issue P M p))
 
--- If a processor has no reference open, its turn stalls, is one of its own, or sends a request.
+-- If a processor has no reference open, its turn stalls, is an advance, or sends a request.
 pub first_turn : {Core : Type 0} → (z : Sizes) (P : Program Core) (M : Machine Core) (p : ℕ) → M.is_open p ≡ false → FirstTurn z P M p
 first_turn {Core} z P M p shut = by (nat_lt p (wires z)) refl (P.kind p (M.core p)) refl
   where
@@ -102,7 +102,7 @@ first_turn {Core} z P M p shut = by (nat_lt p (wires z)) refl (P.kind p (M.core 
 -- ---- a reference alone
 
 module _ (Core : Type 0) (z : Sizes) (P : Program Core) (p : ℕ) where
-  -- p's request is under way: no reply is yet, and the order has no entry
+  -- p's request is on its way: there is no reply yet, and the order is empty
   pub record IsAsking (h : Passed Core) : Type 0 where
     -- p has a reference open
     pub opened : h.machine.is_open p ≡ true
@@ -113,7 +113,7 @@ module _ (Core : Type 0) (z : Sizes) (P : Program Core) (p : ℕ) where
     -- the order has no entry
     pub order : h.order ≡ []
 
-  -- it was served: no request is under way any more, and the order is p's entry
+  -- p's request was served: there is no request any more, and the order is p's entry
   pub record IsAnswered (h : Passed Core) : Type 0 where
     -- no request is in the network
     pub no_request : (d w : ℕ) (x : Request) → In x (h.machine.net.requests d w) → ⊥
@@ -133,7 +133,7 @@ module _ (Core : Type 0) (z : Sizes) (P : Program Core) (p : ℕ) where
     pub steady : Steady z P h.machine role
     -- no other processor has a reference open
     pub others : OthersShut h.machine
-    -- p's request is under way, or was served
+    -- p's request is on its way, or was served
     pub stage : Stage h
 
   -- ---- it begins
@@ -168,7 +168,7 @@ module _ (Core : Type 0) (z : Sizes) (P : Program Core) (p : ℕ) where
     leads_request : (d w : ℕ) (x : Request) → In x (M.net.requests d w) → x.leader ≡ p
     leads_request d w x m = is_p x.leader (Asking d) (lone.steady.placed.requests d w x m).asks (λ c. cc)
 
-    -- with one request taken, none is left
+    -- After one request is taken, there is none.
     none_left : (d w : ℕ) (x : Request) (rest : List Request) → M.net.requests d w ≡ x ∷ rest → (d' w' : ℕ) (b : Request) →
         In b (put2 M.net.requests d w rest d' w') → ⊥
     none_left d w x rest e d' w' b m =
@@ -301,15 +301,15 @@ module _ (Core : Type 0) (z : Sizes) (P : Program Core) (p : ℕ) where
 
     -- ---- p's turn
 
-    -- the reply on its wire is p's, and p retires
+    -- The reply on a wire is p's, and p retires.
     pub record Retires (q : ℕ) (r : Result Core) : Type 0 where
       -- the turn is p's
       pub is : q ≡ p
       -- no other processor has a reference open after it
       pub others : OthersShut r.machine
-      -- and p has none any more
+      -- and p has none
       pub shut : r.machine.is_open p ≡ false
-      -- p's request is under way, or was served
+      -- p's request is on its way, or was served
       pub stage : Stage (passed_by P.entry h r)
 
     taken_stage : (q : ℕ) (y : Reply) (ys : List Reply) → IsAnswered h → Stage (passed_by P.entry h (retire_from P M q (y ∷ ys)))
@@ -374,11 +374,11 @@ module _ (Core : Type 0) (z : Sizes) (P : Program Core) (p : ℕ) where
     kept (Serve m) named = (fine_kept (Serve m) (serve_fine m), ap (λ (b : ℕ → Bool). b p) (serve_fine m).0)
     kept (Down s w) named = (fine_kept (Down s w) (down_fine s w), ap (λ (b : ℕ → Bool). b p) (down_fine s w).0)
 
-    -- After the next step of a drain p's reference is alone still, and only p's own turn closes it.
+    -- After the next step of a drain, p's reference is still the only one, and only p's own turn closes it.
     pub goes_on : (st : Step) → drain_step z M ≡ Some st → IsLone (pass z P h st) × After st
     goes_on st e = kept st (drain_named Core M z st e)
 
-    -- as long as a step is named, p is open
+    -- If a drain has a next step, p is open.
     pub is_open_yet : (st : Step) → drain_step z M ≡ Some st → M.is_open p ≡ true
     is_open_yet st e = elim (cases_Bool (M.is_open p)) [ inl o ↦ o | inr shut ↦ absurd (no_more shut) ]
       where

@@ -1,4 +1,5 @@
--- Whom the network does not name: a processor that is not open, and who leads the request that a module has just taken.
+-- Processors that the network does not name: one that is not open, and the leader of the request that a module has just
+-- taken.
 use Rattle.std.proofs.Common.{◌≡◌, ℕ, suc, ◌<◌, ◌^◌, false, List, [], ◌∷◌, ◌⊎◌, inl, inr, Option, Some, None, refl, sym, ap, ◌∙◌, subst, arith}
 use Rattle.std.specs.Prelude.{drop, slice_get}
 use Rattle.messages.specs.declared.message.Request.{Request}
@@ -21,7 +22,7 @@ module _ (m : MachineLists) (is : IsMachine m) where
   path : ℕ → ℕ → ℕ
   path = path_of (sizes_of m.config) (program m.config m.code) (machine_of m (λ q. [])).core
 
-  -- a processor that is not open has no role, and so leads nothing and is nobody's second
+  -- The network does not name a processor that is not open.
   pub not_named : (p : ℕ) → (port_at m.ports p).is_open ≡ false → Names (net_of m.network) p → ⊥
   unfolding machine_of_parts path
   not_named p shut named =
@@ -39,7 +40,7 @@ module _ (m : MachineLists) (is : IsMachine m) where
         ]
       ]
 
-  -- the first request of a module stands nowhere else, nor does anything that its leader leads
+  -- After a module takes its first request, the network does not name the request's leader.
   pub taken_unnamed : (i : ℕ) → MayReply m.network i
   unfolding machine_of_parts module_taken path
   taken_unnamed i x first = by ((net_of m.network).requests m.network.k i) refl first

@@ -1,4 +1,4 @@
--- All machines that open on one image are one: they stand alike after the same steps, and are drained of the same then.
+-- All machines that open on one image are the same: after the same steps they are alike, and have the same drain.
 use Rattle.std.proofs.Common.{◌≡◌, ℕ, List, [], refl, sym, ap, ◌∙◌}
 use Rattle.std.specs.Prelude.{map}
 use Rattle.flat_machine.specs.declared.config.Config.{Config}
@@ -14,7 +14,7 @@ use Rattle.machine_steps.proofs.Stalling.{observe_as}
 use Rattle.machine_steps.specs.Runs.{all_after, events_of, IsOpening, IsReplay}
 use Rattle.machine_steps.specs.Draining.{drain_bound, drain_steps, step_of}
 
--- a drain takes the same steps on machines that are one
+-- A drain takes the same steps on machines that are the same.
 same_drain : (m n : MachineLists) → m.config ≡ n.config → m.code ≡ n.code → machine_of m (λ p. []) ≡ machine_of n (λ p. []) → drain_steps m ≡ drain_steps n
 same_drain m n config code machine i =
     map step_of (draining.drain_steps (sizes_of (config i)) (program (config i) (code i)) (drain_bound (config i)) (machine i))
@@ -32,7 +32,7 @@ module _ (c : Config) (image : ImageContents) (first second : MachineLists) (one
   pub same_code : first.code ≡ second.code
   same_code = ap (λ (s : FlatState). s.code) one.flat ∙ sym (ap (λ (s : FlatState). s.code) two.flat)
 
-  -- Two machines that open on one image are the same in the theory, whatever they have shown.
+  -- Two machines that open on one image are the same in the theory, with any events shown.
   pub same_machine : (shown : ℕ → List Event) → machine_of first shown ≡ machine_of second shown
   same_machine shown = one.machine shown ∙ sym (two.machine shown)
 
@@ -41,14 +41,14 @@ module _ (c : Config) (image : ImageContents) (first second : MachineLists) (one
       all_after first.config first.code (machine_of first shown) steps ≡ all_after second.config second.code (machine_of second shown) steps
   alike steps shown i = all_after (same_config i) (same_code i) (same_machine shown i) steps
 
-  -- a machine after some steps, reported nothing of what was shown
+  -- A machine after a replay, with nothing shown, is the theory's machine after the steps, with nothing shown.
   there : (opening m : MachineLists) (steps : List Step) → IsReplay opening steps m →
       machine_of m (λ p. []) ≡ observe_as (λ p. []) (all_after opening.config opening.code (machine_of opening (λ p. [])) steps)
   there opening m steps r =
       sym (nothing_is_observed m (events_of (all_after opening.config opening.code (machine_of opening (λ p. [])) steps)))
       ∙ ap (observe_as (λ p. [])) (r.run.after (λ p. []))
 
-  -- After replays of the same steps, two machines that opened on one image have the same steps of a drain.
+  -- After replays of the same steps, two machines that opened on one image have the same drain.
   pub drained_alike : (steps : List Step) (m n : MachineLists) → IsReplay first steps m → IsReplay second steps n → drain_steps m ≡ drain_steps n
   drained_alike steps m n r s =
       same_drain m n (r.run.config ∙ same_config ∙ sym s.run.config) (r.run.code ∙ same_code ∙ sym s.run.code)

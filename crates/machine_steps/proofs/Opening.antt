@@ -1,4 +1,4 @@
--- What a new machine is made of.
+-- The parts of a new machine.
 use Rattle.std.proofs.Common.{◌≡◌, ℕ, zero, suc, ◌+◌, ◌-◌, ◌*◌, ◌/◌, ◌%◌, ◌^◌, ◌<◌, ◌≤◌, true, false, List}
 use Rattle.std.proofs.Common.{[], ◌∷◌, ◌++◌, length, ◌⊎◌, inl, inr, refl, sym, ap, ◌∙◌, subst, arith}
 use Rattle.std.specs.Prelude.{slice_index, slice_index_or, replicate}
@@ -46,7 +46,7 @@ pub region_below : (bytes : List ℕ) → AreBelow 256 bytes → AreBelow 256 (r
 unfolding padded
 region_below bytes all = followed_below bytes (replicate (2 ^ 16 - length bytes) 0) 256 all (zeros_below (2 ^ 16 - length bytes) 256 (omega arith))
 
--- no bytes are no number
+-- The number read past the last byte is 0.
 none_there : (bytes : List ℕ) (place size : ℕ) → length bytes ≤ place → number_at bytes place size ≡ 0
 unfolding number_at
 none_there bytes place zero past = refl
@@ -109,7 +109,7 @@ module _ (c : Config) (layout : Layout) (limits : IsWithinLimits c) (placed : Is
   module_is : (i : ℕ) → i < 2 ^ c.k → slice_index_or modules i [] ≡ opening_module c layout.shared (places_of c) i
   module_is i within = get_or-map-range_with_len (opening_module c layout.shared (places_of c)) 0 (2 ^ c.k) i i [] within (omega arith)
 
-  -- a word is the shared bytes' or zero
+  -- Each word is that of the shared bytes, or zero.
   word_by : (i : ℕ) → (word_at c.k modules i ≡ number_at layout.shared (4 * i) 4) ⊎ (word_at c.k modules i ≡ 0)
   word_by i = at (cases_lt (i / 2 ^ c.k) (places_of c))
     where
@@ -159,7 +159,8 @@ module _ (c : Config) (layout : Layout) (limits : IsWithinLimits c) (placed : Is
         (λ i. record { net = sym net_is i; mem = word_at c.k modules; core = observed_at ports (λ p. []); is_open = fun_ext (λ p. sym (ports_shut p)) i })
         (steady_start (sizes_of c) (program c code) (word_at c.k modules) (observed_at ports (λ p. [])))
 
-    -- An empty network of this size and the opening's ports, modules and code are a machine if the layout is of bytes.
+    -- `IsMachine` holds of an empty network of this size and the opening's ports, modules and code, if the layout is of
+    -- bytes.
     pub new_is_machine : (image : ImageContents) → network.sizes_of net ≡ sizes_of c → AreBelow 256 layout.code → AreBelow 256 layout.local →
         AreBelow 256 layout.shared →
         IsMachine (record { config = c; image = image; network = net; ports = ports; modules = modules; code = region_of_bytes layout.code })
@@ -173,7 +174,7 @@ module _ (c : Config) (layout : Layout) (limits : IsWithinLimits c) (placed : Is
       steady = steady (region_of_bytes layout.code);
     }
 
-    -- The machine that they make opens on the image of the layout.
+    -- The machine of these parts opens on the image of the layout.
     pub new_opens : IsOpening c (record { layout = layout; shared_words = c.shared_words })
         (record {
           config = c;

@@ -1,4 +1,4 @@
--- The order of a run grows with the outcomes.
+-- The order of a run grows with the outcomes of steps.
 use Rattle.std.proofs.Common.{◌≡◌, ℕ, ◌^◌, ◌<◌, ◌≤◌, Bool, true, false, eqb, List, [], ◌∷◌, ◌++◌, length}
 use Rattle.std.proofs.Common.{nat_lt, Some, None, ◌⊎◌, inl, inr, refl, sym, ap, ap₂, ◌∙◌, subst, arith}
 use Rattle.std.specs.Prelude.{◌&&◌, map, if◌then◌else◌}
@@ -46,9 +46,9 @@ use Rattle.machine_steps.proofs.Keeping.{count_small}
 use Rattle.machine_steps.proofs.Flattening.{past_end}
 use Rattle.machine_steps.proofs.Running.{run_begins, run_more, passes_machine}
 
--- ---- what an outcome says is what the theory's does
+-- ---- an outcome tells the order what the theory's does
 
--- both enter the same
+-- Both outcomes are entered alike.
 pub record Same (a b : theory.Outcome) : Type 0 where
   -- they change all groups alike
   pub group : (g : ℕ → List ℕ) → group_after g a ≡ group_after g b
@@ -65,7 +65,7 @@ module _ (c : Config) (code : List ℕ) (M : Machine ObservedCore) where
   abbrev answer : theory.Outcome → Outcome
   answer = answer_of turns
 
-  -- what is said of a result of the step
+  -- The outcome of this result tells the order what the theory's does.
   abbrev Tells : Step → (was_open : Bool) → Result ObservedCore → Type 0
   Tells s was_open r = Same (outcome_by s was_open (answer r.outcome)) r.outcome
 
@@ -144,7 +144,7 @@ module _ (c : Config) (code : List ℕ) (M : Machine ObservedCore) where
 -- ---- an outcome does not depend on what the processors have shown
 
 module _ (c : Config) (code : List ℕ) where
-  -- a machine whose processors have shown other events
+  -- the machine, whose processors have shown other events
   abbrev observe_as : (shown : ℕ → List Event) → Machine ObservedCore → Machine ObservedCore
   observe_as shown M = record { net = M.net; mem = M.mem; core = λ p. record { state = (M.core p).state; events = shown p }; is_open = M.is_open }
 
@@ -201,7 +201,7 @@ module _ (c : Config) (code : List ℕ) where
         (went_down M' (moved_down (sizes_of c) M.net s w)) (alike_down (moved_down (sizes_of c) M.net s w))
     alike (step.Poke q) = alike_if M M' (all_shut (2 ^ c.k) M.is_open && may_poke c M.core q) (poked (program c code) M q) (poked (program c code) M' q) refl
 
--- ---- distinct numbers below n are n at most
+-- ---- at most n distinct numbers are below n
 
 apart : (j : ℕ) (js : List ℕ) → (In j js → ⊥) → AllByRecursion (λ y. eqb j y ≡ false) js
 apart j [] n = tt
@@ -223,7 +223,7 @@ any_in q (j ∷ js) e = by (eqb q j) refl (any_in q js)
 few_below : (js : List ℕ) (n : ℕ) → Distinct js → ((j : ℕ) → In j js → j < n) → length js ≤ n
 few_below js n d below = length-le_from_distinct_below js n (distinct js d) (λ q e. below q (any_in q js e))
 
--- ---- so a group has 64 at most
+-- ---- so a group has at most 64
 
 module _ (old : MachineLists) (is : IsMachine old) (idle : IsIdle old) where
   good_cores : (p : ℕ) → IsGood p ((machine_of old (λ p. [])).core p)
@@ -263,7 +263,7 @@ passed_more old done s =
     ap (ran (sizes_of old.config) (program old.config old.code) (machine_of old (λ p. []))) (map-append named done (s ∷ []))
     ∙ passes_more (sizes_of old.config) (program old.config old.code) (map named done) (named s) (from_machine (machine_of old (λ p. [])))
 
--- The machine stands after the steps done, whose outcomes gave these groups and entries.
+-- After these steps, the outcomes have given these groups and entries.
 pub record IsOrdered (old : MachineLists) (done : List Step) (m : MachineLists) (groups : List (ArrayVec ℕ)) (entries : List Entry) : Type 0 where
   -- the steps are a run
   pub run : IsRun old done m
@@ -291,7 +291,7 @@ module _ (old m : MachineLists) (done : List Step) (groups : List (ArrayVec ℕ)
   abbrev fact : theory.Outcome
   fact = outcome_by s (is_open_at m s) o
 
-  -- the machine is the theory's
+  -- The machine is that of the theory's run.
   machine_is : M ≡ h.machine
   machine_is =
       let e : h.machine ≡ all_after old.config old.code (machine_of old (λ p. [])) done =
@@ -311,7 +311,7 @@ module _ (old m : MachineLists) (done : List Step) (groups : List (ArrayVec ℕ)
   outcome_is =
       is.step.outcome ∙ ap (answer_of (λ p. next m.config m.code p (M.core p).state)) (alike m.config m.code (machine_of m (λ p. [])) (events_of h.machine) s)
 
-  -- what is reported enters the same as the theory's outcome
+  -- The outcome tells the order what the theory's does.
   same : Same fact (theory.step (sizes_of old.config) (program old.config old.code) h.machine (named s)).outcome
   same =
       let here : Same fact (taken m.config m.code M s).outcome = subst (λ b. Same (outcome_by s b o) (taken m.config m.code M s).outcome) (sym (open_is s))
@@ -322,7 +322,7 @@ module _ (old m : MachineLists) (done : List Step) (groups : List (ArrayVec ℕ)
   group_is : group_after (group_in groups) fact ≡ (passed old (done ++ s ∷ [])).group
   group_is = ap (λ g. group_after g fact) d.group ∙ same.group h.group ∙ sym (ap (λ (x : Passed ObservedCore). x.group) (passed_more old done s))
 
-  -- no group outgrows the processors
+  -- No group has more than 64 processors.
   pub few_after : IsMachine old → IsIdle old → (p : ℕ) → length (group_after (group_in groups) fact p) ≤ 64
   few_after machine idle p = subst (λ g. length (g p) ≤ 64) (sym group_is) (few_wait old machine idle (done ++ s ∷ []) p)
 

@@ -1,4 +1,4 @@
--- What a machine opens with is the opening of its image.
+-- The parts with which a machine opens are the opening of its image.
 use Rattle.std.proofs.Common.{◌≡◌, ℕ, zero, suc, ◌+◌, ◌*◌, ◌/◌, ◌%◌, ◌^◌, ◌<◌, ◌≤◌, List, [], ◌∷◌, ◌++◌, length, ◌⊎◌, inl, inr, refl, sym, ap, ap₂, ◌∙◌, arith}
 use Rattle.std.proofs.Math.Nat.{mul-le-mul_right}
 use Rattle.std.proofs.lemmas.Bool.{cases_lt}
@@ -15,13 +15,13 @@ use Rattle.machine_ports.specs.Ports.{PortState}
 use Rattle.machine_theory.specs.Processors.{word_at, setting_of}
 use Rattle.machine_steps.specs.Parts.{opening_port, opening_ports, opening_word, opening_module, opening_modules, places_of, AreTheOpening}
 
--- a list whose elements are all one
+-- The processors of the opening's ports are all the same.
 states_are : (c : Config) (layout : Layout) (xs : List ℕ) →
     map (λ (p : PortState). p.core.state) (map (opening_port c layout) xs) ≡ replicate (length xs) (opening_processor layout)
 states_are c layout [] = refl
 states_are c layout (x ∷ xs) = ap (λ ps. opening_processor layout ∷ ps) (states_are c layout xs)
 
--- a smaller number has no greater quotient
+-- The quotient of a smaller number is not greater.
 pub quotient_small : (i n d : ℕ) → 0 < d → i < n → i / d < n / d + 1
 quotient_small i n d some less = by (cases_lt (i / d) (n / d + 1))
   where
@@ -61,16 +61,16 @@ the_opening c layout = record {
 
 -- ---- loops
 
--- The opening's ports for one processor more have its port at their end.
+-- The opening's ports for one more processor have its port at their end.
 pub one_port_more : (c : Config) (layout : Layout) (n : ℕ) → opening_ports c layout (n + 1) ≡ opening_ports c layout n ++ opening_port c layout n ∷ []
 one_port_more c layout n = map-range_with_len_more (opening_port c layout) 0 n n (omega arith)
 
--- The opening's modules with one more have it at their end.
+-- The opening's modules for one more number have its module at their end.
 pub one_module_more : (c : Config) (shared : List ℕ) (n : ℕ) →
     opening_modules c shared (n + 1) ≡ opening_modules c shared n ++ opening_module c shared (places_of c) n ∷ []
 one_module_more c shared n = map-range_with_len_more (opening_module c shared (places_of c)) 0 n n (omega arith)
 
--- A module of the opening with one place more has the word of that place at its end.
+-- A module of the opening with one more place has the word of that place at its end.
 pub one_word_more : (c : Config) (shared : List ℕ) (number n : ℕ) →
     opening_module c shared (n + 1) number ≡ opening_module c shared n number ++ opening_word c shared number n ∷ []
 one_word_more c shared number n = map-range_with_len_more (opening_word c shared number) 0 n n (omega arith)

@@ -1,4 +1,4 @@
--- A write from outside, where no reference is open, is a step of the flat machine.
+-- A write from outside, if no reference is open, is a step of the flat machine.
 use Rattle.std.proofs.Common.{◌≡◌, ℕ, ◌^◌, Bool, true, false, [], refl, sym, ap, ap₂, ◌∙◌, subst}
 use Rattle.std.specs.Prelude.{◌&&◌, if◌then◌else◌}
 use mathlib.Core.Path.{fun_ext}
@@ -35,7 +35,7 @@ module _ (old : MachineLists) (q : Poke) (o : Outcome) (new : MachineLists) (is 
   abbrev lawful : Bool
   lawful = is_lawful_poke c q
 
-  -- what is done, where the poke is lawful or not
+  -- the result of the poke, lawful or not
   abbrev done : Bool → theory.Result ObservedCore
   done b = if b then theory.poked (program c old.code) M q else theory.stalled M
 
@@ -52,7 +52,7 @@ module _ (old : MachineLists) (q : Poke) (o : Outcome) (new : MachineLists) (is 
   unfolding outcome_of
   answer_is = st.step.outcome ∙ ap (λ (r : theory.Result ObservedCore). answer_of (λ p. next c old.code p (M.core p).state) r.outcome) does ∙ answered lawful
 
-  -- the machine after it
+  -- The machine after the poke is that of the result.
   leaves : machine_of new (λ p. []) ≡ (done lawful).machine
   unfolding after
   leaves =
@@ -78,7 +78,7 @@ module _ (old : MachineLists) (q : Poke) (o : Outcome) (new : MachineLists) (is 
   before = ap₂ (λ (f : ℕ → ℕ) (g : ℕ → ObservedCore). (f, g)) (fun_ext (λ i. sym (word_is old is i)))
       (fun_ext (λ p. ap (λ s. record { state = s; events = [] }) (sym (state_at old is p))))
 
-  -- the flat machine after it
+  -- the flat machine after the poke
   abbrev next_flat : Bool → FlatState
   next_flat b = if b then written F q else F
 
@@ -105,6 +105,7 @@ module _ (old : MachineLists) (q : Poke) (o : Outcome) (new : MachineLists) (is 
       (subst (λ code. HasSize c code (next_flat lawful)) (sym st.code) (size_is lawful)))
       (λ p. ap (λ (x : (ℕ → ℕ) × (ℕ → ObservedCore)). (x.1 p).state) all) (λ i. ap (λ (x : (ℕ → ℕ) × (ℕ → ObservedCore)). x.0 i) all)
 
-  -- If no reference is open and no core away, a lawful poke is a step of the flat machine, and another changes nothing.
+  -- If no reference is open and no core is away, a lawful poke is a step of the flat machine, and any other changes
+  -- nothing.
   pub poke_whole : IsPoked old q o new
   poke_whole = record { answer = answer_is; idle = idle_after; flat = flat_after ∙ flat_by lawful refl }

@@ -84,7 +84,7 @@ module _ (m : MachineLists) where
   unfolding machine_of_parts
   down_stalls s w none = down_from_none m.config m.code (machine_of m (λ p. [])) s w none
 
--- Nothing stands where nothing is the first.
+-- A list without a first element is empty.
 pub none_there : {X : Type 0} (xs : List X) → is_some (slice_get xs 0) ≡ false → xs ≡ []
 none_there [] e = refl
 none_there (x ∷ xs) e = absurd (true≢false e)

@@ -30,9 +30,9 @@ stalled_is (Served leader) e = absurd (true≢false (sym e))
 stalled_is (Answered to) e = absurd (true≢false (sym e))
 stalled_is Poked e = absurd (true≢false (sym e))
 
--- ---- a run, and a step more
+-- ---- a step after a run
 
--- a machine after a run answers what the run's definition says
+-- A step has the same outcome on a machine after a run and on the theory's machine after its steps.
 pub outcome_there : (old m : MachineLists) (done : List Step) → IsRun old done m → (s : Step) →
     outcome_of old.config old.code (all_after old.config old.code (machine_of old (λ p. [])) done) s ≡ outcome_of m.config m.code (machine_of m (λ p. [])) s
 outcome_there old m done r s =
@@ -49,11 +49,11 @@ unfolding all_after
 none_more c code M [] s n moves = (moves, tt)
 none_more c code M (x ∷ xs) s n moves = (n.0, none_more c code (after c code M x) xs s n.1 moves)
 
--- A machine is the replay of itself over no step.
+-- A machine is a replay of itself, with no step.
 pub replay_begins : (m : MachineLists) → IsReplay m [] m
 replay_begins m = record { run = run_begins m; moved = tt }
 
--- A step that is taken next and does something makes a replay longer by that step at its end.
+-- A step that is taken next, and does something, comes last in the replay.
 pub replay_more : (old m new : MachineLists) (done : List Step) (s : Step) (o : Outcome) → IsReplay old done m → IsStep m s o new → (o ≡ Stalled → ⊥) →
     IsReplay old (done ++ s ∷ []) new
 replay_more old m new done s o r is moves = record {
@@ -61,7 +61,7 @@ replay_more old m new done s o r is moves = record {
   moved = none_more old.config old.code (machine_of old (λ p. [])) done s r.moved (λ e. moves (is.step.outcome ∙ sym (outcome_there old m done r.run s) ∙ e));
 }
 
--- a step that stalls leaves the run as it was
+-- A step that changes nothing leaves the replay as it was.
 pub replay_kept : (old m new : MachineLists) (done : List Step) (s : Step) (o : Outcome) → IsReplay old done m → IsStep m s o new →
     ((shown : ℕ → List Event) → machine_of new shown ≡ machine_of m shown) → IsReplay old done new
 replay_kept old m new done s o r is same = record {

@@ -1,4 +1,4 @@
--- What processors have shown before changes no outcome, and of a step's machine nothing but what they have shown.
+-- What processors have shown before changes no outcome, and of the machine after a step only what they have shown.
 use Rattle.std.proofs.Common.{cond, eqb, Option, Some, None, ◌≡◌, ℕ, ◌^◌, Bool, true, false, List, [], ◌∷◌, nat_lt, refl, ap}
 use Rattle.std.specs.Prelude.{◌&&◌, if◌then◌else◌}
 use Rattle.flat_machine.specs.declared.config.Config.{Config}
@@ -55,7 +55,7 @@ poked_states (poke.Register p register value) f g same = states_put f g p _ _ sa
 poked_states (poke.Local p address value) f g same = states_put f g p _ _ same (ap (with_poked_byte address value) (same p))
 poked_states (poke.Shared address value) f g same = same
 
--- machines that differ in these, reported again
+-- Machines that differ in shown events alone are the same with the same events.
 retell_cores : (fact : ℕ → List Event) (net : Net) (mem : ℕ → ℕ) (is_open : ℕ → Bool) (f g : ℕ → ObservedCore) → SameStates f g →
     observe_as fact (record { net = net; mem = mem; core = f; is_open = is_open })
     ≡ observe_as fact (record { net = net; mem = mem; core = g; is_open = is_open })
@@ -65,7 +65,7 @@ module _ (c : Config) (code : List ℕ) (M : Machine ObservedCore) (shown fact :
   abbrev R : Machine ObservedCore
   R = observe_as shown M
 
-  -- the same answer, and machines that differ in what was shown alone
+  -- The results have the same outcome, and machines that differ in shown events alone.
   abbrev Alike : Result ObservedCore → Result ObservedCore → Type 0
   Alike r s = (r.outcome ≡ s.outcome) × (observe_as fact r.machine ≡ observe_as fact s.machine)
 
@@ -126,12 +126,12 @@ module _ (c : Config) (code : List ℕ) (M : Machine ObservedCore) (shown fact :
         (poked_states q R.core M.core (λ p. refl)),
   )
 
-  -- Events that were shown before a step change nothing of the machine after it but its shown events.
+  -- Events shown before a step change the shown events alone of the machine after it.
   pub after_alike : (s : Step) → observe_as fact (after c code R s) ≡ observe_as fact (after c code M s)
   unfolding after
   after_alike s = (same s).1
 
--- Events that were shown before a step do not change its outcome.
+-- Events shown before a step do not change its outcome.
 pub outcome_same : (c : Config) (code : List ℕ) (M : Machine ObservedCore) (shown : ℕ → List Event) (s : Step) →
     outcome_of c code (observe_as shown M) s ≡ outcome_of c code M s
 unfolding outcome_of

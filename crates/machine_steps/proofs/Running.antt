@@ -1,4 +1,4 @@
--- Runs of the machine, and the theorem for them.
+-- Runs of the machine, and the theorem about them.
 use Rattle.std.proofs.Common.{◌≡◌, ℕ, false, List, [], ◌∷◌, ◌++◌, refl, sym, ap, ap₂, ◌∙◌, subst}
 use Rattle.std.specs.Prelude.{map, slice_index, slice_index_or}
 use Rattle.flat_machine.specs.declared.config.Config.{Config}
@@ -25,24 +25,24 @@ use Rattle.machine_steps.proofs.IdleMachines.{opens}
 
 -- ---- one step more
 
--- The machine after some steps and one more is what that one makes of the machine after the others.
+-- The machine after some steps and one more is the one after that step on the machine after the others.
 pub all_after_more : (c : Config) (code : List ℕ) (M : theory.Machine ObservedCore) (xs : List Step) (s : Step) →
     all_after c code M (xs ++ s ∷ []) ≡ after c code (all_after c code M xs) s
 unfolding all_after
 all_after_more c code M [] s = refl
 all_after_more c code M (x ∷ xs) s = all_after_more c code (after c code M x) xs s
 
--- what a machine of parts has shown is what it was reported
+-- The events that a machine of parts has shown are those that it was given.
 pub shown_is : (m : MachineLists) (shown : ℕ → List Event) → events_of (machine_of m shown) ≡ shown
 unfolding machine_of_parts
 shown_is m shown = refl
 
--- A machine is the run of itself over no step.
+-- A machine is a run of itself, with no step.
 pub run_begins : (m : MachineLists) → IsRun m [] m
 unfolding all_after
 run_begins m = record { config = refl; image = refl; code = refl; after = λ shown. ap (machine_of m) (shown_is m shown) }
 
--- A step that is taken next makes a run longer by that step at its end.
+-- A step that is taken next comes last in the run.
 pub run_more : (old m new : MachineLists) (done : List Step) (s : Step) (o : Outcome) → IsRun old done m → IsStep m s o new → IsRun old (done ++ s ∷ []) new
 run_more old m new done s o r is = record {
   config = is.config ∙ r.config;
@@ -118,7 +118,7 @@ module _ (old : MachineLists) (steps : List Step) (new : MachineLists) (is : IsM
     shown_same : (p : ℕ) → events_of h.machine p ≡ with_events (λ p. []) (flat_events (flat_state old) h.order) p
     shown_same p = ap (λ (g : ObservedCore). g.events) (stands p)
 
-  -- One serial order of whole instructions explains a run that begins where no reference is open.
+  -- One serial order of whole instructions explains a run that begins with no open reference.
   pub serialized : IsSerialized old steps new
   serialized = record {
     machine = reached;

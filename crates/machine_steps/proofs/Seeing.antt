@@ -1,4 +1,4 @@
--- The byte that a processor sees: where an address lies, and what stands there.
+-- The byte that a processor sees: where an address is, and what is there.
 use Rattle.std.proofs.Common.{◌≡◌, ℕ, ◌+◌, ◌-◌, ◌*◌, ◌/◌, ◌%◌, ◌^◌, ◌<◌, ◌≤◌, Bool, true, false, nat_lt}
 use Rattle.std.proofs.Common.{Option, Some, None, Ok, Err, refl, sym, ap, ap₂, ◌∙◌, subst, arith}
 use Rattle.std.proofs.Common.{le-leb, ne_eqb, eq-eqb, lt-ltb, le-ltb, ltb-true, ltb-false}
@@ -19,7 +19,7 @@ use Rattle.machine_steps.proofs.Flattening.{state_at, count_is, word_is, none_pa
 use Rattle.machine_steps.proofs.Handling.{below}
 use Rattle.machine_steps.proofs.LocalBytes.{byte_is_aligned, number_of_byte}
 
--- where an access of one byte goes
+-- The region of an access of one byte, by its address.
 byte_region : (s : Setting) (address : ℕ) → region_of s 1 address false ≡ (
     if in_shared s.shared_words address then Ok (region.Shared ((address - 2 ^ 31) / 4)) else
     if in_local address then Ok (region.Local (address % 2 ^ 16)) else
@@ -30,11 +30,11 @@ unfolding region_of
 byte_region s address = rw (byte_is_aligned address) refl
 
 module _ (m : MachineLists) (k : ℕ) where
-  -- a processor whose core is there
+  -- A processor that is there has a number below 2^k.
   pub there_within : is_there m k ≡ true → k < 2 ^ m.config.k
   there_within there = ltb-true k (2 ^ m.config.k) (and_parts (nat_lt k (2 ^ m.config.k)) (not (away_at m k)) there).0
 
-  -- If a processor is there, the test of this changes nothing of the byte that it sees.
+  -- If a processor is there, testing this does not change the byte that it sees.
   pub seen_there : (address : ℕ) → is_there m k ≡ true →
       byte_seen (flat_state m) k address ≡ (if is_there m k then byte_seen (flat_state m) k address else None)
   seen_there address there = ap (λ b. if b then byte_seen (flat_state m) k address else None) (sym there)
@@ -47,7 +47,7 @@ module _ (m : MachineLists) (is : IsMachine m) (k address : ℕ) where
     abbrev own : Processor
     own = (port_at m.ports k).core.state
 
-    -- the byte, by where the address lies
+    -- the byte, by the region of the address
     abbrev by_region : (shared local code : Bool) → Option ℕ
     by_region shared local code = byte_in (flat_state m) own address (
         if shared then Ok (region.Shared ((address - 2 ^ 31) / 4)) else
@@ -72,7 +72,7 @@ module _ (m : MachineLists) (is : IsMachine m) (k address : ℕ) where
     local_by true = ap (λ n. Some n) (number_of_byte own.local (address % 2 ^ 16))
     local_by false = refl
 
-    -- a shared word's
+    -- From 2^31 on, the byte is of a shared word.
     pub in_words : 2 ^ 31 ≤ address →
         byte_seen (flat_state m) k address ≡ (if in_shared m.config.shared_words address
         then Some (part_of 1 (address % 4) (word_at m.config.k m.modules ((address - 2 ^ 31) / 4))) else None)
@@ -82,14 +82,14 @@ module _ (m : MachineLists) (is : IsMachine m) (k address : ℕ) where
         (ne_eqb (address / 2 ^ 16) 1 (λ e. absurd (omega (arith, start, e))))
         ∙ shared_by (in_shared m.config.shared_words address)
 
-    -- of code
+    -- In code, the byte is of code.
     pub in_program : address < 2 ^ 31 → address / 2 ^ 16 ≡ 1 → byte_seen (flat_state m) k address ≡ Some (number_at m.code (address % 2 ^ 16) 1)
     in_program less e =
         there
         ∙ ap (λ s. by_region s (in_local address) (in_code address)) (below address m.config.shared_words less)
         ∙ ap₂ (λ l c. by_region false l c) (ne_eqb (address / 2 ^ 16) 2 (λ f. absurd (omega (arith, e, f)))) (eq-eqb (address / 2 ^ 16) 1 e)
 
-    -- and of its own local memory
+    -- Elsewhere below 2^31, the byte is of the processor's own local memory.
     pub in_own : address < 2 ^ 31 → (address / 2 ^ 16 ≡ 1 → ⊥) → is_there m k ≡ true →
         byte_seen (flat_state m) k address ≡ (if is_there m k && in_local address then Some (slice_index own.local (address % 2 ^ 16)) else None)
     in_own less other here =
@@ -99,7 +99,7 @@ module _ (m : MachineLists) (is : IsMachine m) (k address : ℕ) where
         ∙ local_by (in_local address)
         ∙ ap (λ b. if b && in_local address then Some (slice_index own.local (address % 2 ^ 16)) else None) (sym here)
 
--- whether a word of this number is there
+-- The test whether a shared word of this number is there is that of its address.
 pub word_there : (address words : ℕ) → 2 ^ 31 ≤ address → nat_lt ((address - 2 ^ 31) / 4) words ≡ in_shared words address
 word_there address words start = by (nat_lt ((address - 2 ^ 31) / 4) words) refl
   where

@@ -28,7 +28,7 @@ use Rattle.machine_theory.specs.Steps.{taken, answer_of, outcome_of_turn, outcom
 use Rattle.machine_theory.proofs.Lemmas.{reaches_of, runs_by}
 use Rattle.machine_steps.specs.Machines.{MachineLists, machine_of, IsMachine, IsStep}
 
--- what a step answers that stalls
+-- If the outcome is a stall, the machine is as before.
 abbrev pub Keeps : (answer : theory.Outcome → Outcome) → Machine ObservedCore → Result ObservedCore → Type 0
 Keeps answer M r = answer r.outcome ≡ Stalled → r.machine ≡ M
 
@@ -102,12 +102,12 @@ shown_stalled shown (step.Poke q) = refl
 abbrev pub observe_as : (shown : ℕ → List Event) → Machine ObservedCore → Machine ObservedCore
 observe_as shown M = record { net = M.net; mem = M.mem; core = λ p. record { state = (M.core p).state; events = shown p }; is_open = M.is_open }
 
--- A machine that has shown nothing, with other shown events, is the machine that has shown these.
+-- A machine that has shown nothing, given these events, is the machine that has shown them.
 pub observed_again : (m : MachineLists) (shown : ℕ → List Event) → observe_as shown (machine_of m (λ p. [])) ≡ machine_of m shown
 unfolding machine_of_parts
 observed_again m shown = refl
 
--- A step that stalls leaves a machine as it is, whatever it has shown.
+-- A step that stalls leaves a machine as it is, with any events shown.
 pub stalled_keeps : (old new : MachineLists) (s : Step) (o : Outcome) → IsMachine old → IsStep old s o new → o ≡ Stalled → (shown : ℕ → List Event) →
     machine_of new shown ≡ machine_of old shown
 unfolding outcome_of after

@@ -1,4 +1,4 @@
--- Whatever steps a machine takes, the same cores are away.
+-- After any steps, the same cores are away as before.
 use Rattle.std.proofs.Common.{◌≡◌, ℕ, ◌^◌, ◌<◌, List, [], ◌∷◌, refl, ap, ◌∙◌, subst}
 use Rattle.flat_machine.specs.declared.config.Config.{Config}
 use Rattle.machine_theory.specs.Theory as theory
@@ -14,7 +14,7 @@ unfolding all_after
 all_stay c code [] M p = refl
 all_stay c code (s ∷ ss) M p = all_stay c code ss (after c code M s) p ∙ cores_stay c code M s p
 
--- After a run the same cores are away as before.
+-- After a run, the same cores are away as before.
 pub run_stays : (old new : MachineLists) (steps : List Step) → IsRun old steps new → (p : ℕ) → away_at new p ≡ away_at old p
 unfolding machine_of_parts
 run_stays old new steps run p =

@@ -1,4 +1,4 @@
--- One instruction at a time: the flat machine's step.
+-- One whole instruction is a step of the flat machine.
 use Rattle.std.proofs.Common.{◌≡◌, ℕ, zero, suc, ◌+◌, ◌*◌, ◌^◌, ◌<◌, ◌≤◌, Bool, true, false, List, [], ◌∷◌, ◌++◌}
 use Rattle.std.proofs.Common.{length, nat_lt, Option, Some, None, ◌⊎◌, inl, inr, refl, sym, ap, ap₂, ◌∙◌, subst}
 use Rattle.std.proofs.Common.{arith}
@@ -63,7 +63,7 @@ events_one : (p : ℕ) (o : Option Event) → with_events (λ q. []) (with_proce
 events_one p None = refl
 events_one p (Some x) = put_same {X = List Event} (λ q. []) p (x ∷ [])
 
--- a turn shows its outcome's event
+-- A turn of a processor that has shown nothing shows its outcome's event.
 shown_turn : (shown : ℕ → List Event) (p : ℕ) (o : Outcome) → shown p ≡ [] → with_shown shown (step.Turn p) o p ≡ list_of (event_of o)
 shown_turn shown p (Retired retired) e = put_same shown p (shown p ++ event.Retired retired ∷ []) ∙ ap (λ es. es ++ event.Retired retired ∷ []) e
 shown_turn shown p (Stopped cause) e = put_same shown p (shown p ++ event.Stopped cause ∷ []) ∙ ap (λ es. es ++ event.Stopped cause ∷ []) e
@@ -75,7 +75,7 @@ shown_turn shown p (Answered to) e = e
 shown_turn shown p Poked e = e
 shown_turn shown p Stalled e = e
 
--- where an outcome says of no event, it is that of a step that did nothing
+-- An outcome without an event is a stall.
 abbrev pub Tells : Outcome → Type 0
 Tells o = event_of o ≡ None → o ≡ Stalled
 
@@ -88,7 +88,7 @@ reply_tells : (o : Option (Processor × retirement.Retired)) → Tells (outcome_
 reply_tells None e = refl
 reply_tells (Some done) e = absurd (cc)
 
--- so is that of a turn of a processor that is open
+-- The same holds of the outcome of a turn of an open processor.
 module _ (c : Config) (code : List ℕ) (M : theory.Machine ObservedCore) (p : ℕ) where
   abbrev answer : theory.Outcome → Outcome
   answer = answer_of (λ q. next c code q (M.core q).state)
@@ -116,7 +116,7 @@ unfolding passes
 passes_more c code [] s h = refl
 passes_more c code (x ∷ xs) s h = passes_more c code xs s (pass (sizes_of c) (program c code) h (named x))
 
--- what a run leaves is what the theory's does
+-- The machine after a run is that of the theory's run.
 pub run_reaches : (old new : MachineLists) (steps : List Step) → IsRun old steps new →
     machine_of new (events_of (passed old steps).machine) ≡ (passed old steps).machine
 run_reaches old new steps r =
@@ -136,7 +136,7 @@ module _ (old : MachineLists) (p : ℕ) (o : Outcome) (new : MachineLists) (step
   serial : IsSerialized old steps new
   serial = serialized old steps new is idle is' r
 
-  -- the order is one entry of the processor
+  -- A run whose order is p's entry alone is one whole instruction.
   pub is_one : (passed old steps).order ≡ entry.Processor p ∷ [] → events_of (passed old steps).machine p ≡ list_of (event_of o) → Tells o → IsOne old p o new
   is_one order shown tells =
       let same : event_of o ≡ flat_event (flat_state old) (entry.Processor p) =
@@ -151,7 +151,7 @@ module _ (old : MachineLists) (p : ℕ) (o : Outcome) (new : MachineLists) (step
         stalled = λ none. let e : o ≡ Stalled = tells (same ∙ none) in (e, nothing e);
       }
 
-  -- the order is empty, and the flat machine has no step
+  -- A run with an empty order is one whole instruction, if the flat machine has no step.
   pub is_none : (passed old steps).order ≡ [] → flat_step (flat_state old) (entry.Processor p) ≡ flat_state old →
       flat_event (flat_state old) (entry.Processor p) ≡ None → o ≡ Stalled → IsOne old p o new
   is_none order same none stalled = record {
@@ -162,9 +162,9 @@ module _ (old : MachineLists) (p : ℕ) (o : Outcome) (new : MachineLists) (step
     stalled = λ e. (stalled, nothing stalled);
   }
 
--- ---- a reference comes back
+-- ---- a reference retires
 
--- where the turn has sent a request, the instruction's steps are the turn and those of a drain
+-- If p's turn has sent a request, the instruction's steps are the turn and those of a drain.
 pub steps_back : (before : MachineLists) (p : ℕ) (sent : MachineLists) → IsSent before p sent → one_steps before p ≡ step.Turn p ∷ drain_steps sent
 steps_back before p sent s =
     let M : theory.Machine ObservedCore = machine_of before (λ q. []) in
@@ -174,7 +174,7 @@ steps_back before p sent s =
     (sym s.turn.config) (sym s.turn.code) in
     ap (steps_from before.config before.code M (step.Turn p)) (sym s.turn.step.outcome) ∙ ap (λ xs. step.Turn p ∷ xs) same
 
--- since p's turn these steps were taken
+-- These steps were taken since p's turn.
 pub record IsComingBack (before : MachineLists) (p : ℕ) (tail : List Step) (m : MachineLists) (last : Outcome) : Type 0 where
   -- p's turn and these steps are a replay
   pub replay : IsReplay before (step.Turn p ∷ tail) m
@@ -182,7 +182,7 @@ pub record IsComingBack (before : MachineLists) (p : ℕ) (tail : List Step) (m 
   pub lone : IsLone ObservedCore (sizes_of before.config) (program before.config before.code) p (passed before (step.Turn p ∷ tail))
   -- the last of them did something
   pub moves : last ≡ Stalled → ⊥
-  -- as long as it is open, nothing is shown; then it is what the last step says of
+  -- while p's reference is open, p has shown nothing
   pub silent : (passed before (step.Turn p ∷ tail)).machine.is_open p ≡ true → events_of (passed before (step.Turn p ∷ tail)).machine p ≡ []
   -- once p's reference is closed, p has shown what the last step tells of
   pub fact : (passed before (step.Turn p ∷ tail)).machine.is_open p ≡ false → events_of (passed before (step.Turn p ∷ tail)).machine p ≡ list_of (event_of last)
@@ -290,7 +290,7 @@ module _ (before : MachineLists) (p : ℕ) (tail : List Step) (m : MachineLists)
         let n = named_step (draining.drain_step (sizes_of m.config) (machine_of m (λ p. []))) s names_s in
         comes n.0 (same_next ∙ n.1) n.2
 
-  -- it is back where no reference is open
+  -- If no reference is open, p's whole instruction is done.
   pub is_back : (sent : MachineLists) → IsSent before p sent → IsMachine m → IsIdle m → drain_steps sent ≡ tail → IsOne before p last m
   is_back sent s is' idle' all =
       let shut : h.machine.is_open p ≡ false = sym (open_same before m done way p) ∙ all_shut m is' idle' p in
@@ -306,7 +306,7 @@ module _ (before : MachineLists) (p : ℕ) (tail : List Step) (m : MachineLists)
 
 -- ---- a turn
 
--- where a processor takes no turn, the flat machine has no step
+-- A turn whose kind is to rest is that of a processor that does not run.
 rests : (t : Turn) (b : Bool) → kind_of b t ≡ Rests → b ≡ false
 rests t false e = refl
 rests (Retires after retired) true e = absurd (cc)
@@ -364,7 +364,7 @@ module _ (old : MachineLists) (p : ℕ) (is : IsMachine old) (idle : IsIdle old)
     unfolding passes
     passes_to r e = ap (passed_by (from_machine M)) e
 
-    -- where it does something it is the one step, and none is where it stalls
+    -- A turn that sends no request is a replay of itself, or of no step if it stalls.
     replayed : (o' : Outcome) → o ≡ o' → (o' ≡ Issued → ⊥) → IsReplay old (steps_from c old.code M (step.Turn p) o') new
     replayed Stalled e other = replay_kept old old new [] (step.Turn p) o (replay_begins old) st (stalled_keeps old new (step.Turn p) o is st e)
     replayed Issued e other = absurd (other refl)
@@ -392,7 +392,7 @@ module _ (old : MachineLists) (p : ℕ) (is : IsMachine old) (idle : IsIdle old)
         open_same old new (step.Turn p ∷ []) run q
         ∙ ap (λ (h : Passed ObservedCore). h.machine.is_open q) (passes_to r e) ∙ ap (λ (f : ℕ → Bool). f q) same ∙ shut q
 
-    -- the turn of a processor that sends no request is the whole instruction
+    -- The turn of a processor that sends no request is the whole instruction.
     pub turn_whole : IsMachine new → (o ≡ Issued → ⊥) → IsOne old p o new
     turn_whole is' other = by first
       where
@@ -412,7 +412,7 @@ module _ (old : MachineLists) (p : ℕ) (is : IsMachine old) (idle : IsIdle old)
     tells (Reaches word change after) e = cc
     tells (Stops cause) e = cc
 
-    -- one that sends a request is on its way
+    -- After a turn that sends a request, p's reference is on its way.
     on_way : o ≡ Issued → theory.step (sizes_of c) (program c old.code) M (theory.Turn p) ≡ theory.issue (program c old.code) M p →
         IsComingBack old p [] new Issued
     unfolding passes machine_of_parts
@@ -438,7 +438,7 @@ module _ (old : MachineLists) (p : ℕ) (is : IsMachine old) (idle : IsIdle old)
 pub begins_back : (before : MachineLists) (p : ℕ) (m : MachineLists) → IsSent before p m → IsComingBack before p [] m Issued
 begins_back before p m s = sent_comes_back before p s.machine s.idle Issued m s.turn refl
 
--- ---- and is back in time
+-- ---- the bound on a drain's steps
 
 -- 2k + 2 is at most 2^k times as much.
 pub few_moves : (k : ℕ) → 2 * k + 2 ≤ 2 ^ k * (2 * k + 2)
@@ -448,7 +448,7 @@ few_moves k = let some = pow_pos k in at (2 ^ k) some
     at zero l = absurd (omega (arith, l))
     at (suc n) l = omega arith
 
--- a drain after the turn of one processor takes 2k + 2 steps at most
+-- A drain after the turn of one processor takes at most 2k + 2 steps.
 pub sent_is_short : (before : MachineLists) (p : ℕ) (m : MachineLists) → IsSent before p m → IsMachine m → length (drain_steps m) ≤ 2 * m.config.k + 2
 unfolding machine_of_parts
 sent_is_short before p m sent is =
@@ -461,9 +461,9 @@ sent_is_short before p m sent is =
     let near = bound_alone z P M is.role is.steady p others f.0 f.1 in
     steps_short m is (2 * m.config.k + 2) f.0 f.1 near (few_moves m.config.k)
 
--- ---- as a loop brings it back
+-- ---- the loop of a drain
 
--- These steps of a drain were taken, this many. Where p alone had sent a request, it is coming back.
+-- i steps of a drain were taken. If p alone had sent a request, its reference is coming back.
 pub record IsGoingHome (sent : MachineLists) (tail : List Step) (i : ℕ) (m : MachineLists) (last : Outcome) : Type 0 where
   -- a drain is under way that has taken these steps
   pub under_way : IsUnderWay sent (drain_bound sent.config) tail m
@@ -494,7 +494,7 @@ module _ (sent : MachineLists) (tail : List Step) (i : ℕ) (m : MachineLists) (
     coming = λ before p sends. comes_on before p tail m last (b.coming before p sends) s o new b.sound names is;
   }
 
-  -- at the end these are all steps of the drain, and the reference is back
+  -- These are all steps of the drain, and if p alone had sent a request, its whole instruction is done.
   abbrev AtHome : Type 0
   AtHome = (drain_steps sent ≡ tail) × IsDrained sent i m × ((before : MachineLists) (p : ℕ) → IsSent before p sent → IsOne before p last m)
 
@@ -505,11 +505,11 @@ module _ (sent : MachineLists) (tail : List Step) (i : ℕ) (m : MachineLists) (
     λ before p sends. is_back before p tail m last (b.coming before p sends) sent sends b.sound drained.idle all,
   )
 
-  -- It ends where the drain names no step any more, and where as many were taken as there are.
+  -- The drain is at its end if it names no further step.
   pub home_now : drain_step m ≡ None → IsIdle m → AtHome
   home_now none idle = at_home (all_taken sent m (drain_bound sent.config) tail b.under_way none) (drain_stops sent m tail b.under_way none idle)
 
-  -- If at least as many steps were taken as a drain has, these are all of its steps, and the reference is back.
+  -- The drain is at its end if at least as many steps were taken as it has.
   pub home_in_time : IsMachine sent → length (drain_steps sent) ≤ i → AtHome
   home_in_time is few =
       let n = b.count in

@@ -1,4 +1,4 @@
--- Who sees it to have got a reply.
+-- Which processors a split reply answers.
 use Rattle.std.specs.Prelude.{◌≡◌, ℕ, suc, map, slice_get, Some}
 use Rattle.messages.specs.declared.message.Record.{Record}
 use Rattle.messages.specs.declared.message.Reply.{Reply}
@@ -11,7 +11,7 @@ use Rattle.steps.specs.declared.step.Outcome.{Outcome}
 use Rattle.steps.specs.declared.step.Outcome.TheVariants.{Answered}
 use Rattle.machine_steps.specs.Machines.{MachineLists}
 
--- Where a step splits a reply, it says the seconds of all records of the reply's leader, in the order of their
+-- If a step splits a reply, its outcome names the seconds of all records of the reply's leader, in the order of their
 -- combinations.
 abbrev pub AnswersAllSeconds : MachineLists → Step → Outcome → Type 0
 AnswersAllSeconds m (step.Down s w) (Answered to) = (x : Reply) →

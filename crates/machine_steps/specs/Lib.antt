@@ -14,7 +14,7 @@ pub mod Noting
 pub mod Laws
 pub mod Ordering
 pub mod Answers
--- Words of lower crates, passed on to those above.
+-- Definitions of lower crates, passed on to those above.
 pub use Rattle.hart.specs as hart
 pub use Rattle.machine_ports.specs as machine_ports
 pub use Rattle.elf_image.specs as elf_image

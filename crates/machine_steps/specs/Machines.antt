@@ -28,7 +28,7 @@ pub record MachineLists : Type 0 where
   pub modules : List (List ℕ)
   pub code : List ℕ
 
--- the machine, whose processors have shown these events
+-- the theory's machine of these parts, whose processors have shown these events
 abbrev pub machine_of : MachineLists → (shown : ℕ → List Event) → theory.Machine ObservedCore
 machine_of m shown = machine_of_parts m.config (net_of m.network) m.ports m.modules shown
 
@@ -50,7 +50,7 @@ AreHome m = (p : ℕ) → p < 2 ^ m.config.k → away_at m p ≡ false
 abbrev pub is_there : MachineLists → (p : ℕ) → Bool
 is_there m p = nat_lt p (2 ^ m.config.k) && not (away_at m p)
 
--- whether the core can be taken out: it is there, its processor runs, and has no reference open
+-- whether the core can be taken out: it is there, and its processor runs and has no reference open
 abbrev pub is_free : MachineLists → (p : ℕ) → Bool
 is_free m p = is_there m p && (is_running (port_at m.ports p).core.state.status && not (open_at m.ports p))
 
@@ -64,22 +64,23 @@ without_core_at m p = with_core_at m p (record (port_at m.ports p).core { state 
 
 -- ---- what holds of every machine
 
--- The ports of all processors, each of which knows its number, and has words in its registers and bytes in its memory.
--- Where a core is away, nothing of it is left.
+-- There is a port for each processor. Its core knows its number, and has words in its registers and bytes in its
+-- memory. If the core is away, nothing of it is left.
 pub record ArePorts (c : Config) (ports : List PortState) : Type 0 where
   pub all : length ports ≡ 2 ^ c.k
   pub settings : (p : ℕ) → p < 2 ^ c.k → (port_at ports p).core.setting ≡ setting_of c p
   pub words : (p : ℕ) → HasWords (port_at ports p).core.state
   pub rest : (p : ℕ) → is_away (port_at ports p).core.state ≡ true → (port_at ports p).core.state ≡ no_processor
 
--- all modules, each with room for its words; there is no word past the last one
+-- There are all modules, each with places for its words. Past the last shared word there are zeros.
 pub record AreModules (c : Config) (modules : List (List ℕ)) : Type 0 where
   pub all : length modules ≡ 2 ^ c.k
   pub places : (m : ℕ) → m < 2 ^ c.k → length (slice_index_or modules m []) ≡ places_of c
   pub words : (i : ℕ) → word_at c.k modules i < 2 ^ 32
   pub end : (i : ℕ) → c.shared_words ≤ i → word_at c.k modules i ≡ 0
 
--- A machine can have come about: its messages stand where they belong (`Steady`).
+-- What holds of every machine: its numbers are within limits, its parts fit them, and its messages are where they
+-- belong (`Steady`).
 pub record IsMachine (m : MachineLists) : Type 0 where
   pub limits : IsWithinLimits m.config
   pub sizes : network.sizes_of m.network ≡ sizes_of m.config
@@ -104,7 +105,8 @@ ArePartsOfOne config image network ports modules code =
 
 -- ---- a step
 
--- The machine keeps its size, its image and its code, the same cores are away, and it does what the machine step says.
+-- The machine keeps its size, its image and its code, the same cores are away, and its other parts are as the machine
+-- step says.
 pub record IsStep (old : MachineLists) (s : Step) (o : Outcome) (new : MachineLists) : Type 0 where
   pub config : new.config ≡ old.config
   pub image : new.image ≡ old.image

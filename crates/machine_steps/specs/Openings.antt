@@ -1,4 +1,4 @@
--- What a machine opens as.
+-- The state in which a machine opens.
 use Rattle.std.specs.Prelude.{◌≡◌, ℕ, ◌^◌, List, map}
 use Rattle.std.specs.List.{range_with_len}
 use Rattle.flat_machine.specs.declared.config.Config.{Config}
@@ -23,13 +23,14 @@ flat_state m = record {
   code = m.code;
 }
 
--- the one machine of this size that opens on a layout, whose processors have shown these events: its network is empty
+-- the theory's machine of this size that opens on a layout, whose processors have shown these events; its network
+-- is empty
 abbrev pub opening_machine : Config → Layout → (shown : ℕ → List Event) → theory.Machine ObservedCore
 opening_machine c layout shown =
     machine_of_parts c empty_net (opening_ports c layout (2 ^ c.k)) (opening_modules c layout.shared (2 ^ c.k)) shown
 
--- The machine of this size that opens on an image: no reference is open and no core away, and its processors, words
--- and code are those that the image means. All machines that open on an image are one.
+-- The machine of this size opens on an image: no reference is open, no core is away, and its processors, words and code
+-- are those of the image. All machines that open on an image are the same.
 pub record IsOpening (c : Config) (image : ImageContents) (m : MachineLists) : Type 0 where
   pub config : m.config ≡ c
   pub image_is : m.image ≡ image

@@ -1,4 +1,4 @@
--- The serial order of a run, as it grows with the outcomes of the steps.
+-- The serial order of a run, as it grows with the outcomes of steps.
 use Rattle.std.specs.Prelude.{◌≡◌, ℕ, ◌+◌, ◌≤◌, Bool, true, false, List, [], ◌∷◌, ◌++◌, length, slice_index_or}
 use Rattle.arrayvec.specs.ArrayVec.{ArrayVec}
 use Rattle.flat_machine.specs.declared.poke.Entry.{Entry}
@@ -12,9 +12,9 @@ use Rattle.steps.specs.declared.step.Outcome.TheVariants.{Retired, Issued, Stopp
 use Rattle.machine_theory.specs.Processors.{open_at}
 use Rattle.machine_steps.specs.Machines.{MachineLists}
 
--- ---- what an outcome says the order
+-- ---- what an outcome tells the order
 
--- A reference is entered where it is served, so its retirement says nothing more.
+-- what a turn tells the order; a reference is entered when it is served, so its retirement tells nothing more
 abbrev pub turn_tells : ℕ → (was_open : Bool) → Outcome → theory.Outcome
 turn_tells p was_open Issued = theory.Issued p
 turn_tells p true (Retired retired) = theory.Stalled
@@ -55,13 +55,12 @@ no_group = record { items = [] }
 abbrev pub group_in : List (ArrayVec ℕ) → ℕ → List ℕ
 group_in groups p = (slice_index_or groups p no_group).items
 
--- how many wait
+-- how many processors wait in all groups
 abbrev pub count_in : List (ArrayVec ℕ) → ℕ
 count_in [] = 0
 count_in (group ∷ groups) = length group.items + count_in groups
 
--- The outcome is entered: the groups and the order go on, and the order and those who wait are one more together at
--- most.
+-- The outcome is entered: groups and entries are as after it, and together they have at most one processor more.
 pub record IsEntered (groups : List (ArrayVec ℕ)) (entries : List Entry) (o : theory.Outcome)
     (groups' : List (ArrayVec ℕ))
     (entries' : List Entry) : Type 0 where

@@ -1,4 +1,4 @@
--- What a machine opens with.
+-- The parts with which a machine opens.
 use Rattle.std.specs.Prelude.{◌≡◌, ℕ, ◌+◌, ◌*◌, ◌/◌, ◌^◌, ◌<◌, ◌≤◌, false, List, length, map}
 use Rattle.std.specs.List.{range_with_len}
 use Rattle.flat_machine.specs.declared.config.Config.{Config}
@@ -11,18 +11,18 @@ use Rattle.hart.specs.State.{new_core}
 use Rattle.machine_ports.specs.Ports.{PortState}
 use Rattle.machine_theory.specs.Processors.{setting_of, word_at}
 
--- processor p at the entry
+-- the port of processor p, at the layout's entry
 abbrev pub opening_port : Config → Layout → ℕ → PortState
 opening_port c layout p = record { core = new_core (setting_of c p) layout.entry layout.local; is_open = false }
 
 abbrev pub opening_ports : Config → Layout → (count : ℕ) → List PortState
 opening_ports c layout count = map (opening_port c layout) (range_with_len 0 count)
 
--- how many words a module has: one for each of its shared words at least
+-- how many words a module has: at least one for each of its shared words
 abbrev pub places_of : Config → ℕ
 places_of c = c.shared_words / 2 ^ c.k + 1
 
--- the words of a module: its places have the words place * 2 ^ k + number of the shared bytes, which zeros follow
+-- a word of a module: its place has word place * 2 ^ k + number of the shared bytes, with zeros after the last
 abbrev pub opening_word : Config → (shared : List ℕ) → (number place : ℕ) → ℕ
 opening_word c shared number place = number_at shared (4 * (place * 2 ^ c.k + number)) 4
 

@@ -9,8 +9,8 @@ use Rattle.machine_theory.specs.Processors.{is_lawful_poke}
 use Rattle.machine_steps.specs.Machines.{MachineLists, IsIdle}
 use Rattle.machine_steps.specs.Openings.{flat_state}
 
--- A write from outside, where no reference is open and no core away: a lawful one is a step of the flat machine, and
--- each other changes nothing of it.
+-- A write from outside, if no reference is open and no core is away: a lawful one is a step of the flat machine, and
+-- any other changes nothing of it.
 pub record IsPoked (old : MachineLists) (q : Poke) (o : Outcome) (new : MachineLists) : Type 0 where
   pub answer : o ≡ (if is_lawful_poke old.config q then Poked else Stalled)
   pub idle : IsIdle new

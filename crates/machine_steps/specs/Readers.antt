@@ -1,4 +1,4 @@
--- What is read of a machine. A processor that it has not is None, and so is what a core has that is away.
+-- What is read of a machine. Nothing is read of a processor that is not there, or whose core is away.
 use Rattle.std.specs.Prelude.{ℕ, ◌-◌, ◌/◌, ◌%◌, ◌^◌, ◌&&◌, List, Option, Some, None, slice_get, slice_index}
 use Rattle.std.specs.Prelude.{if◌then◌else◌}
 use Rattle.flat_machine.specs.Memory.{in_local, in_shared}
@@ -10,17 +10,17 @@ use Rattle.machine_steps.specs.Machines.{MachineLists, is_there}
 abbrev pub registers_at : MachineLists → (processor : ℕ) → Option (List ℕ)
 registers_at m p = if is_there m p then Some (port_at m.ports p).core.state.registers else None
 
--- one of them, where there is one of this number
+-- one register of a processor, if there is one of this number
 abbrev pub register_at : MachineLists → (processor register : ℕ) → Option ℕ
 register_at m p register = if is_there m p then slice_get (port_at m.ports p).core.state.registers register else None
 
--- a byte of its local memory, where the address is in it
+-- a byte of a processor's local memory, if the address is in it
 abbrev pub local_byte_at : MachineLists → (processor address : ℕ) → Option ℕ
 local_byte_at m p address =
     if is_there m p
     && in_local address then Some (slice_index (port_at m.ports p).core.state.local (address % 2 ^ 16)) else None
 
--- a byte of shared memory, where the address is in it: a part of its word
+-- a byte of shared memory, if the address is in it: a part of its word
 abbrev pub shared_byte_at : MachineLists → (address : ℕ) → Option ℕ
 shared_byte_at m address =
     if in_shared m.config.shared_words address

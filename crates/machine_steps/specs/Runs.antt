@@ -24,7 +24,7 @@ unfoldable pub all_after : Config → List ℕ → theory.Machine ObservedCore �
 all_after c code M [] = M
 all_after c code M (s ∷ ss) = all_after c code (after c code M s) ss
 
--- Each of the steps does something.
+-- None of the steps stalls.
 abbrev pub NoneStalls : Config → (code : List ℕ) → theory.Machine ObservedCore → List Step → Type 0
 NoneStalls c code M [] = Unit {0}
 NoneStalls c code M (s ∷ ss) = (outcome_of c code M s ≡ Stalled → ⊥) × NoneStalls c code (after c code M s) ss
@@ -33,7 +33,7 @@ NoneStalls c code M (s ∷ ss) = (outcome_of c code M s ≡ Stalled → ⊥) × 
 abbrev pub machine_after : (opening : MachineLists) → (done : List Step) → theory.Machine ObservedCore
 machine_after m done = all_after m.config m.code (machine_of m (λ p. [])) done
 
--- what a step answers on it
+-- the outcome of a step on that machine
 abbrev pub answer_after : (opening : MachineLists) → (done : List Step) → Step → Outcome
 answer_after m done s = outcome_of m.config m.code (machine_after m done) s
 
@@ -41,8 +41,8 @@ answer_after m done s = outcome_of m.config m.code (machine_after m done) s
 abbrev pub events_of : theory.Machine ObservedCore → ℕ → List Event
 events_of M p = (M.core p).events
 
--- The machine keeps its size, its image and its code, and stands after the steps, whatever its processors have shown
--- before.
+-- The machine keeps its size, its image and its code, and is the one after these steps, for any events that processors
+-- have shown before.
 pub record IsRun (old : MachineLists) (steps : List Step) (new : MachineLists) : Type 0 where
   pub config : new.config ≡ old.config
   pub image : new.image ≡ old.image
@@ -51,27 +51,28 @@ pub record IsRun (old : MachineLists) (steps : List Step) (new : MachineLists) :
       machine_of new (events_of (all_after old.config old.code (machine_of old shown) steps))
       ≡ all_after old.config old.code (machine_of old shown) steps
 
--- The machine stands after the steps, each of which did something.
+-- The machine is the one after these steps, none of which stalls.
 pub record IsReplay (old : MachineLists) (steps : List Step) (new : MachineLists) : Type 0 where
   pub run : IsRun old steps new
   pub moved : NoneStalls old.config old.code (machine_of old (λ p. [])) steps
 
 -- ---- the theorem
 
--- after a list of steps: the machine, and what the outcomes gave
+-- the machine after a list of steps, and what the outcomes gave
 abbrev pub passed : MachineLists → List Step → Passed ObservedCore
 passed m steps = ran (sizes_of m.config) (program m.config m.code) (machine_of m (λ p. [])) (map named steps)
 
--- One serial order of whole instructions explains what a machine did since no reference was open in it.
+-- One serial order of whole instructions explains what a machine did since a moment at which no reference was open.
 pub record IsSerialized (old : MachineLists) (steps : List Step) (new : MachineLists) : Type 0 where
-  -- the machine stands after the steps, and what its processors have shown since are their retirements and stops
+  -- the machine is the one after the steps, and what its processors have shown since are their retirements and stops
   pub machine : machine_of new (events_of (passed old steps).machine) ≡ (passed old steps).machine
-  -- the flat machine, which takes the order so far, explains it
+  -- the order so far explains the machine
   pub explained : IsExplained old.config old.code (flat_state old) (passed old steps)
   -- each reference is served once, between its issue and its retirement
   pub once : EachServedOnce (outcomes (sizes_of old.config) (program old.config old.code) (map named steps)
       (machine_of old (λ p. [])))
-  -- where no reference is open, the machine is the flat machine after the order, which has shown the same events
+  -- if no reference is open, the machine is the flat machine after the order, and its processors have shown the same
+  -- events
   pub flat : IsIdle new → flat_state new ≡ flat_run (flat_state old) (passed old steps).order
   pub shown : IsIdle new → (p : ℕ) →
       events_of (passed old steps).machine p

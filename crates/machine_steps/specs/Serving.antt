@@ -1,4 +1,4 @@
--- What a module does with the first request that stands at it.
+-- What a module does with the first request at it.
 use Rattle.std.specs.Prelude.{◌≡◌, ℕ, ◌/◌, ◌^◌, ◌<◌, List, [], length, Option, Some, None, slice_get, slice_index}
 use Rattle.std.specs.Prelude.{slice_set}
 use Rattle.hart.specs.phi_algebra.Functions.{apply}
@@ -11,12 +11,12 @@ use Rattle.omega_network.specs.Networks.{NetworkLists, net_of, sizes_of}
 use Rattle.steps.specs.declared.step.Outcome.{Outcome}
 use Rattle.steps.specs.declared.step.Outcome.TheVariants.{Served, Stalled}
 
--- nothing is done
+-- Nothing is done.
 abbrev pub DoesNothing : Net → List ℕ → Outcome → Net → List ℕ → Type 0
 DoesNothing net memory o net' memory' = (o ≡ Stalled) × (net' ≡ net) × (memory' ≡ memory)
 
--- The request is executed at its place, where a word comes to stand again, and the word before goes into the reply
--- slot.
+-- The first request, if there is one, is executed at its place: a word is put there, and the word from before goes into
+-- the reply slot.
 abbrev pub IsExecuted : Sizes → ℕ → Net → List ℕ → Option Request → Outcome → Net → List ℕ → Type 0
 IsExecuted z m net memory None o net' memory' = DoesNothing net memory o net' memory'
 IsExecuted z m net memory (Some x) o net' memory' =
@@ -47,13 +47,13 @@ IsFree n m = (net_of n).replies n.k m ≡ []
 abbrev pub HasItsWord : NetworkLists → (m : ℕ) → (memory : List ℕ) → Type 0
 HasItsWord n m memory = (x : Request) → request_at n m ≡ Some x → x.word / 2 ^ n.k < length memory
 
--- Once the module has taken its request, nothing is on its way to this processor: no message is led by it, and no
+-- After the module takes its request, nothing in the network names this processor: no message is led by it, and no
 -- record has it as its second.
 pub record MayBeAnswered (n : NetworkLists) (m leader : ℕ) : Type 0 where
   pub within : leader < 2 ^ n.k
   pub unnamed : Unnamed (module_taken (sizes_of n) (net_of n) m) leader
 
--- so it is with who leads the first request at the module
+-- The leader of the first request at the module may be answered.
 abbrev pub MayReply : NetworkLists → (m : ℕ) → Type 0
 MayReply n m = (x : Request) → request_at n m ≡ Some x → MayBeAnswered n m x.leader
 

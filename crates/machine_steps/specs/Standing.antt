@@ -1,4 +1,4 @@
--- How the processors of a machine stand.
+-- What the processors of a machine are doing.
 use Rattle.std.specs.Prelude.{◌≡◌, ℕ, ◌^◌, ◌<◌}
 use Rattle.flat_machine.specs.declared.event.Status.{Status}
 use Rattle.flat_machine.specs.declared.event.Status.TheVariants.{Running, Halted, Faulted}
@@ -15,10 +15,10 @@ IsFaulted (Faulted fault) = Unit {0}
 IsFaulted Running = ⊥
 IsFaulted (Halted byte) = ⊥
 
--- a fault has stopped a processor of the machine
+-- A fault has stopped a processor of the machine.
 abbrev pub HasFaulted : MachineLists → Type 0
 HasFaulted m = (p : ℕ) × (p < 2 ^ m.config.k) × IsFaulted (processor_of m p).status
 
--- a processor of the machine runs
+-- A processor of the machine runs.
 abbrev pub HasRunning : MachineLists → Type 0
 HasRunning m = (p : ℕ) × (p < 2 ^ m.config.k) × ((processor_of m p).status ≡ Running)

@@ -18,14 +18,14 @@ pub use Rattle.machine_steps.specs.Poking.{IsPoked}
 use Rattle.machine_steps.specs.Runs.{IsReplay}
 use Rattle.machine_steps.specs.Draining.{drain_bound, steps_home}
 
--- the event that an outcome says of
+-- the event of which an outcome tells
 abbrev pub event_of : Outcome → Option Event
 event_of (Retired retired) = Some (event.Retired retired)
 event_of (Stopped cause) = Some (event.Stopped cause)
 event_of _ = None
 
--- The steps that a turn leads to: the turn, and where it sends a request, all steps of a drain after it; none where it
--- stalls.
+-- the steps of an instruction that begins with a turn of this outcome: the turn and, if it sends a request, all steps
+-- of a drain after it; none if it stalls
 abbrev pub steps_from : Config → (code : List ℕ) → theory.Machine ObservedCore → (turn : Step) → Outcome → List Step
 steps_from c code M turn Stalled = []
 steps_from c code M turn Issued = turn ∷ steps_home c code (drain_bound c) (after c code M turn)
@@ -36,9 +36,9 @@ abbrev pub one_steps : MachineLists → ℕ → List Step
 one_steps m p = steps_from m.config m.code (machine_of m (λ q. [])) (step.Turn p)
     (outcome_of m.config m.code (machine_of m (λ q. [])) (step.Turn p))
 
--- One step of the flat machine: processor p's next instruction, whole. The machine has taken the steps of it, no
--- reference is open, it is the flat machine after that step, and the outcome says of the step's event. A processor
--- that is not there, or does not run, has none: that is what is answered, and no step is taken.
+-- Processor p's next instruction, whole, is one step of the flat machine. The machine has taken the instruction's
+-- steps, no reference is open, the machine is the flat machine after that step, and the outcome tells of the step's
+-- event. A processor that is not there, or does not run, has none: the outcome is a stall, and no step is taken.
 pub record IsOne (old : MachineLists) (p : ℕ) (o : Outcome) (new : MachineLists) : Type 0 where
   pub replay : IsReplay old (one_steps old p) new
   pub idle : IsIdle new
@@ -46,7 +46,7 @@ pub record IsOne (old : MachineLists) (p : ℕ) (o : Outcome) (new : MachineList
   pub event : event_of o ≡ flat_event (flat_state old) (entry.Processor p)
   pub stalled : flat_event (flat_state old) (entry.Processor p) ≡ None → (o ≡ Stalled) × (one_steps old p ≡ [])
 
--- Processor p has sent a request, and no other reference is open.
+-- Processor p has just sent a request, and no other reference is open.
 pub record IsSent (before : MachineLists) (p : ℕ) (m : MachineLists) : Type 0 where
   pub machine : IsMachine before
   pub idle : IsIdle before

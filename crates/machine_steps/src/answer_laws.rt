@@ -2,8 +2,8 @@
 
 ghost use Rattle.machine_steps.specs.Answers.{AnswersAreCounted, AnswersBegin, AnswersGoOn};
 
-/// A machine that has taken no step has answered nothing, and a step that is taken next stands with its outcome after
-/// all others. There is one for each step.
+/// A machine that has taken no step has no answers, and a step that is taken next comes last among them, with its
+/// outcome. There is one answer for each step.
 pub fn answers_go_on()
     ensures begin { AnswersBegin }
     ensures go_on { AnswersGoOn }

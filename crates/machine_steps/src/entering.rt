@@ -14,15 +14,15 @@ use std::alloc::{AllocError, Global};
 use std::mem;
 use steps::{Outcome, Step};
 
-/// Those for whom a request stands, in their order: all processors at most.
+/// The processors for which a request stands, in their order: at most all of them.
 type Group = ArrayVec<u8, 64>;
 
-/// How many leaders a `u8` names.
+/// The number of leaders that a `u8` can name.
 const LEADERS: usize = 256;
 
 /// A serial order, which grows with the outcomes of steps.
 ///
-/// Each reference is entered where it is served, in its group: those for whom one request stands.
+/// Each reference is entered when it is served, together with its group.
 #[derive(Drop)]
 pub struct SerialOrder {
     /// The groups that wait to be served, by their leaders.
@@ -31,11 +31,11 @@ pub struct SerialOrder {
 }
 
 impl SerialOrder {
-    /// An order of no entry, with this many places. No reference waits.
+    /// An empty order, with room for this many entries. No reference waits.
     ///
     /// # Errors
     ///
-    /// [`AllocError`] where there is no memory for the places.
+    /// [`AllocError`] if there is no memory for the entries and groups.
     #[tactic(auto, using(crate::proofs::Grouping::group_more, crate::proofs::Grouping::count_more))]
     pub fn new(alloc: Global, places: usize) -> Result<Self, AllocError>
         ensures leaders { IfOk result (λ order. length order.groups.items ≡ 256) }
@@ -59,7 +59,7 @@ impl SerialOrder {
         self.entries
     }
 
-    /// Enters what a step did. It was a turn of a processor that was open, or not.
+    /// Enters what a step did. `was_open` says whether it was a turn of an open processor.
     pub fn enter(&mut self, step: Step, was_open: bool, outcome: Outcome)
         requires leaders { length self.old.groups.items ≡ 256 }
         requires few { (p : ℕ) →
@@ -76,7 +76,7 @@ impl SerialOrder {
         }
     }
 
-    /// A local instruction and a stop are entered at their turn, a reference begins as its own group.
+    /// Enters a local instruction or a stop at its turn. A reference begins as a group of its own.
     #[tactic(auto, using(crate::proofs::Grouping::enters_nothing, crate::proofs::Grouping::enters_one))]
     fn enter_turn(&mut self, p: u8, was_open: bool, outcome: Outcome)
         requires leaders { length self.old.groups.items ≡ 256 }
@@ -93,7 +93,7 @@ impl SerialOrder {
         }
     }
 
-    /// A poke is entered where it is written.
+    /// Enters a poke that is written.
     #[tactic(auto, using(crate::proofs::Grouping::enters_nothing, crate::proofs::Grouping::enters_poke))]
     fn enter_poke(&mut self, poke: Poke, outcome: Outcome)
         requires room { length self.old.entries.items + count_in self.old.groups.items < vec_capacity self.old.entries }
@@ -106,7 +106,7 @@ impl SerialOrder {
         }
     }
 
-    /// Groups are joined where their requests are combined, and entered where they are served.
+    /// Joins groups whose requests are combined, and enters groups that are served.
     #[tactic(auto, using(crate::proofs::Grouping::enters_nothing))]
     fn enter_move(&mut self, outcome: Outcome)
         requires leaders { length self.old.groups.items ≡ 256 }
@@ -123,7 +123,7 @@ impl SerialOrder {
         }
     }
 
-    /// A reference begins as its own group.
+    /// Begins a reference as a group of its own.
     #[tactic(auto, using(crate::proofs::Grouping::enters_issue))]
     fn begin(&mut self, p: u8)
         requires leaders { length self.old.groups.items ≡ 256 }
@@ -134,7 +134,7 @@ impl SerialOrder {
         self.groups[usize::from(p)] = one(p);
     }
 
-    /// The second's group joins the first's, after it.
+    /// Appends the second leader's group to the first's.
     #[tactic(auto, using(crate::proofs::Grouping::enters_combined))]
     fn join(&mut self, first: u8, second: u8)
         requires leaders { length self.old.groups.items ≡ 256 }
@@ -152,7 +152,7 @@ impl SerialOrder {
         self.groups[second] = Group::new();
     }
 
-    /// The leader's group is entered, one after another, and waits no more.
+    /// Enters the leader's group, one processor after another. Then it no longer waits.
     #[tactic(auto, using(crate::proofs::Grouping::enters_served))]
     fn serve(&mut self, leader: u8)
         requires leaders { length self.old.groups.items ≡ 256 }
@@ -168,7 +168,7 @@ impl SerialOrder {
     }
 }
 
-/// The group of one.
+/// The group of one processor.
 fn one(p: u8) -> Group
     ensures { result.items ≡ p ∷ [] }
 {
@@ -177,7 +177,7 @@ fn one(p: u8) -> Group
     group
 }
 
-/// One group after another. What has no room is left out.
+/// One group followed by another. What has no room is left out.
 fn joined(front: &[u8], back: &[u8]) -> Group
     ensures { length front.now + length back.now ≤ 64 → result.items ≡ front.now ++ back.now }
 {

@@ -1,4 +1,4 @@
-//! The flat machine that a machine stands for, as its readers show it. None of its cores is away.
+//! Readers of the flat machine that a machine's parts make. None of its cores may be away.
 
 ghost use Rattle.std.specs.Prelude.{◌≡◌, ◌≤◌, ◌<◌, length, slice_get, slice_index, IfSome, IfNone};
 ghost use Rattle.std.specs.Option.{option_copied, option_map};
@@ -10,7 +10,7 @@ use crate::laws::flat_states_are_read;
 use crate::machine::{Machine, machine_is_well_formed};
 use flat_machine::Status;
 
-/// How many processors there are.
+/// The number of processors.
 pub fn flat_processors(machine: &Machine) -> u32
     ensures count { result ≡ length (flat_state machine.now).processors }
     ensures few { result ≤ 64 }
@@ -20,7 +20,7 @@ pub fn flat_processors(machine: &Machine) -> u32
     u32::from(machine.config().processors())
 }
 
-/// How many shared words there are.
+/// The number of shared words.
 pub fn flat_shared_words(machine: &Machine) -> u32
     ensures count { result ≡ length (flat_state machine.now).shared }
     ensures few { result ≤ 262144 }
@@ -40,7 +40,7 @@ pub fn flat_status(machine: &Machine, processor: u32) -> Option<Status>
     machine.status(number(machine, processor)?)
 }
 
-/// Where a processor stands, if it is there.
+/// The address of a processor's next instruction, if the processor is there.
 pub fn flat_pc(machine: &Machine, processor: u32) -> Option<u32>
     requires home { AreHome machine.now }
     ensures { result ≡ option_map (λ p. p.pc) (slice_get (flat_state machine.now).processors processor) }
@@ -50,7 +50,7 @@ pub fn flat_pc(machine: &Machine, processor: u32) -> Option<u32>
     machine.pc(number(machine, processor)?)
 }
 
-/// A processor's registers 0 to 31, if it is there.
+/// Registers 0 to 31 of a processor, if it is there.
 pub fn flat_registers(machine: &Machine, processor: u32) -> Option<&[u32; 32]>
     requires home { AreHome machine.now }
     ensures { option_copied result
@@ -61,7 +61,7 @@ pub fn flat_registers(machine: &Machine, processor: u32) -> Option<&[u32; 32]>
     machine.registers(number(machine, processor)?)
 }
 
-/// The value of a shared word, and 0 where there is none of this number.
+/// The value of a shared word, or 0 if there is no word of this number.
 pub fn flat_word(machine: &Machine, word: u32) -> u32
     ensures { result ≡ slice_index (flat_state machine.now).shared word }
 {
@@ -70,7 +70,7 @@ pub fn flat_word(machine: &Machine, word: u32) -> u32
     machine.word(word).unwrap_or(0)
 }
 
-/// The byte that a processor sees at an address, if it is there and there is one.
+/// The byte that a processor sees at an address, if the processor is there and there is a byte.
 pub fn flat_byte(machine: &Machine, processor: u32, address: u32) -> Option<u8>
     requires home { AreHome machine.now }
     ensures { result ≡ byte_seen (flat_state machine.now) processor address }
@@ -80,7 +80,7 @@ pub fn flat_byte(machine: &Machine, processor: u32, address: u32) -> Option<u8>
     machine.seen(number(machine, processor)?, address)
 }
 
-/// The number of a processor that is there.
+/// The number of a processor, if it is there.
 fn number(machine: &Machine, processor: u32) -> Option<u8>
     ensures there { IfSome result (λ p. (p ≡ processor) × (p < length (flat_state machine.now).processors)) }
     ensures none { IfNone result (length (flat_state machine.now).processors ≤ processor) }

@@ -1,24 +1,23 @@
-//! The machine: processors at their ports, the network, the memory modules, and its steps and runs.
+//! The machine: processors at their ports, the network, the memory modules, and the machine's steps and runs.
 //!
 //! A step is a processor's turn, one move of one message through one switch, one service by one module, or a poke.
-//! [`Machine::apply`] takes a step, whole, and answers what it did (`outcome_of` and `after` of the crate
-//! `machine_theory`). The machine of these parts is `machine_of` of `specs/Machines.antt`; what holds of every machine
-//! is `IsMachine` ([`machine_is_well_formed`]).
+//! [`Machine::apply`] takes a whole step and returns its outcome (`outcome_of` and `after` of the crate
+//! `machine_theory`). `specs/Machines.antt` defines the theory's machine of these parts (`machine_of`) and what holds
+//! of every machine (`IsMachine`; [`machine_is_well_formed`]).
 //!
-//! A machine opens with each processor at the entry of its image, with the local bytes of the layout and registers of
-//! 0. The shared words go round the modules: of `n` modules, word `i` is in module `i % n` at place `i / n`
-//! (`specs/Parts.antt`).
+//! A machine opens with each processor at the entry of its image, with the local bytes of the layout and all registers
+//! 0. The shared words are interleaved over the modules: with `n` modules, word `i` is in module `i % n` at place `i /
+//! n` (`specs/Parts.antt`).
 //!
-//! [`Machine::run`] carries the theorem: from a machine in which no reference is open, after whatever steps, one
-//! serial order of whole instructions explains what the machine did (`IsSerialized`). [`Machine::order`] lists that
-//! order: a local instruction and a stop stand in it where their turn is taken, and a reference where it is served,
-//! among those for whom its request stands. [`Machine::drain`] brings every open reference to its end.
-//! [`Machine::one`] takes one instruction, whole: it is a step of the flat machine (`IsOne`). Callers that keep steps
-//! as they are taken, as a log does, see each ([`Machine::drain_observed`], [`Machine::one_observed`]). `answers_of`
-//! of `specs/Answers.antt` is the list of what steps answer.
+//! [`Machine::run`] carries the theorem: from a machine in which no reference is open, after any steps, one serial
+//! order of whole instructions explains what the machine did (`IsSerialized`). [`Machine::order`] lists that order: a
+//! local instruction or a stop is entered at its turn, and a reference when it is served, together with its group.
+//! [`Machine::drain`] brings every open reference to its end. [`Machine::one`] takes one whole instruction, which is a
+//! step of the flat machine (`IsOne`). [`Machine::drain_observed`] and [`Machine::one_observed`] show each step to an
+//! observer, such as a log. `answers_of` of `specs/Answers.antt` is the list of steps with their outcomes.
 //!
-//! [`any_runs`] and [`any_is_faulted`] say what the processors do, and the functions `flat_..` read the flat machine
-//! that a machine stands for.
+//! [`any_runs`] and [`any_is_faulted`] say what the processors are doing, and the functions `flat_..` read the flat
+//! machine that a machine's parts make.
 #![tactic(auto)]
 
 mod answer_laws;

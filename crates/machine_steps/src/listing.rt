@@ -13,9 +13,9 @@ use std::alloc::Global;
 use steps::Step;
 
 impl Machine {
-    /// Applies each of these steps in turn, as [`Machine::run`] does, and lists the serial order that the outcomes
-    /// give: the flat machine that takes it does what this one did. No reference may be open before. It
-    /// asks first for one place a step, and for the groups of references that wait.
+    /// Takes each of these steps in turn, as [`Machine::run`] does, and lists the serial order that their outcomes
+    /// give: the flat machine does in this order what the machine did. No reference may be open before. Asks for memory
+    /// first: an entry for each step, and the groups of references that wait.
     ///
     /// # Errors
     ///

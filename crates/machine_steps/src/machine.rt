@@ -50,8 +50,7 @@ use std::marker::Model;
 use std::sync::Arc;
 use steps::{Outcome, Step};
 
-/// A machine of 1 to 64 processors and as many memory modules, with a network of combining switches
-/// between them.
+/// A machine of 1 to 64 processors and as many memory modules, connected by a network of combining switches.
 #[derive(Drop)]
 pub struct Machine {
     config: Config,
@@ -82,13 +81,13 @@ impl Model for Machine {
 }
 
 impl Machine {
-    /// The machine of this configuration that opens on an image: each processor stands at the image's
-    /// entry and runs, with registers of zero. No reference is open.
+    /// Makes a machine of this configuration that opens on an image: each processor runs from the image's entry, with
+    /// all registers 0. No reference is open.
     ///
     /// # Errors
     ///
-    /// [`NewError::Config`] where a number of the configuration is out of its limits, or the image was
-    /// read for another number of shared words; else [`NewError::Memory`] where there is no memory.
+    /// [`NewError::Config`] if a number of the configuration is out of its limits, or the image was read for another
+    /// number of shared words; otherwise [`NewError::Memory`] if there is no memory.
     pub fn new(alloc: Global, image: Image, config: Config) -> Result<Self, NewError>
         ensures opening { IfOk result (λ m. IsOpening config image m) }
         ensures refused { (result ≡ Err NewError.Config)
@@ -103,14 +102,14 @@ impl Machine {
         }
     }
 
-    /// The image that the machine opened on.
+    /// The image on which the machine opened.
     pub fn image(&self) -> &Image
         ensures { result.now ≡ self.now.image }
     {
         &self.image
     }
 
-    /// The network, with the messages that are in it.
+    /// The network, with its messages.
     #[inline(always)]
     pub fn network(&self) -> &IndexedNetwork
         ensures { result.now ≡ self.now.network }
@@ -118,7 +117,7 @@ impl Machine {
         &self.network
     }
 
-    /// The machine's size.
+    /// The machine's configuration.
     pub fn config(&self) -> Config
         ensures config { result ≡ self.now.config }
         ensures limits { IsWithinLimits result }
@@ -126,8 +125,8 @@ impl Machine {
         self.config
     }
 
-    /// Where a processor stands: the address of its next instruction. None where the machine has no
-    /// processor of this number, or its core is away.
+    /// The address of a processor's next instruction. `None` if the machine has no processor of this number, or its
+    /// core is away.
     pub fn pc(&self, processor: u8) -> Option<u32>
         ensures value { result
             ≡ (if is_there self.now processor then Some (port_at self.now.ports processor).core.state.pc else None) }
@@ -136,16 +135,15 @@ impl Machine {
         Some(self.core(processor)?.pc())
     }
 
-    /// Registers 0 to 31 of a processor. None where the machine has no processor of this number, or its
-    /// core is away.
+    /// Registers 0 to 31 of a processor. `None` if the machine has no processor of this number, or its core is away.
     pub fn registers(&self, processor: u8) -> Option<&[u32; 32]>
         ensures { option_copied result ≡ registers_at self.now processor }
     {
         Some(self.core(processor)?.registers())
     }
 
-    /// A register of a processor, 0 to 31. None where the machine has no processor of this number, its
-    /// core is away, or the processor has no register of that one.
+    /// A register of a processor, 0 to 31. `None` if the machine has no processor of this number, its core is away, or
+    /// there is no register of this number.
     pub fn reg(&self, processor: u8, register: u8) -> Option<u32>
         ensures { result ≡ register_at self.now processor register }
     {
@@ -154,8 +152,7 @@ impl Machine {
             .copied()
     }
 
-    /// What a processor is doing. None where the machine has no processor of this number, or its core is
-    /// away.
+    /// What a processor is doing. `None` if the machine has no processor of this number, or its core is away.
     pub fn status(&self, processor: u8) -> Option<Status>
         ensures value { result
             ≡ (if is_there self.now processor then Some (port_at self.now.ports processor).core.state.status
@@ -165,15 +162,15 @@ impl Machine {
         Some(self.core(processor)?.status())
     }
 
-    /// A byte of a processor's local memory. None where the machine has no processor of this number, its
-    /// core is away, or the address is outside local memory.
+    /// A byte of a processor's local memory. `None` if the machine has no processor of this number, its core is away,
+    /// or the address is outside local memory.
     pub fn byte(&self, processor: u8, address: u32) -> Option<u8>
         ensures { result ≡ local_byte_at self.now processor address }
     {
         self.core(processor)?.byte(address).ok()
     }
 
-    /// A shared word, as its module holds it. None where shared memory has no word of this number.
+    /// A shared word, as its module holds it. `None` if there is no shared word of this number.
     pub fn word(&self, number: u32) -> Option<u32>
         ensures { result
             ≡ (if nat_lt number self.now.config.shared_words
@@ -187,14 +184,14 @@ impl Machine {
         self.modules[place].word(number >> k)
     }
 
-    /// The code that all processors share. A core that is away shares it too.
+    /// The code, which all processors share, also those whose core is away.
     pub fn code(&self) -> &Arc<Code, Global>
         ensures { arc_value result.now ≡ self.now.code }
     {
         &self.code
     }
 
-    /// Whether a processor has a reference open. None where the machine has no processor of this number.
+    /// Whether a processor has a reference open. `None` if the machine has no processor of this number.
     pub fn is_open(&self, processor: u8) -> Option<bool>
         ensures { result
             ≡ (if nat_lt processor (2 ^ self.now.config.k) then Some (open_at self.now.ports processor) else None) }
@@ -205,9 +202,8 @@ impl Machine {
         }
     }
 
-    /// The byte that a processor sees at an address: of its own local memory, of a shared word or of
-    /// code. None where the machine has no processor of this number, its core is away, or there is no
-    /// byte.
+    /// The byte that a processor sees at an address: of its own local memory, of a shared word or of code. `None` if
+    /// the machine has no processor of this number, its core is away, or there is no byte there.
     pub fn seen(&self, processor: u8, address: u32) -> Option<u8>
         ensures { result
             ≡ (if is_there self.now processor then byte_seen (flat_state self.now) processor address else None) }
@@ -225,7 +221,7 @@ impl Machine {
         self.byte(processor, address)
     }
 
-    /// The byte of a shared word.
+    /// A byte of a shared word. `None` if the address is past the last shared word.
     fn shared_byte(&self, address: u32) -> Option<u8>
         requires start { 2 ^ 31 ≤ address }
         ensures { result ≡ shared_byte_at self.now address }
@@ -234,15 +230,15 @@ impl Machine {
         Some(byte_of(word, address % 4))
     }
 
-    /// The byte of code.
+    /// A byte of code.
     fn code_byte(&self, address: u32) -> u8
         ensures { result ≡ number_at self.now.code (address % 2 ^ 16) 1 }
     {
         self.code.number(address % REGION_BYTES, Size::Byte) as u8
     }
 
-    /// Whether a poke is one of this machine: the processor that it names is there, and so is the byte,
-    /// or it is a register from 1 to 31, or `pc` (as 32) with a value divisible by 4.
+    /// Whether a poke is lawful for this machine: its processor is there, and so is the byte, or it writes a register
+    /// from 1 to 31, or `pc` (as 32) with a value divisible by 4.
     pub fn is_lawful(&self, poke: Poke) -> bool
         ensures { result ≡ is_lawful_poke self.now.config poke }
     {
@@ -264,7 +260,7 @@ impl Machine {
         }
     }
 
-    /// The wires on which a request stands before a stage; for stage `k`, the modules at which one does.
+    /// The wires that have a request before a stage; for stage `k`, the modules that have one.
     #[inline(always)]
     pub fn request_wires(&self, stage: u8) -> WireSet
         requires { stage ≤ self.now.config.k }
@@ -275,7 +271,7 @@ impl Machine {
         self.network.request_wires(stage)
     }
 
-    /// The wires on which a reply stands before a stage; for stage `k`, the modules at which one does.
+    /// The wires that have a reply before a stage; for stage `k`, the modules that have one.
     #[inline(always)]
     pub fn reply_wires(&self, stage: u8) -> WireSet
         requires { stage ≤ self.now.config.k }
@@ -286,8 +282,7 @@ impl Machine {
         self.network.reply_wires(stage)
     }
 
-    /// The core of a processor. None where the machine has no processor of this number, or its core is
-    /// away.
+    /// The core of a processor. `None` if the machine has no processor of this number, or its core is away.
     pub fn core(&self, processor: u8) -> Option<&Core>
         ensures value { option_copied result
             ≡ (if is_there self.now processor then Some (port_at self.now.ports processor).core else None) }
@@ -309,7 +304,7 @@ impl Machine {
         }
     }
 
-    /// Whether the core of a processor is away. None where the machine has no processor of this number.
+    /// Whether the core of a processor is away. `None` if the machine has no processor of this number.
     pub fn is_away(&self, processor: u8) -> Option<bool>
         ensures { result
             ≡ (if nat_lt processor (2 ^ self.now.config.k) then Some (away_at self.now processor) else None) }
@@ -327,10 +322,10 @@ impl Machine {
         self.ports.iter().all(|port| !port.is_away())
     }
 
-    /// Takes the core of a processor out of the machine. While it is away, what is read of it is None,
-    /// a turn of its processor stalls, and so does every write from outside; all other steps go on. None
-    /// where the machine has no processor of this number, or the processor has a reference open, does not
-    /// run, or its core is away already. Then nothing changes.
+    /// Takes the core of a processor out of the machine. While the core is away, reads of it return `None`, and turns
+    /// of its processor and all writes from outside stall; all other steps go on. Returns `None`, and changes nothing,
+    /// if the machine has no processor of this number, or the processor has a reference open, does not run, or its core
+    /// is already away.
     pub fn take_core(&mut self, processor: u8) -> Option<Core>
         ensures core { result
             ≡ (if is_free self.old processor then Some (port_at self.old.ports processor).core else None) }
@@ -349,7 +344,7 @@ impl Machine {
         self.ports[place].take_core()
     }
 
-    /// Puts a core of a processor, whose own is away, into the machine.
+    /// Puts a core back into the machine, for a processor whose core is away.
     pub fn put_core(&mut self, processor: u8, core: Core)
         requires there { processor < 2 ^ self.old.config.k }
         requires away { away_at self.old processor ≡ true }
@@ -373,9 +368,9 @@ impl Machine {
         self.ports.iter().all(|port| !port.is_open())
     }
 
-    /// Applies a step, whole, and answers what it did.
-    // A schedule that asks for all steps has many that stall, so their tests are made a part of the
-    // caller. What moves something is called.
+    /// Takes a whole step and returns its outcome.
+    // A schedule that asks for all steps has many that stall, so their tests are inlined into the caller. What moves
+    // something is called.
     #[inline(always)]
     pub fn apply(&mut self, step: Step) -> Outcome
         ensures step { IsStep self.old step result self.new }
@@ -395,7 +390,7 @@ impl Machine {
         outcome
     }
 
-    /// What a step of each kind does.
+    /// Takes a step of any kind.
     #[inline(always)]
     fn take(&mut self, step: Step) -> Outcome
         ensures { IsStep self.old step result self.new }
@@ -409,7 +404,7 @@ impl Machine {
         }
     }
 
-    /// A turn of a processor.
+    /// Takes a turn of a processor.
     #[inline(always)]
     fn turn(&mut self, p: u8) -> Outcome
         ensures { IsStep self.old (Step.Turn p) result self.new }
@@ -427,7 +422,7 @@ impl Machine {
         self.begin(p)
     }
 
-    /// The turn of a processor that runs and is not open.
+    /// Takes a turn of a processor that runs and is not open.
     #[inline(always)]
     fn begin(&mut self, p: u8) -> Outcome
         requires there { p < 2 ^ self.old.config.k }
@@ -440,7 +435,7 @@ impl Machine {
         turns::begin(&mut self.ports[place], &mut self.network, code, p)
     }
 
-    /// The turn of a processor that is open.
+    /// Takes a turn of a processor that is open.
     #[inline(always)]
     fn finish(&mut self, p: u8) -> Outcome
         requires there { p < 2 ^ self.old.config.k }
@@ -452,7 +447,7 @@ impl Machine {
         turns::finish(&mut self.ports[place], &mut self.network, code, p)
     }
 
-    /// A request goes up a stage.
+    /// Moves a request up a stage.
     #[inline(always)]
     fn up(&mut self, stage: u8, wire: u8) -> Outcome
         ensures { IsStep self.old (Step.Up stage wire) result self.new }
@@ -468,7 +463,7 @@ impl Machine {
         up_outcome(self.network.up(stage, wire))
     }
 
-    /// A reply goes down a stage.
+    /// Moves a reply down a stage.
     #[inline(always)]
     fn down(&mut self, stage: u8, wire: u8) -> Outcome
         ensures { IsStep self.old (Step.Down stage wire) result self.new }
@@ -484,7 +479,7 @@ impl Machine {
         down_outcome(self.network.down(stage, wire))
     }
 
-    /// A module's step.
+    /// Has a module serve a request.
     #[inline(always)]
     fn serve(&mut self, m: u8) -> Outcome
         ensures { IsStep self.old (Step.Serve m) result self.new }
@@ -496,7 +491,7 @@ impl Machine {
         execute(&mut self.modules[place], &mut self.network, m)
     }
 
-    /// A write from outside.
+    /// Writes from outside.
     #[inline(never)]
     fn poke(&mut self, poke: Poke) -> Outcome
         ensures { IsStep self.old (Step.Poke poke) result self.new }
@@ -579,7 +574,7 @@ fn byte_of(word: u32, place: u32) -> u8
     ((word >> (8 * place)) % 256) as u8
 }
 
-/// Whether a register can be written from outside with a value: 1 to 31, or `pc` as 32.
+/// Whether a register can be written from outside with this value: 1 to 31, or `pc` (as 32).
 fn is_lawful_register(register: u8, value: u32) -> bool
     ensures { result ≡ is_lawful_register register value }
 {
@@ -590,7 +585,7 @@ fn is_lawful_register(register: u8, value: u32) -> bool
     }
 }
 
-/// What a step answers that moved a request.
+/// The outcome of the step that moved a request.
 fn up_outcome(moved: UpMove) -> Outcome
     ensures { result ≡ outcome_of_up moved }
 {
@@ -601,7 +596,7 @@ fn up_outcome(moved: UpMove) -> Outcome
     }
 }
 
-/// What a step answers that moved a reply.
+/// The outcome of the step that moved a reply.
 fn down_outcome(moved: DownMove) -> Outcome
     ensures { result ≡ outcome_of_down moved }
 {
@@ -612,7 +607,7 @@ fn down_outcome(moved: DownMove) -> Outcome
     }
 }
 
-/// What a poke answers that is written, and one that is not.
+/// The outcome of a poke.
 fn poke_outcome(is_written: bool) -> Outcome
     ensures { result ≡ (if is_written then Outcome.Poked else Outcome.Stalled) }
 {
@@ -623,7 +618,7 @@ fn poke_outcome(is_written: bool) -> Outcome
     }
 }
 
-/// The opening of a machine, or out of memory.
+/// Makes a machine, unless it is out of memory.
 fn made(alloc: Global, image: Image, config: Config) -> Result<Machine, AllocError>
     requires limits { IsWithinLimits config }
     requires words { image.shared_words ≡ config.shared_words }
@@ -652,14 +647,14 @@ fn made(alloc: Global, image: Image, config: Config) -> Result<Machine, AllocErr
     })
 }
 
-/// What holds of every machine: each proof about a machine may cite it, at the cost of nothing.
+/// What holds of every machine. A proof about a machine may cite it at no cost.
 pub fn machine_is_well_formed(machine: &Machine)
     ensures { IsMachine machine.now }
 {
     let _ = &machine.config;
 }
 
-/// A byte is below 256: the proof of [`made`] needs it said.
+/// A byte is below 256. The proof of [`made`] needs this said.
 fn bytes_are_below_256(bytes: &[u8])
     ensures { AreBelow 256 bytes.now }
 {}

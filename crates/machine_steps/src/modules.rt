@@ -1,4 +1,4 @@
-//! The modules that a machine opens with.
+//! The modules with which a machine opens.
 
 ghost use Rattle.std.specs.Prelude.{◌≡◌, ◌<◌, ◌*◌, ◌^◌, slice_index, IfOk};
 ghost use Rattle.flat_machine.specs.Limits.{IsWithinLimits};
@@ -9,12 +9,12 @@ use flat_machine::Config;
 use memory_module::Module;
 use std::alloc::{AllocError, Global};
 
-/// The modules of a machine of this size. Their words begin with these bytes, the lowest byte of a
-/// word first, and are zero after them.
+/// Makes the modules of a machine of this size. Their words begin with these bytes, the lowest byte of a word first,
+/// and are zero after them.
 ///
 /// # Errors
 ///
-/// [`AllocError`] where there is no memory for them.
+/// [`AllocError`] if there is no memory for them.
 #[tactic(auto, using(crate::proofs::Parts::one_module_more))]
 pub fn new_modules(alloc: Global, config: Config, shared: &[u8]) -> Result<Vec<Module>, AllocError>
     requires { IsWithinLimits config }
@@ -28,7 +28,7 @@ pub fn new_modules(alloc: Global, config: Config, shared: &[u8]) -> Result<Vec<M
     Ok(modules)
 }
 
-/// A module of a machine of this size.
+/// Makes one module of a machine of this size.
 #[tactic(auto, using(crate::proofs::Parts::one_word_more))]
 fn new_module(
     alloc: Global,
@@ -49,7 +49,7 @@ fn new_module(
     Ok(Module::of_words(words))
 }
 
-/// The word of this number of bytes, which zeros follow.
+/// The word of this number in these bytes, with zeros after the last.
 #[tactic(auto, unfolding(flat_machine::specs::Memory::number_at))]
 fn word_of(bytes: &[u8], number: u32) -> u32
     requires { number < 2 ^ 20 }
@@ -61,7 +61,7 @@ fn word_of(bytes: &[u8], number: u32) -> u32
     low + 65_536 * high
 }
 
-/// The byte at a place, and zero after the last.
+/// The byte at a place, or zero after the last.
 fn byte_of(bytes: &[u8], place: usize) -> u32
     ensures value { result ≡ slice_index bytes.now place }
     ensures small { result < 256 }

@@ -1,4 +1,4 @@
-//! The ports that a machine opens with.
+//! The ports with which a machine opens.
 
 ghost use Rattle.std.specs.Prelude.{◌≡◌, ◌^◌, IfOk};
 ghost use Rattle.flat_machine.specs.Limits.{IsWithinLimits};
@@ -10,11 +10,11 @@ use flat_machine::{Config, Setting};
 use machine_ports::Port;
 use std::alloc::{AllocError, Global};
 
-/// The ports of all processors of a machine of this size, which stand at the layout's entry.
+/// Makes the ports of all processors of a machine of this size, each at the layout's entry.
 ///
 /// # Errors
 ///
-/// [`AllocError`] where there is no memory for them.
+/// [`AllocError`] if there is no memory for them.
 #[tactic(auto, using(crate::proofs::Parts::one_port_more))]
 pub fn new_ports(alloc: Global, config: Config, layout: &Layout) -> Result<Vec<Port>, AllocError>
     requires limits { IsWithinLimits config }

@@ -12,7 +12,7 @@ use crate::searching::next_step;
 use steps::{NoObserver, Outcome, Step, StepObserver};
 
 impl Machine {
-    /// Applies each of these steps in turn.
+    /// Takes each of these steps in turn.
     pub fn run(&mut self, steps: &[Step])
         ensures run { IsRun self.old steps.now self.new }
         ensures serialized { IsIdle self.old → IsSerialized self.old steps.now self.new }
@@ -24,7 +24,7 @@ impl Machine {
         machine_is_well_formed(self);
     }
 
-    /// The step that a drain takes next. None where no reference is open.
+    /// The step that a drain takes next. `None` if no reference is open.
     pub fn drain_step(&self) -> Option<Step>
         ensures next { result ≡ drain_step self.now }
         ensures goes_on { IfSome result (BringsNearer self.now) }
@@ -34,8 +34,8 @@ impl Machine {
         next_step(self.network())
     }
 
-    /// Takes steps until no reference is open, each the one that [`Machine::drain_step`] names, and answers how
-    /// many: `2^k * (2k + 2)` at most.
+    /// Takes the steps that [`Machine::drain_step`] names until no reference is open, and returns their number, at most
+    /// `2^k * (2k + 2)`.
     pub fn drain(&mut self) -> u32
         ensures { IsDrained self.old result self.new }
     {
@@ -43,11 +43,11 @@ impl Machine {
         moves
     }
 
-    /// Drains the machine, as [`Machine::drain`] does, and says each step to the notes.
+    /// Drains the machine, as [`Machine::drain`] does, and reports each step to the observer.
     ///
     /// # Errors
     ///
-    /// That of the notes, where a step could not be noted. The machine has taken it, and those before.
+    /// The observer's own, if it refuses a step. The machine has taken that step, and those before it.
     pub fn drain_observed<N: StepObserver>(&mut self, observer: &mut N) -> Result<u32, N::Refusal>
         requires room { N.has_room observer.old (drain_bound self.old.config) }
         ensures drained { IfOk result (λ moves. IsDrained self.old moves self.new) }
@@ -58,7 +58,7 @@ impl Machine {
         Ok(drain_within(self, bound, observer)?.0)
     }
 
-    /// How many steps a drain takes at most: `2^k * (2k + 2)`.
+    /// The most steps that a drain takes: `2^k * (2k + 2)`.
     pub fn drain_bound(&self) -> u32
         ensures { result ≡ drain_bound self.now.config }
     {
@@ -67,10 +67,9 @@ impl Machine {
         u32::from(config.processors()) * (2 * k + 2)
     }
 
-    /// One instruction of a processor, whole, on a machine in which no reference is open: its turn, and
-    /// where that sends a request, a drain. Answers what the instruction did, `Retired` or `Stopped`.
-    /// Where a reference is open, the processor does not run or the machine has none of this number, it is
-    /// `Stalled`, and nothing changes.
+    /// Takes one whole instruction of a processor on a machine in which no reference is open: its turn and, if that
+    /// sends a request, a drain. Returns what the instruction did, `Retired` or `Stopped`. If a reference is open, the
+    /// processor does not run or the machine has none of this number, returns `Stalled` and changes nothing.
     pub fn one(&mut self, p: u8) -> Outcome
         ensures whole { IsIdle self.old → IsOne self.old p result self.new }
         ensures busy { (IsIdle self.old → ⊥) → (result ≡ Outcome.Stalled) × (self.new ≡ self.old) }
@@ -79,12 +78,12 @@ impl Machine {
         outcome
     }
 
-    /// Takes one instruction of a processor, whole, as [`Machine::one`] does, and says its steps to the notes:
-    /// `2k + 3` at most.
+    /// Takes one whole instruction of a processor, as [`Machine::one`] does, and reports its steps, at most `2k + 3`,
+    /// to the observer.
     ///
     /// # Errors
     ///
-    /// That of the notes, where a step could not be noted. The machine has taken it, and those before.
+    /// The observer's own, if it refuses a step. The machine has taken that step, and those before it.
     pub fn one_observed<N: StepObserver>(
         &mut self,
         p: u8,
@@ -116,9 +115,8 @@ impl Machine {
     }
 }
 
-/// Takes steps until no reference is open, says them to the notes, and answers how many, and what the last
-/// of them answered: where one processor alone has sent a request, what it retires. There are no more than
-/// this many.
+/// Takes steps until no reference is open, at most `bound`, and reports them to the observer. Returns their number and
+/// the outcome of the last; if one processor alone had sent a request, that is its retirement.
 fn drain_within<N: StepObserver>(
     machine: &mut Machine,
     bound: u32,
@@ -145,7 +143,7 @@ fn drain_within<N: StepObserver>(
     Ok((bound, last))
 }
 
-/// Takes a step, and reports it to the notes.
+/// Takes a step, and reports it to the observer.
 fn take<N: StepObserver>(
     machine: &mut Machine,
     step: Step,

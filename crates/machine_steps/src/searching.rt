@@ -1,4 +1,4 @@
-//! Draining: the steps that bring every open reference to its end.
+//! The search for the next step of a drain, which brings every open reference to its end.
 
 ghost use Rattle.std.specs.Prelude.{◌≡◌, ◌≤◌, ◌^◌};
 ghost use Rattle.omega_network.specs.Networks.{net_of, sizes_of};
@@ -24,7 +24,7 @@ fn first_reply(network: &IndexedNetwork, stage: u8) -> Option<u8>
     network.reply_wires(stage).first_from(0)
 }
 
-/// The step that brings down the next reply.
+/// The next step that moves a reply down.
 fn next_down(network: &IndexedNetwork) -> Option<Step>
     ensures { result ≡ some_step (down_step (sizes_of network.now) (net_of network.now)) }
 {
@@ -36,7 +36,7 @@ fn next_down(network: &IndexedNetwork) -> Option<Step>
     None
 }
 
-/// The step that brings up the next request.
+/// The next step that moves a request up.
 fn next_up(network: &IndexedNetwork) -> Option<Step>
     ensures { result ≡ some_step (up_step (sizes_of network.now) (net_of network.now)) }
 {

@@ -10,8 +10,7 @@ use messages::{Reply, Request};
 use omega_network::IndexedNetwork;
 use steps::Outcome;
 
-/// The first request at a module is executed, where the module's reply slot is free: the word before
-/// goes into it.
+/// Executes the first request at a module, if the module's reply slot is free, and puts the word from before into it.
 #[inline(always)]
 pub(crate) fn execute(memory: &mut Module, network: &mut IndexedNetwork, m: u8) -> Outcome
     requires few { network.old.k ≤ 6 }
@@ -32,7 +31,7 @@ pub(crate) fn execute(memory: &mut Module, network: &mut IndexedNetwork, m: u8) 
     serve(memory, network, m, request)
 }
 
-/// A request that is the first at a module is executed, where the module's reply slot is free.
+/// Executes the first request at a module whose reply slot is free.
 #[inline(always)]
 #[tactic(auto, unfolding(messages::specs::Moves::module_taken))]
 fn serve(memory: &mut Module, network: &mut IndexedNetwork, m: u8, request: Request) -> Outcome

@@ -1,4 +1,4 @@
-//! What the processors of a machine do.
+//! What the processors of a machine are doing.
 
 ghost use Rattle.std.specs.Prelude.{◌≡◌, ◌↔◌, ◌^◌, IsTrue};
 ghost use Rattle.machine_steps.specs.Standing.{HasFaulted, HasRunning};

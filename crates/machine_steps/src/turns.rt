@@ -15,8 +15,8 @@ use messages::{Reply, Request};
 use omega_network::IndexedNetwork;
 use steps::Outcome;
 
-/// The turn of a port that runs and is not open: the instruction is done, or stops the processor, or
-/// its request is put into the slot.
+/// Takes the turn of a port that runs and is not open: its instruction retires, or stops the processor, or puts a
+/// request into the slot.
 #[inline(always)]
 pub(crate) fn begin(port: &mut Port, network: &mut IndexedNetwork, code: &Code, p: u8) -> Outcome
     requires closed { port.old.is_open ≡ false }
@@ -45,7 +45,7 @@ pub(crate) fn begin(port: &mut Port, network: &mut IndexedNetwork, code: &Code, 
     }
 }
 
-/// The turn of an open port: it takes its reply, if that is there, and the instruction is done.
+/// Takes the turn of an open port: it takes its reply, if it is there, and the instruction retires.
 #[inline(always)]
 pub(crate) fn finish(port: &mut Port, network: &mut IndexedNetwork, code: &Code, p: u8) -> Outcome
     requires reference { IsReference (turn port.old code.now) }
@@ -60,7 +60,7 @@ pub(crate) fn finish(port: &mut Port, network: &mut IndexedNetwork, code: &Code,
     retire(port, network, code, p, reply)
 }
 
-/// The turn of an open port whose reply is there: it takes the reply, and the instruction is done.
+/// Takes the turn of an open port whose reply is there: it takes the reply, and the instruction retires.
 #[inline(always)]
 fn retire(
     port: &mut Port,
