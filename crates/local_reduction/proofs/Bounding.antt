@@ -1,4 +1,4 @@
--- Where no more moves than this many follow one another, no order takes more turns than a number that the moves say.
+-- If at most this many moves follow one another, the moves give a number that bounds the turns of every order.
 use Rattle.std.proofs.Common.{◌≡◌, ◌⊎◌, inl, inr, ℕ, ◌+◌, ◌<◌, ◌≤◌, Bool, true, false, zero, suc, List, [], ◌∷◌}
 use Rattle.std.proofs.Common.{◌++◌, Option, Some, None, length, refl, sym, ap, subst, ◌∙◌, arith, length-append}
 use Rattle.std.specs.Prelude.{slice_get}
@@ -17,7 +17,7 @@ use Rattle.local_reduction.proofs.Settling.{found_within, some_inj, put, put_her
 use Rattle.local_reduction.proofs.Settling.{counted}
 use Rattle.local_reduction.proofs.Covering.{retiring_turn, stopping_turn, reaching_turn, may_move}
 
--- ---- sums of the first this many
+-- ---- sums of the first numbers
 
 abbrev total : (ℕ → ℕ) → ℕ → ℕ
 total f zero = 0
@@ -38,7 +38,7 @@ total_has f (suc n) k l = by (λ less. total_has f n k less) (below n k l)
     by again (inl less) = let h = again less in omega (arith, h)
     by again (inr same) = let h : f k ≡ f n = ap f same in omega (arith, h)
 
--- with one put in
+-- the sum after one number is replaced
 total_put : (f : ℕ → ℕ) (k n : ℕ) (count : ℕ) → k < count → total (put f k n) count + f k ≡ total f count + n
 total_put f k n zero l = absurd (omega (arith, l))
 total_put f k n (suc count) l = by (λ less. total_put f k n count less) (below count k l)
@@ -91,17 +91,18 @@ module _ (at : ℕ → Setting) (code : List ℕ) (kept : LocalState → LocalSt
   part (inl w) g = g w
   part (inr none) g = 0
 
-  -- the reference of each processor, and the turns alone after it, and so on
+  -- the most turns that moves still to come can take: for each processor one reference, the turns alone after it, and
+  -- so on
   abbrev price : (n : ℕ) (s : MacroState) → IsShort at code kept n s → ℕ
   price zero s h = 0
   price (suc n) s h = total (λ k. part (may? s k) (λ w. suc ((h.1 k w).1.count + price n (h.1 k w).0 (h.1 k w).2))) (length s.local_states)
 
-  -- None spins where only this many moves follow one another.
+  -- No processor spins in a state from which at most this many moves follow one another.
   no_spinner : (n : ℕ) (s : MacroState) → IsShort at code kept n s → HasSpinner at code s → ⊥
   no_spinner zero s h spins = h.0 spins
   no_spinner (suc n) s h spins = h.0 spins
 
-  -- these turns are no more than what is left of the turns alone, and the price
+  -- The turns taken are at most those alone that are left, and those of the moves to come.
   abbrev IsWithin : List ℕ → Type 0
   IsWithin order =
       (n : ℕ) (s : MacroState) (h : IsShort at code kept n s) (m : FlatState) (consoles : ℕ → List ℕ) (counts : ℕ → ℕ) →
@@ -184,7 +185,7 @@ module _ (at : ℕ → Setting) (code : List ℕ) (kept : LocalState → LocalSt
   within f [] n s h m consoles counts settles = omega arith
   within f (k ∷ ks) n s h m consoles counts settles = one_more f k ks (within f ks) s m consoles counts settles n h
 
--- If the moves from the state that a flat machine reaches are bounded in number, every schedule of the machine ends.
+-- If the number of moves from the state to which a flat machine settles is bounded, every schedule of the machine ends.
 pub bounded : (at : ℕ → Setting) (code : List ℕ) (kept : LocalState → LocalState) (m : FlatState) (consoles : ℕ → List ℕ) (s : MacroState) (most : ℕ) →
     IsForgetful at code kept → ReachesMacroState at code kept m consoles s → IsShort at code kept most s → EveryScheduleEnds m
 bounded at code kept m consoles s most f settles h =

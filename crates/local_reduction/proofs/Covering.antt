@@ -1,4 +1,4 @@
--- A closed set of settled states has, for each state of the flat machine, the one that it settles to.
+-- A closed set has, for each state of the flat machine, the state to which it settles.
 use Rattle.std.proofs.Common.{◌≡◌, ◌≢◌, ◌⊎◌, inl, inr, ℕ, Bool, true, false, suc, List, [], ◌∷◌, Option, Some, None, refl, sym, ap, subst, ◌∙◌}
 use Rattle.std.specs.Prelude.{slice_get}
 use Rattle.flat_machine.specs.declared.setting.Setting.{Setting}
@@ -36,14 +36,14 @@ module _ (at : ℕ → Setting) (code : List ℕ) (kept : LocalState → LocalSt
     abbrev mine : LocalState
     mine = local_state_of p (consoles k)
 
-    -- It settles one turn nearer, or it is there, and spins.
+    -- The machine settles to s by one turn less, or no turn is left and the processor spins.
     abbrev pub Nearer : Type 0
     Nearer = ((n : ℕ) × (counts k ≡ suc n) × SettlesTo (put counts k n) s) ⊎ ((counts k ≡ 0) × HasSpinner at code s)
 
     turn_is : (x : Turn) → turn_of (at k) code p ≡ x → turn_of (setting_of m k) m.code p ≡ x
     turn_is x e = let same : turn_of (setting_of m k) m.code p ≡ turn_of (at k) code p = λ i. turn_of (h.settings k i) (h.code_is i) p in same ∙ e
 
-    -- What the turn x makes of the flat machine.
+    -- The flat machine after the turn x.
     pub becomes : (x : Turn) → turn_of (at k) code p ≡ x → flat_step m (entry.Processor k) ≡ with_taken m k (taken p m.shared x)
     becomes x e = stepped m k p there runs ∙ ap (λ y. with_taken m k (taken p m.shared y)) (turn_is x e)
 
@@ -62,25 +62,26 @@ module _ (at : ℕ → Setting) (code : List ℕ) (kept : LocalState → LocalSt
     nearer n is (inl near) = inl (near.0, near.1, subst (λ z. SettlesIn at code kept z later (put counts k near.0) s) (sym is) near.2)
     nearer n is (inr spins) = inr spins
 
-    -- If the turn retires an instruction that refers to no shared word, the machine settles to s, one turn nearer.
+    -- If the turn retires an instruction that refers to no shared word, the machine settles to s by one turn less.
     pub retiring_turn : IsForgetful at code kept → (q : Processor) (r : Retired) → turn_of (at k) code p ≡ Retires q r → Nearer
     retiring_turn f q r e =
         nearer (with_taken m k (taken p m.shared (Retires q r))) (becomes (Retires q r) e)
         (own_counted at code kept m consoles s k p later counts h there (others (Retires q r) e) f (behind mine (q, r)) runs
         (λ w. subst IsReference e w) (ap (alone_by mine) e) (printed (Retires q r) e))
 
-    -- So it does if the turn stops the processor.
+    -- If the turn stops the processor, the machine settles to s by one turn less.
     pub stopping_turn : IsForgetful at code kept → (c : _) → turn_of (at k) code p ≡ Stops c → Nearer
     stopping_turn f c e =
         nearer (with_taken m k (taken p m.shared (Stops c))) (becomes (Stops c) e)
         (own_counted at code kept m consoles s k p later counts h there (others (Stops c) e) f (stopped_by mine c) runs
         (λ w. subst IsReference e w) (ap (alone_by mine) e) (printed (Stops c) e))
 
-    -- If the processor is about to refer to a word, s has what is kept of its station as it is.
+    -- If the processor has stopped or is about to refer to a word, s has what is kept of its local state as it is.
     pub settled_there : Stands (at k) code p → slice_get s.local_states k ≡ Some (kept (local_state_of p (consoles k)))
     settled_there settled = (h.each k p there).0 ∙ ap (λ z. Some (kept z)) (settled_stays (counts k) (at k) code mine settled)
 
-    -- If the turn is a reference, the machine settles to where a move of a station leads of which the same is kept.
+    -- If the turn is a reference, the machine settles to the state to which a move of a local state leads of which the
+    -- same is kept.
     pub reaching_turn : (f : IsForgetful at code kept) (word : ℕ) (change : ℕ → ℕ) (after : ℕ → Processor × Retired) →
         turn_of (at k) code p ≡ Reaches word change after →
         (t : MacroState) (move : IsMove at code kept s k t) → SettlesTo (put counts k move.count) t
@@ -130,7 +131,7 @@ module _ (at : ℕ → Setting) (code : List ℕ) (kept : LocalState → LocalSt
 
 -- ---- runs
 
--- Here a set is what holds of its states.
+-- A set is given by what holds of its states.
 module _ (at : ℕ → Setting) (code : List ℕ) (kept : LocalState → LocalState) (f : IsForgetful at code kept) (In : MacroState → Type 0)
     (closed : (s : MacroState) (k : ℕ) (a : LocalState) → In s → slice_get s.local_states k ≡ Some a → is_running a.processor.status ≡ true →
     IsReference (turn_of (at k) code a.processor) → HasSpinner at code s ⊎ ((t : MacroState) × IsMove at code kept s k t × In t)) where
@@ -138,11 +139,12 @@ module _ (at : ℕ → Setting) (code : List ℕ) (kept : LocalState → LocalSt
   abbrev pub Covered : FlatState → (ℕ → List ℕ) → Type 0
   Covered m consoles = (t : MacroState) × In t × ReachesMacroState at code kept m consoles t
 
-  -- A processor spins in some state of the set, and the order of turns does not stop all.
+  -- A processor spins in some state of the set, and the order of turns does not stop all processors.
   abbrev pub Caught : FlatState → (order : List ℕ) → Type 0
   Caught m order = (s : MacroState) × In s × HasSpinner at code s × (HasStopped (flat_run m (turns order)) → ⊥)
 
-  -- After a turn the flat machine settles to one, or a processor spins in the state to which it settled.
+  -- After a turn, the flat machine settles to a state of the set, or a processor spins in the state to which it
+  -- settled.
   abbrev Stepped : FlatState → (ℕ → List ℕ) → MacroState → (k : ℕ) → Type 0
   Stepped m consoles s k = Covered (flat_step m (entry.Processor k)) (consoles_after consoles (one_events m k)) ⊎ HasSpinner at code s
 
@@ -193,12 +195,12 @@ module _ (at : ℕ → Setting) (code : List ℕ) (kept : LocalState → LocalSt
           (idle_turn at code kept m consoles both.0 s k h (absent m k none) (absent_silent m k none))
       by_processor (Some p) there = by_running p there (is_running p.status) refl
 
-  -- If the flat machine settles to a state of a closed set, it does so after each order of turns, or a processor spins.
+  -- After this order of turns, the flat machine settles to a state of the set, or a processor spins.
   abbrev pub Ran : (order : List ℕ) → FlatState → (ℕ → List ℕ) → Type 0
   Ran order m consoles = Covered (flat_run m (turns order)) (consoles_after consoles (flat_events m (turns order))) ⊎ Caught m order
 
-  -- If the flat machine settles to a state of the set, it settles to one after any order of turns too; or a processor
-  -- spins in a state of the set, and the order does not stop all.
+  -- If the flat machine settles to a state of the set, it also does so after any order of turns; or a processor spins
+  -- in a state of the set, and the order does not stop all processors.
   pub covered_run : (order : List ℕ) (m : FlatState) (consoles : ℕ → List ℕ) (s : MacroState) → In s → ReachesMacroState at code kept m consoles s →
       Ran order m consoles
   covered_run [] m consoles s inside h = inl (s, inside, h)
@@ -222,7 +224,7 @@ module _ (at : ℕ → Setting) (code : List ℕ) (kept : LocalState → LocalSt
           inr (s, inside, spins, never_stops (k ∷ ks) m (spinner_endless at code kept m consoles s f h spins))
 
 module _ (at : ℕ → Setting) (code : List ℕ) (kept : LocalState → LocalState) where
-  -- If each processor stands, the state to which the machine settles is what is kept of it.
+  -- If each processor has stopped or is about to refer, the state to which the machine settles is what is kept of it.
   pub settled_kept : (m : FlatState) (consoles : ℕ → List ℕ) (s : MacroState) → ReachesMacroState at code kept m consoles s →
       ((k : ℕ) (p : Processor) → slice_get m.processors k ≡ Some p → Stands (at k) code p) → IsKeptOf kept m consoles s
   settled_kept m consoles s h rests = record {
@@ -232,7 +234,7 @@ module _ (at : ℕ → Setting) (code : List ℕ) (kept : LocalState → LocalSt
         ∙ ap (λ z. Some (kept z)) (settled_stays stood.0 (at k) code (local_state_of p (consoles k)) (rests k p e));
   }
 
--- If all processors have stopped, each stands.
+-- If all processors have stopped, each has stopped or is about to refer.
 pub stopped_settled : (at : ℕ → Setting) (code : List ℕ) (m : FlatState) → HasStopped m → (k : ℕ) (p : Processor) → slice_get m.processors k ≡ Some p →
     Stands (at k) code p
 stopped_settled at code m stopped k p e runs = let f = stopped k p e in absurd (cc)

@@ -1,4 +1,4 @@
--- A flat machine of which a processor spins never stops.
+-- A flat machine with a processor that spins never stops.
 use Rattle.std.proofs.Common.{◌≡◌, ◌⊎◌, inl, inr, ℕ, ◌<◌, Bool, true, false, cond, zero, suc, List, [], ◌∷◌, Option, Some, None}
 use Rattle.std.proofs.Common.{length, refl, sym, ap, subst, ◌∙◌, true≢false}
 use Rattle.std.specs.Prelude.{slice_get, slice_set}
@@ -37,7 +37,7 @@ module _ (m : FlatState) (j : ℕ) (q : Processor) (there : slice_get m.processo
   is_made (Reaches word change after) none = absurd (none tt)
   is_made (Stops cause) none = refl
 
-  -- If the processor spins whose turn it is, it does so afterwards.
+  -- If it is the turn of the processor that spins, it still spins after it.
   own_spins : Spins (setting_of m j) m.code q → Spins (setting_of m j) m.code (taken q m.shared (turn_of (setting_of m j) m.code q)).0
   own_spins h =
       let x = turn_of (setting_of m j) m.code q in
@@ -83,14 +83,14 @@ endless_step m j h = by_processor (slice_get m.processors j) refl
 
 -- ---- runs
 
--- No order of turns stops all.
+-- If a processor spins, no order of turns stops all processors.
 pub never_stops : (order : List ℕ) (m : FlatState) → Endless m → HasStopped (flat_run m (turns order)) → ⊥
 never_stops [] m h stopped = true≢false (sym (h.3 0).0 ∙ stopped h.0 h.1 h.2)
 never_stops (k ∷ ks) m h stopped = never_stops ks (flat_step m (entry.Processor k)) (endless_step m k h) stopped
 
 -- ---- states in which a processor spins
 
--- A processor that spins after some turns alone spins.
+-- A processor that spins after a turn alone spins.
 spins_before_once : (s : Setting) (code : List ℕ) (a : LocalState) → Spins s code (alone_once s code a).processor → Spins s code a.processor
 spins_before_once s code a h = by_running (is_running a.processor.status) refl
   where
@@ -110,7 +110,7 @@ spins_before : (n : ℕ) (s : Setting) (code : List ℕ) (a : LocalState) → Sp
 spins_before zero s code a h = h
 spins_before (suc n) s code a h = spins_before_once s code a (spins_before n s code (alone_once s code a) h)
 
--- If a flat machine settles to a state in which a processor spins, one of it does.
+-- If a flat machine settles to a state in which a processor spins, one of its processors spins.
 pub spinner_endless : (at : ℕ → Setting) (code : List ℕ) (kept : LocalState → LocalState) (m : FlatState) (consoles : ℕ → List ℕ) (s : MacroState) →
     IsForgetful at code kept → ReachesMacroState at code kept m consoles s → HasSpinner at code s → Endless m
 spinner_endless at code kept m consoles s f h spinner = by found.0 found.1

@@ -1,4 +1,4 @@
--- Moves of states whose processors are exchanged.
+-- Moves of states with exchanged processors.
 use Rattle.std.proofs.Common.{◌≡◌, ◌≢◌, ◌⊎◌, inl, inr, ℕ, zero, suc, List, [], ◌∷◌, Some, length, refl, sym, ap, subst, ◌∙◌, cond, eqb, eq-eqb, ne_eqb}
 use Rattle.std.specs.Prelude.{slice_get, slice_set, slice_index}
 use Rattle.std.proofs.lemmas.Bool.{cases_eq}
@@ -14,7 +14,7 @@ use Rattle.local_reduction.proofs.Numbers.{reference_same}
 -- ---- exchanges
 
 module _ (classes : List ℕ) where
-  -- the exchange in which each keeps its place
+  -- the exchange in which each processor keeps its place
   abbrev pub none : Exchange classes
   none = record { place = λ k. k; taker = λ k. k; taken = λ i. refl; takes = λ k. refl; alike = λ k. refl }
 
@@ -28,7 +28,7 @@ module _ (classes : List ℕ) where
     alike = λ k. sym (x.alike (x.taker k)) ∙ ap (slice_get classes) (x.taken k);
   }
 
-  -- If x exchanges s to t, and y exchanges t to u, this exchanges s to u.
+  -- the exchange from s to u, if x exchanges s to t, and y exchanges t to u
   abbrev pub both : (x y : Exchange classes) → Exchange classes
   both x y = record {
     place = λ k. x.place (y.place k);
@@ -38,11 +38,11 @@ module _ (classes : List ℕ) where
     alike = λ k. x.alike (y.place k) ∙ y.alike k;
   }
 
-  -- j and i trade places
+  -- the place that k takes if j and i trade places
   abbrev pub traded : (j i k : ℕ) → ℕ
   traded j i k = cond (eqb k i) j (cond (eqb k j) i k)
 
-  -- Who stood at j stands at i.
+  -- The processor from j is at i after the trade.
   pub traded_first : (j i : ℕ) → traded j i i ≡ j
   traded_first j i = ap (λ b. cond b j (cond (eqb i j) i i)) (eq-eqb i i refl)
 
@@ -56,7 +56,7 @@ module _ (classes : List ℕ) where
   traded_other : (j i k : ℕ) → k ≢ i → k ≢ j → traded j i k ≡ k
   traded_other j i k a b = ap (λ c. cond c j (cond (eqb k j) i k)) (ne_eqb k i a) ∙ ap (λ c. cond c i k) (ne_eqb k j b)
 
-  -- What holds of both that trade, and of all others, holds of all.
+  -- What holds of both processors that trade, and of all others, holds of all.
   pub traded_all : (P : ℕ → ℕ → Type 0) (j i : ℕ) → P j i → P i j → ((k : ℕ) → k ≢ i → k ≢ j → P k k) → (k : ℕ) → P (traded j i k) k
   traded_all P j i first second others k = by (cases_eq k i) (cases_eq k j)
     where
@@ -65,7 +65,7 @@ module _ (classes : List ℕ) where
       by (inr a) (inl e) = subst (λ l. P (traded j i l) l) (sym e) (subst (λ l. P l j) (sym (traded_second j i)) second)
       by (inr a) (inr b) = subst (λ l. P l k) (sym (traded_other j i k a b)) (others k a b)
 
-  -- A trade that is made twice changes nothing.
+  -- A trade made twice changes nothing.
   pub traded_twice : (j i k : ℕ) → traded j i (traded j i k) ≡ k
   traded_twice j i k = traded_all (λ l k. traded j i l ≡ k) j i (traded_second j i) (traded_first j i) (traded_other j i) k
 
@@ -79,23 +79,23 @@ module _ (classes : List ℕ) where
     alike = traded_all (λ l k. AreAlike classes l k) j i e (sym e) (λ k a b. refl);
   }
 
-  -- What holds of both that trade, and of all others, holds of each place that is taken.
+  -- What holds of both processors that trade, and of all others, holds of each place that is taken.
   pub trade_all : (P : ℕ → ℕ → Type 0) (j i : ℕ) (e : AreAlike classes j i) → P j i → P i j →
       ((k : ℕ) → k ≢ i → k ≢ j → P k k) → (k : ℕ) → P ((trade j i e).place k) k
   unfolding trade
   trade_all P j i e first second others k = traded_all P j i first second others k
 
-  -- ---- states whose processors are exchanged
+  -- ---- states with exchanged processors
 
   -- Each state is an exchange of itself.
   pub as_it_is : (s : MacroState) → IsExchangeOf classes s s
   as_it_is s = (none, record { shared = refl; each = λ k. refl })
 
-  -- If processors of one class stand in equal states, each exchange leaves the state as it is.
+  -- If processors of one class are in equal states, each exchange leaves the state as it is.
   pub uniform_stays : (s : MacroState) → IsUniform classes s → (x : Exchange classes) → IsExchanged x.place s s
   uniform_stays s u x = record { shared = refl; each = λ k. sym (u (x.place k) k (x.alike k)) }
 
-  -- If two that stand in equal states trade, the state is left as it is.
+  -- If two processors in equal states trade, the state is left as it is.
   trade_stays : (s : MacroState) (j i : ℕ) → slice_get s.local_states j ≡ slice_get s.local_states i → IsExchanged (traded j i) s s
   trade_stays s j i e = record {
     shared = refl;
@@ -106,7 +106,7 @@ module _ (classes : List ℕ) where
   pub exchanged_both : (x y : ℕ → ℕ) (s t u : MacroState) → IsExchanged x s t → IsExchanged y t u → IsExchanged (λ k. x (y k)) s u
   exchanged_both x y s t u f g = record { shared = g.shared ∙ f.shared; each = λ k. g.each k ∙ f.each (y k) }
 
-  -- If x exchanges s to t, what undoes x exchanges t to s.
+  -- If x exchanges s to t, the exchange that undoes x exchanges t to s.
   pub exchanged_back : (x : Exchange classes) (s t : MacroState) → IsExchanged x.place s t → IsExchanged x.taker t s
   exchanged_back x s t f = record {
     shared = sym f.shared;
@@ -116,7 +116,7 @@ module _ (classes : List ℕ) where
   -- ---- moves of such states
 
   module _ (at : ℕ → Setting) (code : List ℕ) (kept : LocalState → LocalState) where
-    -- t is s exchanged by x, which moves k to the place i; and a move at the place i leads from s to v.
+    -- State t is s exchanged by x, which puts place i at k, and a move at place i leads from s to v.
     module _ (s v t : MacroState) (i : ℕ) (x : Exchange classes) (k : ℕ) (is : x.place k ≡ i) (e : IsExchanged x.place s t)
         (move : IsMoveOfAny at code kept classes s i v) where
       mine : IsMove (λ j. at k) code kept s i v
@@ -131,7 +131,7 @@ module _ (classes : List ℕ) where
       there_t : slice_get t.local_states k ≡ Some mine.local_state
       there_t = e.each k ∙ (ap (slice_get s.local_states) is ∙ mine.there)
 
-      -- Who takes the place i makes in t the move that was made there in s. It leads to an exchange of where that led.
+      -- The processor at k makes in t the move that was made at i in s. It leads to an exchange of v.
       pub move_exchanged : (w : MacroState) × IsMove at code kept t k w × IsExchanged x.place v w
       unfolding arrived after_move
       move_exchanged = (
@@ -171,8 +171,8 @@ module _ (classes : List ℕ) where
               ∙ sym (set_other s.local_states i (x.place j) (arrived (slice_index s.shared mine.word))
               (λ same. ne (sym (x.takes j) ∙ (ap x.taker (same ∙ sym is) ∙ x.takes k)))))
 
-    -- A move up to exchanges from s to u is a plain move from each exchange of s, to an exchange of u. How that comes of u
-    -- depends on one exchange y, which is the same for all exchanges of s.
+    -- A move up to exchanges from s to u is a plain move from each exchange of s, to an exchange of u. How u is
+    -- exchanged depends on one exchange y, which is the same for all exchanges of s.
     pub led : (s u : MacroState) (i : ℕ) → IsMoveUpTo at code kept classes s i u →
         (y : Exchange classes) × ((x : Exchange classes) (t : MacroState) (k : ℕ) → x.place k ≡ i → IsExchanged x.place s t →
         (w : MacroState) × IsMove at code kept t k w × IsExchanged (λ j. y.place (x.place j)) u w)
@@ -213,7 +213,7 @@ module _ (classes : List ℕ) where
               ),
         )
 
-    -- ---- where settings differ by numbers alone
+    -- ---- if settings differ by numbers alone
 
     module _ (beside : (j k : ℕ) → IsBeside (at j) (at k)) where
       -- A processor that may move in an exchange of s may move in s, at the place that it takes.
@@ -225,7 +225,7 @@ module _ (classes : List ℕ) where
         refers = subst IsReference (reference_same (at k) (at (x.place k)) (beside k (x.place k)) code w.local_state.processor w.refers) w.refers;
       }
 
-      -- If a processor spins in s, one spins in an exchange of s, at the place that it takes.
+      -- If a processor spins in s, one spins in each exchange of s.
       pub spinner_exchanged : (x : Exchange classes) (s t : MacroState) → IsExchanged x.place s t → HasSpinner at code s → HasSpinner at code t
       spinner_exchanged x s t e h =
           let k = x.taker h.processor in record {
@@ -239,7 +239,8 @@ module _ (classes : List ℕ) where
             );
           }
 
-      -- If no more than n moves follow one another from s up to exchanges, no more follow one another from an exchange of s.
+      -- If at most n moves follow one another from s up to exchanges, at most n follow one another from an exchange of
+      -- s.
       pub short_exchanged : (n : ℕ) (x : Exchange classes) (s t : MacroState) → IsExchanged x.place s t → IsShortUpTo at code kept classes n s →
           IsShort at code kept n t
       short_exchanged zero x s t e h = (

@@ -1,4 +1,4 @@
--- What registers hold that are not live is never asked for: a turn goes the same way without it.
+-- Nothing asks for the contents of registers that are not live: a turn goes the same way without them.
 use Rattle.std.proofs.Common.{◌≡◌, ◌≢◌, ℕ, ◌*◌, ◌/◌, ◌%◌, Bool, true, false, cond, ◌||◌, List, [], Some}
 use Rattle.std.proofs.Common.{Result, Ok, Err, refl, sym, ap, subst, ◌∙◌, eqb, eq-eqb, ne_eqb}
 use Rattle.std.specs.Prelude.{not, ◌&&◌, slice_set}
@@ -48,7 +48,7 @@ passed live target rd r ne e = ap (λ b. not b && is_live live target r) (ne_eqb
 -- ---- effects
 
 module _ (s : Setting) (live : List (List Bool)) (pc : ℕ) (registers : List ℕ) where
-  -- What is live at a target is live at pc, but for a register that is written.
+  -- What is live at a target is live at pc, except for a register that is written.
   abbrev Carried : (rd target : ℕ) → Type 0
   Carried rd target = (r : ℕ) → r ≢ rd → is_live live target r ≡ true → is_live live pc r ≡ true
 
@@ -154,7 +154,7 @@ module _ (s : Setting) (live : List (List Bool)) (pc : ℕ) (registers : List �
 
 -- ---- turns
 
--- a station that does what another does, elsewhere and with other contents
+-- the local state with the same status, elsewhere and with other contents
 abbrev standing : LocalState → (pc : ℕ) → (registers local console : List ℕ) → LocalState
 standing a pc registers local console =
     record { processor = record { pc = pc; registers = registers; local = local; status = a.processor.status }; console = console }
@@ -212,7 +212,7 @@ turn_alike s code live a right (Ok i) e =
     (goes s live a.processor.pc a.processor.registers i (λ r needed. right i r e needed)))
 turn_alike s code live a right (Err fault) e = refl
 
--- ---- stations
+-- ---- local states
 
 abbrev emptied : LocalState → LocalState
 emptied a = record a { processor = record a.processor { registers = []; local = [] } }
@@ -239,7 +239,7 @@ dead_not_kept live a r value dead =
     ap (λ rs. if_running (standing a a.processor.pc rs a.processor.local a.console))
     (only_cleared (is_live live a.processor.pc) a.processor.registers r value dead)
 
--- If all that code needs is live, what is not kept of a local state is never asked for again.
+-- If all that code needs is live, nothing ever asks again for what is not kept of a local state.
 pub dead_forgotten : StoppedAreForgotten → (at : ℕ → Setting) (code : List ℕ) (live : List (List Bool)) → HasAllLive code live →
     IsForgetful at code (kept_by live)
 dead_forgotten stopped at code live right = record {

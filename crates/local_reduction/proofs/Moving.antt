@@ -1,4 +1,4 @@
--- A station makes the moves of what is kept of it.
+-- A local state makes the moves of what is kept of it.
 use Rattle.std.proofs.Common.{◌≡◌, ℕ, true, List, Some, refl, sym, ap, subst, ◌∙◌}
 use Rattle.std.specs.Prelude.{slice_get, slice_index}
 use Rattle.flat_machine.specs.declared.setting.Setting.{Setting}
@@ -9,7 +9,8 @@ use Rattle.local_reduction.specs.LocalStates.{LocalState, behind, alone, IsSettl
 use Rattle.local_reduction.specs.Closing.{IsAlike, IsForgetful, MacroState, gone, IsMove}
 use Rattle.local_reduction.proofs.Settling.{alone_alike, settled_alike}
 
--- A processor of which this is kept, and which refers to a word and then settles alone, makes a move.
+-- If a state has what is kept of a processor that refers to a word and then settles alone, there is a move of that
+-- state.
 pub moved : (at : ℕ → Setting) (code : List ℕ) (kept : LocalState → LocalState) (s : MacroState) (k : ℕ) (a : LocalState) (word : ℕ) (change : ℕ → ℕ)
     (after : ℕ → Processor × Retired) (count : ℕ) → IsForgetful at code kept → slice_get s.local_states k ≡ Some (kept a) →
     is_running a.processor.status ≡ true → turn_of (at k) code a.processor ≡ Reaches word change after →

@@ -1,4 +1,4 @@
--- A turn that does not ask for the processor's own number is the same whatever that is.
+-- A turn that does not ask for the processor's own number is the same for any number.
 use Rattle.std.proofs.Common.{◌≡◌, ◌⊎◌, inl, inr, ℕ, ◌%◌, Bool, true, false, cond, zero, suc, List, [], Result, Ok, Err, refl, sym, ap, subst, ◌∙◌, eqb}
 use Rattle.std.proofs.lemmas.Bool.{eqb-true}
 use Rattle.rv_table.specs.declared.insn.Insn.{Insn}
@@ -66,7 +66,7 @@ module _ (s t : Setting) (b : IsBeside s t) where
       performed_same code p i (effect_of s p.pc p.registers i) ∙ ap (performed t code p i) (effect_same p i (λ e. h (ap Ok e)))
   by_same code p (Err fault) h = refl
 
-  -- A turn that does not ask for the number is the same under both.
+  -- A turn that does not ask for the number is the same with both.
   pub turn_same : (code : List ℕ) (p : Processor) → (Asks code p → ⊥) → turn_of s code p ≡ turn_of t code p
   turn_same code p h = by_same code p (fetched code p.pc) (λ e r. h (e, r))
 
@@ -103,17 +103,17 @@ module _ (s t : Setting) (b : IsBeside s t) (code : List ℕ) where
       by true e = ap (alone_by a) (turn_same s t b code a.processor (h e))
       by false e = refl
 
-  -- Turns alone of which none asks for the number lead to the same station under both.
+  -- Turns alone of which none asks for the number lead to the same local state with both.
   pub alone_same : (n : ℕ) (a : LocalState) → AskNot n s code a → alone n s code a ≡ alone n t code a
   alone_same zero a h = refl
   alone_same (suc n) a h =
       alone_same n (alone_once s code a) h.1 ∙ ap (alone n t code) (once_same a h.0)
 
-  -- A reference is the same turn under both numbers.
+  -- A reference is the same turn with both numbers.
   pub reference_same : (p : Processor) → IsReference (turn_of s code p) → turn_of s code p ≡ turn_of t code p
   reference_same p h = turn_same s t b code p (reference_asks_not s code p h)
 
--- It goes on under one number, if it does under the other,
+-- A processor that goes on with one number goes on with the other.
 goes_same : (s t : Setting) → IsBeside s t → (code : List ℕ) (p : Processor) → GoesOn s code p → GoesOn t code p
 goes_same s t b code p h = (
   h.0,
@@ -122,7 +122,7 @@ goes_same s t b code p h = (
 )
 
 module _ (s t : Setting) (b : IsBeside s t) (code : List ℕ) where
-  -- and for ever if it never asks.
+  -- A processor that spins with one number, and never asks for it, spins with the other.
   spins_same : (a : LocalState) → NeverAsks s code a → Spins s code a.processor → Spins t code a.processor
   spins_same a quiet h = λ n.
       subst (GoesOn t code)
@@ -131,7 +131,7 @@ module _ (s t : Setting) (b : IsBeside s t) (code : List ℕ) where
       ∙ alone_processor n t code a (local_state_of a.processor []) refl))
       (goes_same s t b code (alone n s code (local_state_of a.processor [])).processor (h n))
 
-  -- A processor that is settled under one number, and never asks for it, is settled under the other.
+  -- A processor that is settled with one number, and never asks for it, is settled with the other.
   pub settled_same : (a : LocalState) → NeverAsks s code a → IsSettled s code a.processor → IsSettled t code a.processor
   settled_same a quiet h runs = by (h runs)
     where
@@ -139,7 +139,7 @@ module _ (s t : Setting) (b : IsBeside s t) (code : List ℕ) where
       by (inl refers) = inl (subst IsReference (reference_same s t b code a.processor refers) refers)
       by (inr spins) = inr (spins_same a quiet spins)
 
--- What never asks does not after some turns alone.
+-- A processor that never asks does not ask after some turns alone.
 pub never_later : (n : ℕ) (s : Setting) (code : List ℕ) (a : LocalState) → NeverAsks s code a → NeverAsks s code (alone n s code a)
 never_later zero s code a quiet = quiet
 never_later (suc n) s code a quiet = never_later n s code (alone_once s code a) (λ m. (quiet (suc m)).1)

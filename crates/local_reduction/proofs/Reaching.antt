@@ -16,7 +16,7 @@ use Rattle.local_reduction.proofs.Covering.{retiring_turn, stopping_turn, reachi
 
 -- ---- some turns later
 
--- some turns, of which at least this many are taken, lead there
+-- Some turns, of which at least this many are taken, lead to a machine and consoles with this property.
 After : FlatState → (ℕ → List ℕ) → (least : ℕ) → (FlatState → (ℕ → List ℕ) → Type 0) → Type 0
 After m consoles least P =
     (order : List ℕ) × P (flat_run m (turns order)) (consoles_after consoles (flat_events m (turns order))) × (least ≤ length (flat_events m (turns order)))
@@ -57,13 +57,13 @@ then_after P Q least m consoles x go = chained P Q least x.0 m consoles x.1 go
 -- ---- what each processor does alone
 
 module _ (at : ℕ → Setting) (code : List ℕ) (kept : LocalState → LocalState) (f : IsForgetful at code kept) where
-  -- The machine settles to s, the processors below j by no turns.
+  -- The machine settles to s, and the processors below j need no turns.
   abbrev Calm : ℕ → MacroState → FlatState → (ℕ → List ℕ) → Type 0
   Calm j s m consoles = (counts : ℕ → ℕ) × SettlesIn at code kept m consoles counts s × ((i : ℕ) → i < j → counts i ≡ 0)
 
   module _ (n k : ℕ) (s : MacroState) (m : FlatState) (consoles : ℕ → List ℕ) (counts : ℕ → ℕ) (h : SettlesIn at code kept m consoles counts s)
       (calm : (i : ℕ) → i < k → counts i ≡ 0) (left : counts k ≡ suc n) (p : Processor) (there : slice_get m.processors k ≡ Some p) where
-    -- one turn alone, where n more are known to be enough
+    -- One turn alone, if n more are known to be enough.
     calm_turn : ((m' : FlatState) (c : ℕ → List ℕ) (counts' : ℕ → ℕ) → SettlesIn at code kept m' c counts' s → ((i : ℕ) → i < k → counts' i ≡ 0) →
         counts' k ≡ n → After m' c 0 (Calm (suc k) s)) → After m consoles 0 (Calm (suc k) s)
     calm_turn again = by_running (is_running p.status) refl
@@ -122,7 +122,7 @@ module _ (at : ℕ → Setting) (code : List ℕ) (kept : LocalState → LocalSt
       then_after (Calm j s) (Calm (suc j) s) 0 m consoles (all_calm j s m consoles (omega (arith, few)) h)
       (λ n c calm. one_calm (calm.0 j) j s (omega (arith, few)) n c calm.0 calm.1 calm.2 refl)
 
-  -- It settles to s by no turns: s is what is kept of it.
+  -- The machine settles to s without any turn: s is what is kept of it.
   abbrev Rests : MacroState → FlatState → (ℕ → List ℕ) → Type 0
   Rests s m consoles = SettlesIn at code kept m consoles (λ k. 0) s
 
@@ -150,7 +150,7 @@ module _ (at : ℕ → Setting) (code : List ℕ) (kept : LocalState → LocalSt
   -- ---- moves
 
   module _ (s u : MacroState) (k : ℕ) (m : FlatState) (consoles : ℕ → List ℕ) (h : Rests s m consoles) (move : IsMove at code kept s k u) where
-    -- the processor that moves: it is about to refer to a word
+    -- The processor that moves is about to refer to a word.
     record Mover : Type 0 where
       p : Processor
       there : slice_get m.processors k ≡ Some p
@@ -204,8 +204,8 @@ module _ (at : ℕ → Setting) (code : List ℕ) (kept : LocalState → LocalSt
       after_more n c (length way) (Rests t) k (suc (length way)) (omega (arith, one))
       (moved_all way u t (flat_step n (entry.Processor k)) (consoles_after c (one_events n k)) (moved_once s u k n c r w.0) w.1))
 
--- If moves lead from the state to which the flat machine settles to another, some order of turns leads it to that one.
--- At least as many turns as moves are taken, and each processor is settled after them.
+-- If moves lead from the state to which the flat machine settles to another, some order of turns leads the machine to
+-- that one. At least as many turns as moves are taken, and each processor is settled after them.
 pub moves_are : (at : ℕ → Setting) (code : List ℕ) (kept : LocalState → LocalState) (m : FlatState) (consoles : ℕ →
     List ℕ) (s : MacroState) (way : List (ℕ × MacroState)) (t : MacroState) →
     IsForgetful at code kept → ReachesMacroState at code kept m consoles s → IsWay at code kept s way t →

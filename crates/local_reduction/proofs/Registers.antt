@@ -1,4 +1,4 @@
--- Lists in which some places are 0: what is read and written in them.
+-- Lists with 0 at some places: what is read and written in them.
 use Rattle.std.proofs.Common.{◌≡◌, ◌≢◌, ℕ, zero, suc, Bool, true, false, cond, List, [], ◌∷◌, refl, sym, ap, ◌∙◌, arith, eqb, ne_eqb}
 use Rattle.std.specs.Prelude.{slice_index, slice_set}
 use Rattle.flat_machine.specs.Effects.{register_of, with_register}
@@ -18,7 +18,7 @@ inner : (g f : Bool) (x : ℕ) → (g ≡ true → f ≡ true) → cond g (cond 
 inner true f x h = ap (λ b. cond b x 0) (h refl)
 inner false f x h = refl
 
--- what is 0 in fewer places
+-- If g has only places of f, clearing the places outside f first changes nothing.
 pub only_only : (g f : ℕ → Bool) (xs : List ℕ) → ((r : ℕ) → g r ≡ true → f r ≡ true) → only g (only f xs) ≡ only g xs
 only_only g f [] h = refl
 only_only g f (x ∷ xs) h =
@@ -39,7 +39,8 @@ with_is : (xs : List ℕ) (k v : ℕ) → with_register xs (suc k) v ≡ slice_s
 unfolding with_register
 with_is xs k v = ap (λ b. cond b xs (slice_set xs (suc k) v)) (ne_eqb (suc k) 0 (λ same. absurd (omega (arith, same))))
 
--- a register is written, and of the others no more are asked for
+-- A register can be written before or after the places outside f are cleared, if g has only places of f and that
+-- register.
 pub only_written : (g f : ℕ → Bool) (xs : List ℕ) (rd v : ℕ) → f 0 ≡ true → ((r : ℕ) → r ≢ rd → g r ≡ true → f r ≡ true) →
     only g (with_register (only f xs) rd v) ≡ only g (with_register xs rd v)
 unfolding with_register
@@ -51,7 +52,7 @@ only_written g f xs zero v first h = only_only g f xs all
 only_written g f xs (suc k) v first h =
     ap (only g) (with_is (only f xs) k v) ∙ (only_set g f xs (suc k) v h ∙ sym (ap (only g) (with_is xs k v)))
 
--- a place that is 0 anyway is written
+-- What is written to a place that is cleared anyway changes nothing.
 pub only_cleared : (set : ℕ → Bool) (xs : List ℕ) (k v : ℕ) → set k ≡ false → only set (slice_set xs k v) ≡ only set xs
 only_cleared set [] k v e = refl
 only_cleared set (x ∷ xs) zero v e =

@@ -1,4 +1,4 @@
--- Results that stand for others: each stands for itself, and so on along exchanges, and back.
+-- Standing for is an equivalence of results.
 use Rattle.std.proofs.Common.{refl, sym, ap, ◌∙◌}
 use Rattle.std.specs.Prelude.{ℕ, List, slice_get}
 use Rattle.local_reduction.specs.Results.{FinalResult, StandsFor}
@@ -9,7 +9,7 @@ module _ (classes : List ℕ) where
   pub stands_for_itself : (r : FinalResult) → StandsFor classes r r
   stands_for_itself r = (none classes, record { words = refl; each = λ k. refl })
 
-  -- A result stands for all for which one stands that it stands for.
+  -- If r stands for q, and q for p, r stands for p.
   pub stands_for_on : (r q p : FinalResult) → StandsFor classes r q → StandsFor classes q p → StandsFor classes r p
   stands_for_on r q p x y = (
     both classes x.0 y.0,

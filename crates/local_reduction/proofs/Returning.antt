@@ -1,4 +1,4 @@
--- What turns alone lead back to where it was goes the same way for ever.
+-- A processor that turns alone bring back to where it was goes the same way for ever.
 use Rattle.std.proofs.Common.{◌≡◌, ◌⊎◌, inl, inr, ℕ, ◌+◌, ◌-◌, ◌<◌, ◌≤◌, true, zero, suc, List, refl, sym, ap, subst, ◌∙◌, arith, []}
 use Rattle.std.proofs.lemmas.Bool.{cases_lt}
 use Rattle.flat_machine.specs.declared.setting.Setting.{Setting}
@@ -12,13 +12,13 @@ use Rattle.local_reduction.proofs.Settling.{Stands, settled_once}
 use Rattle.local_reduction.proofs.Numbers.{reference_asks_not}
 
 module _ (s : Setting) (code : List ℕ) where
-  -- Turns alone that follow others.
+  -- Turns alone after other turns alone are all of them together.
   pub alone_both : (n j m : ℕ) (a : LocalState) → m ≡ n + j → alone m s code a ≡ alone j s code (alone n s code a)
   alone_both zero j m a e = let same : m ≡ j = omega (arith, e) in ap (λ i. alone i s code a) same
   alone_both (suc n) j zero a e = absurd (omega (arith, e))
   alone_both (suc n) j (suc m) a e = alone_both n j m (alone_once s code a) (omega (arith, e))
 
-  -- What holds all the way back to where it began holds for ever.
+  -- What holds on the whole way back to where it began holds for ever.
   for_ever : (P : LocalState → Type 0) (n : ℕ) (a : LocalState) → ((m : ℕ) → m < suc n → P (alone m s code a)) → alone (suc n) s code a ≡ a →
       (fuel m : ℕ) → m ≤ fuel → P (alone m s code a)
   for_ever P n a all back zero m low = all m (omega (arith, low))
@@ -48,7 +48,7 @@ module _ (s : Setting) (code : List ℕ) where
   never a h zero = tt
   never a h (suc n) = (h 0, never (alone_once s code a) (λ m. h (suc m)) n)
 
-  -- One that has stopped, or is about to refer to a word, never asks for its own number.
+  -- A processor that has stopped, or is about to refer to a word, never asks for its own number.
   pub stands_quiet : (a : LocalState) → Stands s code a.processor → NeverAsks s code a
   stands_quiet a stands zero = tt
   stands_quiet a stands (suc n) =
@@ -57,7 +57,7 @@ module _ (s : Setting) (code : List ℕ) where
         subst (AskNot n s code) (sym (settled_once s code a stands)) rest,
       )
 
-  -- What does not ask in this many turns, nor ever after them, never asks.
+  -- A processor that asks neither in this many turns nor ever after them never asks.
   pub never_from : (n : ℕ) (a : LocalState) → AskNot n s code a → NeverAsks s code (alone n s code a) → NeverAsks s code a
   never_from zero a h later = later
   never_from (suc n) a h later = by (never_from n (alone_once s code a) h.1 later)
@@ -66,18 +66,18 @@ module _ (s : Setting) (code : List ℕ) where
       by rest zero = tt
       by rest (suc m) = (h.0, rest m)
 
-  -- If a processor goes on for this many turns, and then, it goes on for one more.
+  -- If a processor goes on for this many turns, and then once more, it goes on for one turn more.
   pub goes_on_more : (n : ℕ) (a : LocalState) → GoesOnFor n s code a → GoesOn s code (alone n s code a).processor → GoesOnFor (suc n) s code a
   goes_on_more zero a h last = (last, tt)
   goes_on_more (suc n) a h last = (h.0, goes_on_more n (alone_once s code a) h.1 last)
 
--- If turns alone, in each of which it goes on, lead a processor back to where it was, it spins.
+-- If turns alone, in each of which it goes on, bring a processor back to where it was, it spins.
 pub comes_back : WhatComesBackSpins
 comes_back s code a count goes back = λ n.
     subst (GoesOn s code) (alone_processor n s code a (local_state_of a.processor []) refl)
     (for_ever s code (λ (b : LocalState). GoesOn s code b.processor) count a (goes_at s code (suc count) a goes) back n n (omega arith))
 
--- If turns alone, in none of which it asks for its own number, lead a processor back to where it was, it never asks.
+-- If turns alone, in none of which it asks for its own number, bring a processor back to where it was, it never asks.
 pub comes_back_quiet : WhatComesBackNeverAsks
 comes_back_quiet s code a count asks back =
     never s code a (λ m. for_ever s code (AsksNow s code) count a (asks_at s code (suc count) a asks) back m m (omega arith))

@@ -1,4 +1,4 @@
--- What a turn of one processor leaves of the state to which the flat machine settles.
+-- How a turn of one processor changes the state to which the flat machine settles.
 use Rattle.std.proofs.Common.{◌≡◌, ◌≢◌, ◌⊎◌, inl, inr, ℕ, ◌<◌, Bool, true, false, cond, zero, suc, List, [], ◌∷◌}
 use Rattle.std.proofs.Common.{◌++◌, Option, Some, None, length, refl, sym, ap, subst, ◌∙◌, arith, eqb, eq-eqb, ne_eqb}
 use Rattle.std.specs.Prelude.{slice_get, slice_set, slice_index}
@@ -17,11 +17,11 @@ use Rattle.local_reduction.specs.LocalStates.{alone_by, alone_once, alone, IsRef
 use Rattle.local_reduction.specs.Closing.{IsAlike, IsForgetful, MacroState, gone, HasSpinner, local_state_of, ReachesMacroState}
 use Rattle.local_reduction.proofs.Spinning.{alone_processor}
 
--- below one more, a number is below or the last
+-- A number below n + 1 is below n, or is n.
 pub below : (n k : ℕ) → k < suc n → (k < n) ⊎ (k ≡ n)
 below n k l = elim (cases_lt k n) [ inl less ↦ inl less | inr past ↦ inr (omega (arith, l, past)) ]
 
--- ---- processors that stand
+-- ---- processors that have stopped or are about to refer
 
 -- The processor has stopped, or its next turn is a reference.
 abbrev pub Stands : Setting → List ℕ → Processor → Type 0
@@ -40,7 +40,7 @@ settled_once s code a h = by_running (is_running a.processor.status) refl
     by_running true e = settled_by a (turn_of s code a.processor) (h e)
     by_running false e = refl
 
--- and neither does any number of turns alone.
+-- Any number of turns alone changes nothing if the processor has stopped or its next turn is a reference.
 pub settled_stays : (n : ℕ) (s : Setting) (code : List ℕ) (a : LocalState) → Stands s code a.processor → alone n s code a ≡ a
 settled_stays zero s code a h = refl
 settled_stays (suc n) s code a h = ap (alone n s code) (settled_once s code a h) ∙ settled_stays n s code a h
@@ -51,7 +51,7 @@ settled_stays (suc n) s code a h = ap (alone n s code) (settled_once s code a h)
 pub some_inj : {X : Type 0} (x y : X) → Some x ≡ Some y → x ≡ y
 some_inj x y e = cc
 
--- what stands at a place after a write
+-- An element found after a write is the one written, or was there before at another place.
 pub set_get : {X : Type 0} (xs : List X) (k j : ℕ) (x y : X) → slice_get (slice_set xs k x) j ≡ Some y →
     ((j ≡ k) × (y ≡ x)) ⊎ ((j ≢ k) × (slice_get xs j ≡ Some y))
 set_get [] k j x y e = inr (λ same. absurd (cc), e)
@@ -103,7 +103,7 @@ showed m k p there runs = ap (λ o. with_processor_number (entry.Processor k) (t
 pub one_event : (m : FlatState) (k : ℕ) (p : Processor) → slice_get m.processors k ≡ Some p → is_running p.status ≡ true → length (one_events m k) ≡ 1
 one_event m k p there runs = ap length (showed m k p there runs)
 
--- After a step of a processor that runs there are as many processors as before.
+-- After a step of a processor that runs, there are as many processors as before.
 pub one_length : (m : FlatState) (k : ℕ) (p : Processor) → slice_get m.processors k ≡ Some p → is_running p.status ≡ true →
     length (flat_step m (entry.Processor k)).processors ≡ length m.processors
 one_length m k p there runs =
@@ -152,7 +152,7 @@ consoles_more consoles first second = λ i k. console_more k (consoles k) first 
 
 -- ---- numbers of turns
 
--- the numbers with the one of k put in
+-- the counts with processor k's replaced
 abbrev pub put : (counts : ℕ → ℕ) → (k n : ℕ) → ℕ → ℕ
 put counts k n j = cond (eqb j k) n (counts j)
 
@@ -168,7 +168,7 @@ put_other counts k n j ne = ap (λ b. cond b n (counts j)) (ne_eqb j k ne)
 
 module _ (at : ℕ → Setting) (code : List ℕ) (kept : LocalState → LocalState) where
   module _ (f : IsForgetful at code kept) where
-    -- Stations of which the same is kept go the same way.
+    -- Local states of which the same is kept go the same way.
     turn_alike : (a b c : LocalState) (x y z : Turn) → IsAlike kept a b x y → IsAlike kept a c x z → IsAlike kept b c y z
     turn_alike a b c (Retires p r) (Retires p' r') (Retires p'' r'') h i = sym h ∙ i
     turn_alike a b c (Retires p r) (Retires p' r') (Reaches w d g) h i = absurd i
@@ -235,13 +235,13 @@ module _ (at : ℕ → Setting) (code : List ℕ) (kept : LocalState → LocalSt
     reference_alike a b (Reaches w d g) (Stops c) h i = absurd h
     reference_alike a b (Stops c) y h w = absurd w
 
-    -- If one goes on, so does the other,
+    -- If the same is kept of two local states, and one goes on, so does the other.
     pub goes_alike : (k : ℕ) (a b : LocalState) → kept a ≡ kept b → GoesOn (at k) code a.processor → GoesOn (at k) code b.processor
     goes_alike k a b e h =
         let runs_b : is_running b.processor.status ≡ true = sym (run_alike a b e) ∙ h.0 in
         (runs_b, λ refers. h.1 (reference_alike b a (next k b) (next k a) (turns_alike k b a (sym e) runs_b) refers))
 
-    -- and for ever.
+    -- If the same is kept of two local states, and one spins, so does the other.
     spins_alike : (k : ℕ) (a b : LocalState) → kept a ≡ kept b → Spins (at k) code a.processor → Spins (at k) code b.processor
     spins_alike k a b e h = λ n.
         subst (GoesOn (at k) code) (alone_processor n (at k) code b (local_state_of b.processor []) refl)
@@ -268,14 +268,14 @@ module _ (at : ℕ → Setting) (code : List ℕ) (kept : LocalState → LocalSt
       let same : setting_of n k ≡ setting_of m k = λ i. record { number = k; processors = ps i; shared_words = ws i } in
       same ∙ h k
 
-  -- s has at j what the station a becomes in this many turns alone
+  -- State s has at j what is kept of local state a after n turns alone, and it is settled then.
   abbrev pub StandsIn : MacroState → (j n : ℕ) → LocalState → Type 0
   StandsIn s j n a = (slice_get s.local_states j ≡ Some (kept (alone n (at j) code a))) × IsSettled (at j) code (alone n (at j) code a).processor
 
   stands_same : (s : MacroState) (j i n o : ℕ) (a b : LocalState) → i ≡ j → o ≡ n → b ≡ a → StandsIn s i o b → StandsIn s j n a
   stands_same s j i n o a b ij on ab x = subst (λ (z : (ℕ × ℕ) × LocalState). StandsIn s z.0.0 z.0.1 z.1) (λ d. ((ij d, on d), ab d)) x
 
-  -- The flat machine settles to the state, each processor by this many turns alone.
+  -- The flat machine settles to the state, each processor by its count of turns alone.
   pub record SettlesIn (m : FlatState) (consoles : ℕ → List ℕ) (counts : ℕ → ℕ) (s : MacroState) : Type 0 where
     -- Each processor has the setting that is given for its number.
     pub settings : (k : ℕ) → setting_of m k ≡ at k
@@ -285,7 +285,7 @@ module _ (at : ℕ → Setting) (code : List ℕ) (kept : LocalState → LocalSt
     pub shared : s.shared ≡ m.shared
     -- There is a local state for each processor.
     pub all : length s.local_states ≡ length m.processors
-    -- Each processor comes to its local state by its count of turns alone, and is settled there.
+    -- Each processor reaches its local state by its count of turns alone, and is settled there.
     pub each : (k : ℕ) (p : Processor) → slice_get m.processors k ≡ Some p → StandsIn s k (counts k) (local_state_of p (consoles k))
 
   module _ (m : FlatState) (consoles : ℕ → List ℕ) (s : MacroState) where
@@ -324,7 +324,8 @@ module _ (at : ℕ → Setting) (code : List ℕ) (kept : LocalState → LocalSt
                   × IsSettled (at k) code (alone x.0 (at k) code (local_state_of r (consoles k))).processor) (some_inj q p (sym there ∙ e)) (x.1, x.2),
             )
 
-  -- What a turn alone leaves is on its way to where it was before, or it is there, and spins.
+  -- After a turn alone, a local state is one turn nearer to where it settles, or no turn was left, and the processor
+  -- spins.
   on_its_way : IsForgetful at code kept → (s : MacroState) (k n : ℕ) (a b : LocalState) → is_running a.processor.status ≡ true →
       (IsReference (turn_of (at k) code a.processor) → ⊥) → alone_by a (turn_of (at k) code a.processor) ≡ b → StandsIn s k n a →
       ((i : ℕ) × (n ≡ suc i) × StandsIn s k i b) ⊎ ((n ≡ 0) × HasSpinner at code s)
@@ -341,7 +342,7 @@ module _ (at : ℕ → Setting) (code : List ℕ) (kept : LocalState → LocalSt
     abbrev here : LocalState
     here = local_state_of p (consoles k)
 
-    -- If the processor stands, it does so after no turn.
+    -- If the processor has stopped or is about to refer, it needs no turn.
     pub none_counted : Stands (at k) code p → ((j : ℕ) → later j ≡ consoles j) → SettlesIn m consoles (put counts k 0) s
     none_counted stands same = record {
       settings = h.settings;
@@ -390,7 +391,7 @@ module _ (at : ℕ → Setting) (code : List ℕ) (kept : LocalState → LocalSt
             stands_same s j j (put counts k n j) (counts j) (local_state_of y (later j)) (local_state_of y (consoles j)) refl
             (sym (put_other counts k n j x.0)) (ap (local_state_of y) (sym (others j x.0))) (h.each j y x.1)
 
-    -- After a turn that is no reference, the machine settles to the same state by one turn fewer of that processor; or
+    -- After a turn that is no reference, the machine settles to the same state by one turn less of that processor; or
     -- none was left, and a processor spins in the state.
     pub own_counted : IsForgetful at code kept → (b : LocalState) → is_running p.status ≡ true → (IsReference (turn_of (at k) code p) → ⊥) →
         alone_by here (turn_of (at k) code p) ≡ b → later k ≡ b.console →

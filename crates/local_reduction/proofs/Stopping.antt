@@ -34,7 +34,7 @@ once_kept false a e =
     let empty = record a { processor = record a.processor { registers = []; local = [] } } in
     ap (λ r. cond r empty empty) e ∙ sym (ap (λ r. cond r a empty) e)
 
--- The registers and the local memory of a processor that has stopped are never asked for again.
+-- Nothing ever asks again for the registers and the local memory of a processor that has stopped.
 pub forgetful : (at : ℕ → Setting) (code : List ℕ) → IsForgetful at code if_running
 unfolding emptied
 forgetful at code = record {

@@ -1,4 +1,4 @@
--- A table that has what each instruction needs, looked through register by register and word by word.
+-- A table that has what each instruction needs, checked register by register and word by word.
 use Rattle.std.proofs.Common.{◌≡◌, ◌⊎◌, inl, inr, ℕ, ◌+◌, ◌*◌, ◌<◌, ◌≤◌, ◌/◌, ◌%◌, ◌^◌, Bool, true, cond}
 use Rattle.std.proofs.Common.{List, Result, Ok, Err, sym, ap, subst, ◌∙◌, arith, ◌||◌, eqb, ne_eqb}
 use Rattle.std.specs.Prelude.{not, nat_le}
@@ -12,11 +12,11 @@ use Rattle.flat_machine.specs.Turns.{fetched, found}
 use Rattle.local_reduction.specs.Live.{is_live, is_needed, HasAllLive, HasAllLiveAt}
 use Rattle.local_reduction.proofs.Forgetting.{or_first, or_last}
 
--- of the first this many registers those that the instruction needs are live
+-- The registers below this number that the instruction needs are live.
 abbrev pub HasLiveBelow : (live : List (List Bool)) → (pc : ℕ) → Insn → (count : ℕ) → Type 0
 HasLiveBelow live pc i count = (r : ℕ) → r < count → is_needed live pc i r ≡ true → is_live live pc r ≡ true
 
--- and of the first this many words of code
+-- What the instructions in this many words of code need is live.
 abbrev pub HasLiveInWords : (code : List ℕ) → (live : List (List Bool)) → (count : ℕ) → Type 0
 HasLiveInWords code live count = (word : ℕ) → word < count → HasAllLiveAt code live (65536 + 4 * word)
 
@@ -43,7 +43,7 @@ odd_is_live live pc r odd =
     or_first (not (eqb (pc % 4) 0) || eqb r 0 || nat_le 32 r) _
     (or_first (not (eqb (pc % 4) 0) || eqb r 0) _ (or_first (not (eqb (pc % 4) 0)) _ (ap not (ne_eqb (pc % 4) 0 odd))))
 
--- an instruction is fetched from code alone
+-- An instruction is fetched from code alone.
 inside : (code : List ℕ) (pc : ℕ) (i : Insn) → fetched code pc ≡ Ok i → pc / 2 ^ 16 ≡ 1
 unfolding fetched
 inside code pc i is = by (cases_eq (pc / 2 ^ 16) 1)

@@ -1,4 +1,4 @@
--- What sets of states, and ways, up to exchanges say of the flat machine.
+-- What closed sets and ways up to exchanges say of the flat machine.
 use Rattle.std.proofs.Common.{◌≡◌, ◌⊎◌, inl, inr, ℕ, true, List, Some, refl, sym, ap, subst, ◌∙◌, arith}
 use Rattle.std.specs.Prelude.{slice_get, slice_index}
 use Rattle.flat_machine.specs.declared.setting.Setting.{Setting}
@@ -18,11 +18,11 @@ use Rattle.local_reduction.proofs.Bounding.{bounded}
 use Rattle.local_reduction.proofs.Numbers.{alone_same, reference_same, settled_same, never_later}
 use Rattle.local_reduction.proofs.Exchanging.{none, back, both, exchanged_back, uniform_stays, led, way_led, spinner_exchanged, short_exchanged}
 
--- Turns alone that do not ask for the number are the same under each.
+-- Turns alone that do not ask for the number are the same with each.
 pub not_asked : NumbersAreNotAskedFor
 not_asked s t code count a b h = alone_same s t b code count a h
 
--- A move after which nothing asks for the number is that of any processor of its class.
+-- A move after which the processor never asks for its number can be made by any processor of its class.
 pub of_any : MovesAreOfAny
 of_any at code kept classes s k i a word change after count f beside there runs turn settled asks j alike =
     let same : alone count (at i) code (behind a (after (slice_index s.shared word))) ≡ alone count (at j) code (behind a (after (slice_index s.shared word))) =
@@ -44,7 +44,7 @@ beside_all at m is j k = record {
 
 module _ (at : ℕ → Setting) (code : List ℕ) (kept : LocalState → LocalState) (classes : List ℕ) (f : IsForgetful at code kept) where
   module _ (states : List MacroState) (closed : IsClosedUpTo at code kept classes states) (beside : (j k : ℕ) → IsBeside (at j) (at k)) where
-    -- an exchange of a state of the set
+    -- The state is an exchange of a state of the set.
     abbrev In : MacroState → Type 0
     In u = (t : MacroState) × IsIn states t × IsExchangeOf classes t u
 
@@ -64,7 +64,8 @@ module _ (at : ℕ → Setting) (code : List ℕ) (kept : LocalState → LocalSt
             let moved = l.1 h.2.0 u k refl h.2.1 in
             inr (moved.0, moved.1, (next.0, next.2, (both classes l.0 h.2.0, moved.2)))
 
-    -- From an exchange of a state of the set, each order of turns leads to one, or a processor spins.
+    -- If the flat machine settles to an exchange of a state of the set, it also does so after each order of turns, or a
+    -- processor spins.
     not_left_up_to : (m : FlatState) (consoles : ℕ → List ℕ) (u : MacroState) (order : List ℕ) → In u → ReachesMacroState at code kept m consoles u →
         Ran at code kept f In all_closed order m consoles
     not_left_up_to m consoles u order inside h = covered_run at code kept f In all_closed order m consoles u inside h
@@ -103,7 +104,7 @@ closed_up_to_ends at code kept classes states m consoles s u order f closed insi
     )
     by (inr caught) = absurd (caught.3 stopped)
 
--- Where moves up to exchanges lead, some order of turns leads to an exchange of it.
+-- If moves up to exchanges lead to a state, some order of turns leads to an exchange of it.
 pub up_to_turns : MovesUpToAreTurns
 up_to_turns at code kept classes m consoles s u way t f x h w =
     let l = way_led classes at code kept way s t w in
@@ -120,7 +121,7 @@ up_to_turns at code kept classes m consoles s u way t f x h w =
       omega (arith, long, many),
     )
 
--- And to each exchange of it, if processors of one class began in equal states.
+-- If processors of one class begin in equal states, some order of turns leads to each exchange of such a state.
 pub each_reached : EachExchangeIsReached
 each_reached at code kept classes m consoles s way t x f uniform h w =
     let l = way_led classes at code kept way s t w in
@@ -134,7 +135,7 @@ each_reached at code kept classes m consoles s way t x f uniform h w =
       done.2,
     )
 
--- If only this many moves follow one another up to exchanges, every schedule ends.
+-- If at most this many moves follow one another up to exchanges, every schedule ends.
 pub short_up_to : ShortUpToSchedulesEnd
 short_up_to at code kept classes m consoles s most f h short =
     bounded at code kept m consoles s most f h

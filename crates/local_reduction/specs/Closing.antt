@@ -10,7 +10,7 @@ use Rattle.local_reduction.specs.LocalStates.{LocalState, behind, stopped_by, al
 
 -- ---- what is forgotten
 
--- Two turns go the same way, and leave the same of their stations, but for what is forgotten.
+-- Two turns go the same way, and leave the same of their local states, except for what is forgotten.
 abbrev pub IsAlike : (kept : LocalState → LocalState) → LocalState → LocalState → Turn → Turn → Type 0
 IsAlike kept a b (Retires p r) (Retires q o) = kept (behind a (p, r)) ≡ kept (behind b (q, o))
 IsAlike kept a b (Reaches w c f) (Reaches v d g) =
@@ -18,7 +18,7 @@ IsAlike kept a b (Reaches w c f) (Reaches v d g) =
 IsAlike kept a b (Stops c) (Stops d) = c ≡ d
 IsAlike kept a b _ _ = ⊥
 
--- What is forgotten of a station is never asked for again: a turn goes the same way without it.
+-- What is forgotten of a local state is never asked for again: a turn goes the same way without it.
 pub record IsForgetful (at : ℕ → Setting) (code : List ℕ) (kept : LocalState → LocalState) : Type 0 where
   pub running : (a : LocalState) → is_running (kept a).processor.status ≡ is_running a.processor.status
   pub turn : (k : ℕ) (a : LocalState) → is_running a.processor.status ≡ true →
@@ -26,7 +26,7 @@ pub record IsForgetful (at : ℕ → Setting) (code : List ℕ) (kept : LocalSta
   pub stopped : (a : LocalState) (cause : Cause) → kept (stopped_by (kept a) cause) ≡ kept (stopped_by a cause)
   pub once : (a : LocalState) → kept (kept a) ≡ kept a
 
--- all of a processor that runs, and of one that has stopped neither registers nor local memory
+-- a local state whole if the processor runs, and without registers and local memory if it has stopped
 abbrev pub if_running : LocalState → LocalState
 if_running a =
     if is_running a.processor.status then a
@@ -42,11 +42,11 @@ pub record MacroState : Type 0 where
 abbrev pub IsIn : List MacroState → MacroState → Type 0
 IsIn states s = (i : ℕ) × (slice_get states i ≡ Some s)
 
--- s with a station and a word written
+-- s with one local state and one word written
 abbrev pub gone : MacroState → (k : ℕ) → LocalState → (word x : ℕ) → MacroState
 gone s k a word x = record { local_states = slice_set s.local_states k a; shared = slice_set s.shared word x }
 
--- One reference of the processor k, and what it does alone after it, lead from s to t.
+-- One reference of processor k, and what k does alone after it, lead from s to t.
 pub record IsMove (at : ℕ → Setting) (code : List ℕ) (kept : LocalState →
     LocalState) (s : MacroState) (k : ℕ) (t : MacroState)
     : Type 0 where
@@ -57,7 +57,7 @@ pub record IsMove (at : ℕ → Setting) (code : List ℕ) (kept : LocalState �
   pub change : ℕ → ℕ
   pub after : ℕ → Processor × Retired
   pub turn : turn_of (at k) code local_state.processor ≡ Reaches word change after
-  -- this many turns it takes alone
+  -- it takes this many turns alone
   pub count : ℕ
   pub settled :
       IsSettled (at k) code (alone count (at k) code (behind local_state (after (slice_index s.shared word)))).processor
@@ -65,19 +65,20 @@ pub record IsMove (at : ℕ → Setting) (code : List ℕ) (kept : LocalState �
       t ≡ gone s k (kept (alone count (at k) code (behind local_state (after (slice_index s.shared word)))))
       word (change (slice_index s.shared word))
 
--- A processor runs, and is not about to refer to a word. Where each is settled it spins, and so no order of turns stops
--- all.
+-- A processor runs, and its next turn is no reference. If each processor is settled, this one spins, and so no order of
+-- turns stops all of them.
 pub record HasSpinner (at : ℕ → Setting) (code : List ℕ) (s : MacroState) : Type 0 where
   pub processor : ℕ
   pub local_state : LocalState
   pub there : slice_get s.local_states processor ≡ Some local_state
   pub goes_on : GoesOn (at processor) code local_state.processor
 
--- In no state of the set a processor spins.
+-- No processor spins in any state of the set.
 abbrev pub HaveNoSpinner : (at : ℕ → Setting) → (code : List ℕ) → List MacroState → Type 0
 HaveNoSpinner at code states = (s : MacroState) → IsIn states s → HasSpinner at code s → ⊥
 
--- The set has with each state in which no processor spins those that a move of each of its processors leads to.
+-- For each state of the set in which no processor spins, the set also has the states to which a move of each of its
+-- processors leads.
 abbrev pub IsClosed : (at : ℕ → Setting) → (code : List ℕ) → (kept : LocalState → LocalState) → List MacroState → Type 0
 IsClosed at code kept states =
     (s : MacroState) (k : ℕ) (a : LocalState) →
@@ -85,14 +86,14 @@ IsClosed at code kept states =
     IsReference (turn_of (at k) code a.processor) →
     HasSpinner at code s ⊎ ((t : MacroState) × IsMove at code kept s k t × IsIn states t)
 
--- The processor runs, and is about to refer to a word.
+-- The processor runs, and its next turn is a reference.
 pub record MayMove (at : ℕ → Setting) (code : List ℕ) (s : MacroState) (k : ℕ) : Type 0 where
   pub local_state : LocalState
   pub there : slice_get s.local_states k ≡ Some local_state
   pub runs : is_running local_state.processor.status ≡ true
   pub refers : IsReference (turn_of (at k) code local_state.processor)
 
--- From there no more moves than this many follow one another, and no processor spins.
+-- From this state at most this many moves follow one another, and no processor spins.
 abbrev pub IsShort : (at : ℕ → Setting) → (code : List ℕ) → (kept : LocalState → LocalState) → (most : ℕ) →
     MacroState → Type 0
 IsShort at code kept zero s = (HasSpinner at code s → ⊥) × ((k : ℕ) → MayMove at code s k → ⊥)
@@ -100,7 +101,7 @@ IsShort at code kept (suc n) s =
     (HasSpinner at code s → ⊥)
     × ((k : ℕ) → MayMove at code s k → (t : MacroState) × IsMove at code kept s k t × IsShort at code kept n t)
 
--- moves, each to a state of the list and by the processor beside it, lead from s to t
+-- Moves lead from s to t: each is made by the processor listed, and leads to the state beside it.
 abbrev pub IsWay :
     (at : ℕ → Setting) → (code : List ℕ) → (kept : LocalState → LocalState) →
     (s : MacroState) → List (ℕ × MacroState) → (t : MacroState) → Type 0
@@ -109,12 +110,12 @@ IsWay at code kept s ((k, u) ∷ way) t = IsMove at code kept s k u × IsWay at 
 
 -- ---- states of the flat machine
 
--- the station of a processor that has printed these bytes
+-- the local state of a processor that has printed these bytes
 abbrev pub local_state_of : Processor → List ℕ → LocalState
 local_state_of p console = record { processor = p; console = console }
 
--- The state is what is kept of the flat machine, whose processors have printed these bytes, after each of them did, for
--- some number of turns, what it does alone.
+-- The state is what is kept of the flat machine, whose processors have printed these bytes, after each processor has
+-- taken some number of turns alone.
 pub record ReachesMacroState (at : ℕ → Setting) (code : List ℕ) (kept : LocalState → LocalState) (m : FlatState)
     (consoles : ℕ → List ℕ) (s : MacroState) : Type 0 where
   pub settings : (k : ℕ) → setting_of m k ≡ at k
@@ -133,10 +134,10 @@ pub record IsKeptOf (kept : LocalState → LocalState) (m : FlatState) (consoles
   pub each : (k : ℕ) (p : Processor) → slice_get m.processors k ≡ Some p →
       slice_get s.local_states k ≡ Some (kept (local_state_of p (consoles k)))
 
--- Each processor has stopped, or its next turn is a reference, or it spins,
+-- Each processor has stopped, or its next turn is a reference, or it spins.
 abbrev pub AreSettled : (at : ℕ → Setting) → (code : List ℕ) → FlatState → Type 0
 AreSettled at code m = (k : ℕ) (p : Processor) → slice_get m.processors k ≡ Some p → IsSettled (at k) code p
 
--- and here each has stopped.
+-- Each processor has stopped.
 abbrev pub HasStopped : FlatState → Type 0
 HasStopped m = (k : ℕ) (p : Processor) → slice_get m.processors k ≡ Some p → is_running p.status ≡ false

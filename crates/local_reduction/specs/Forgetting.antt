@@ -1,22 +1,22 @@
--- Stations without what their registers hold that are not live.
+-- Local states without the contents of registers that are not live.
 use Rattle.std.specs.Prelude.{◌≡◌, ℕ, suc, Bool, false, List, [], ◌∷◌, slice_set, if◌then◌else◌}
 use Rattle.flat_machine.specs.declared.setting.Setting.{Setting}
 use Rattle.local_reduction.specs.LocalStates.{LocalState}
 use Rattle.local_reduction.specs.Closing.{IsForgetful, if_running}
 use Rattle.local_reduction.specs.Live.{is_live, HasAllLive}
 
--- the list, with 0 in the places that are not of the set
+-- the list, with 0 at the places that are not in the set
 abbrev pub only : (ℕ → Bool) → List ℕ → List ℕ
 only set [] = []
 only set (x ∷ xs) = (if set 0 then x else 0) ∷ only (λ r. set (suc r)) xs
 
--- with 0 in the registers that are not live
+-- the local state, with 0 in the registers that are not live
 abbrev pub with_live : (live : List (List Bool)) → LocalState → LocalState
 with_live live a =
     record a { processor = record a.processor { registers = only (is_live live a.processor.pc) a.processor.registers } }
 
--- what is kept of a station: of one that runs all but what such registers hold, and of one that has stopped neither
--- registers nor local memory
+-- what is kept of a local state: if its processor runs, all but the contents of registers that are not live; if it has
+-- stopped, all but registers and local memory
 abbrev pub kept_by : (live : List (List Bool)) → LocalState → LocalState
 kept_by live a = if_running (with_live live a)
 

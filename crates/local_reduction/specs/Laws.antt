@@ -1,4 +1,4 @@
--- What the laws of closed sets speak of.
+-- The laws of closed sets.
 use Rattle.std.specs.Prelude.{◌≡◌, ℕ, suc, ◌≤◌, true, List, Some, length, slice_get, slice_index}
 use Rattle.flat_machine.specs.declared.setting.Setting.{Setting}
 use Rattle.flat_machine.specs.declared.event.Retired.{Retired}
@@ -15,8 +15,8 @@ use Rattle.local_reduction.specs.Exchanging.{AskNot, NeverAsks, IsBeside, Exchan
 use Rattle.local_reduction.specs.Exchanging.{IsUniform}
 use Rattle.local_reduction.specs.Exchanging.{IsMoveOfAny, IsClosedUpTo, IsShortUpTo, IsWayUpTo}
 
--- A closed set that has the state to which the flat machine settles has, for each order of turns after which all
--- processors have stopped, what is kept of the flat machine then.
+-- Let a closed set have the state to which the flat machine settles. For each order of turns after which all processors
+-- have stopped, it also has what is kept of the flat machine then.
 abbrev pub ClosedSetsContainAllFinalStates : Type 0
 ClosedSetsContainAllFinalStates =
     (at : ℕ → Setting) (code : List ℕ) (kept : LocalState → LocalState) (states : List MacroState) (m : FlatState)
@@ -27,7 +27,8 @@ ClosedSetsContainAllFinalStates =
     (t : MacroState) × IsIn states t
     × IsKeptOf kept (flat_run m (turns order)) (consoles_after consoles (flat_events m (turns order))) t
 
--- And no order of turns leaves it if no processor spins: what the flat machine settles to is always in the set.
+-- If no processor spins, no order of turns leaves a closed set: the state to which the flat machine settles is always
+-- in it.
 abbrev pub ClosedSetsAreNotLeft : Type 0
 ClosedSetsAreNotLeft =
     (at : ℕ → Setting) (code : List ℕ) (kept : LocalState → LocalState) (states : List MacroState) (m : FlatState)
@@ -38,8 +39,8 @@ ClosedSetsAreNotLeft =
     × ReachesMacroState at code kept (flat_run m (turns order))
     (consoles_after consoles (flat_events m (turns order))) t
 
--- Each state to which moves lead from there is what is kept of the flat machine after some order of turns. There each
--- processor has stopped, is about to refer to a word, or spins. At least as many turns are taken as there are moves.
+-- Each state to which moves lead from there is what is kept of the flat machine after some order of turns. In it each
+-- processor has stopped, is about to refer to a word, or spins. There are at least as many turns as moves.
 abbrev pub MovesAreTurns : Type 0
 MovesAreTurns =
     (at : ℕ → Setting) (code : List ℕ) (kept : LocalState → LocalState) (m : FlatState) (consoles : ℕ → List ℕ)
@@ -52,7 +53,7 @@ MovesAreTurns =
     (consoles_after consoles (flat_events m (turns order))) t
     × (length way ≤ turns_taken m order)
 
--- A move can be made from any station of which the state has what is kept.
+-- A move can be made from any local state of which the state has what is kept.
 abbrev pub MovesOfWhatIsKept : Type 0
 MovesOfWhatIsKept =
     (at : ℕ → Setting) (code : List ℕ) (kept : LocalState → LocalState) (s : MacroState) (k : ℕ) (a : LocalState)
@@ -64,19 +65,19 @@ MovesOfWhatIsKept =
     (gone s k (kept (alone count (at k) code (behind a (after (slice_index s.shared word)))))
     word (change (slice_index s.shared word)))
 
--- If turns alone, in each of which it goes on, lead a processor back to where it was, it spins,
+-- If turns alone, in each of which it goes on, bring a processor back to where it was, it spins.
 abbrev pub WhatComesBackSpins : Type 0
 WhatComesBackSpins =
     (s : Setting) (code : List ℕ) (a : LocalState) (count : ℕ) →
     GoesOnFor (suc count) s code a → alone (suc count) s code a ≡ a → Spins s code a.processor
 
--- and if in none of them it asks for its own number, it never does.
+-- If turns alone, in none of which it asks for its own number, bring a processor back to where it was, it never asks.
 abbrev pub WhatComesBackNeverAsks : Type 0
 WhatComesBackNeverAsks =
     (s : Setting) (code : List ℕ) (a : LocalState) (count : ℕ) →
     AskNot (suc count) s code a → alone (suc count) s code a ≡ a → NeverAsks s code a
 
--- If no more moves than this many follow one another, every schedule ends.
+-- If at most this many moves follow one another, every schedule ends.
 abbrev pub ShortSchedulesEnd : Type 0
 ShortSchedulesEnd =
     (at : ℕ → Setting) (code : List ℕ) (kept : LocalState → LocalState) (m : FlatState) (consoles : ℕ → List ℕ)
@@ -84,20 +85,20 @@ ShortSchedulesEnd =
     IsForgetful at code kept → ReachesMacroState at code kept m consoles s → IsShort at code kept most s →
     EveryScheduleEnds m
 
--- What processors that have stopped hold can be forgotten.
+-- The registers and the local memory of processors that have stopped can be forgotten.
 abbrev pub StoppedAreForgotten : Type 0
 StoppedAreForgotten = (at : ℕ → Setting) (code : List ℕ) → IsForgetful at code if_running
 
 -- ---- up to exchanges
 
--- Turns alone that do not ask for the processor's own number are the same whatever that is.
+-- Turns alone that do not ask for the processor's own number are the same for any number.
 abbrev pub NumbersAreNotAskedFor : Type 0
 NumbersAreNotAskedFor =
     (s t : Setting) (code : List ℕ) (count : ℕ) (a : LocalState) →
     IsBeside s t → AskNot count s code a → alone count s code a ≡ alone count t code a
 
--- A move can be made from any station of which the state has what is kept. If the processor never asks for its own
--- number after it, as long as it is alone, it is that of any processor of its class.
+-- A move can be made from any local state of which the state has what is kept. If the processor, as long as it is alone
+-- after the move, never asks for its own number, any processor of its class can make the move.
 abbrev pub MovesAreOfAny : Type 0
 MovesAreOfAny =
     (at : ℕ → Setting) (code : List ℕ) (kept : LocalState → LocalState) (classes : List ℕ) (s : MacroState) (k i : ℕ)
@@ -111,9 +112,9 @@ MovesAreOfAny =
     (gone s k (kept (alone count (at i) code (behind a (after (slice_index s.shared word)))))
     word (change (slice_index s.shared word)))
 
--- A set that is closed up to exchanges, and has an exchange of the state to which the flat machine settles, has for
--- each order of turns after which all processors have stopped, up to an exchange, what is kept of the flat machine
--- then.
+-- Let a set be closed up to exchanges, and have a state to an exchange of which the flat machine settles. For each order
+-- of turns after which all processors have stopped, it has a state of which an exchange is what is kept of the flat
+-- machine then.
 abbrev pub SetsClosedUpToContainAllFinalStates : Type 0
 SetsClosedUpToContainAllFinalStates =
     (at : ℕ → Setting) (code : List ℕ) (kept : LocalState → LocalState) (classes : List ℕ) (states : List MacroState)
@@ -123,8 +124,8 @@ SetsClosedUpToContainAllFinalStates =
     (t v : MacroState) × IsIn states t × IsExchangeOf classes t v
     × IsKeptOf kept (flat_run m (turns order)) (consoles_after consoles (flat_events m (turns order))) v
 
--- And no order of turns leaves it if no processor spins: what the flat machine settles to is always an exchange of a
--- state of the set.
+-- If no processor spins, no order of turns leaves such a set: the state to which the flat machine settles is always an
+-- exchange of a state of the set.
 abbrev pub SetsClosedUpToAreNotLeft : Type 0
 SetsClosedUpToAreNotLeft =
     (at : ℕ → Setting) (code : List ℕ) (kept : LocalState → LocalState) (classes : List ℕ) (states : List MacroState)
@@ -150,7 +151,7 @@ MovesUpToAreTurns =
     (consoles_after consoles (flat_events m (turns order))) v
     × (length way ≤ turns_taken m order)
 
--- If processors of one class stand in equal states at the beginning, some order of turns leads to each exchange of it.
+-- If processors of one class begin in equal states, some order of turns leads to each exchange of such a state.
 abbrev pub EachExchangeIsReached : Type 0
 EachExchangeIsReached =
     (at : ℕ → Setting) (code : List ℕ) (kept : LocalState → LocalState) (classes : List ℕ) (m : FlatState)
@@ -161,7 +162,7 @@ EachExchangeIsReached =
     × IsKeptOf kept (flat_run m (turns order)) (consoles_after consoles (flat_events m (turns order))) v
     × AreSettled at code (flat_run m (turns order))
 
--- If no more moves than this many follow one another up to exchanges, every schedule ends.
+-- If at most this many moves follow one another up to exchanges, every schedule ends.
 abbrev pub ShortUpToSchedulesEnd : Type 0
 ShortUpToSchedulesEnd =
     (at : ℕ → Setting) (code : List ℕ) (kept : LocalState → LocalState) (classes : List ℕ) (m : FlatState)

@@ -6,5 +6,5 @@ pub mod Results
 pub mod Laws
 pub mod Live
 pub mod Forgetting
--- Words of lower crates, passed on to those above.
+-- Definitions of lower crates, passed on to those above.
 pub use Rattle.flat_machine.specs as flat_machine

@@ -1,4 +1,4 @@
--- Which registers are live: may be read before they are written.
+-- Which registers are live: they may be read before they are written.
 use Rattle.std.specs.Prelude.{◌≡◌, ℕ, ◌*◌, ◌/◌, ◌%◌, ◌^◌, Bool, true, false, ◌==◌, ◌&&◌, ◌||◌, not, nat_le, List, []}
 use Rattle.std.specs.Prelude.{Ok, slice_index_or}
 use Rattle.rv_table.specs.declared.insn.Insn.{Insn}
@@ -7,18 +7,18 @@ use Rattle.rv_table.specs.declared.insn.Insn.TheVariants.{Fence, Ecall, Ebreak, 
 use Rattle.flat_machine.specs.Words.{plus, extended}
 use Rattle.flat_machine.specs.Turns.{fetched}
 
--- Whether the register is live where a processor stands at pc, by a table that has for each word of code which of the
--- registers are. What is not in the table is live, and so are all registers where pc is not divisible by 4.
+-- whether a register is live at pc, by a table that has the live registers of each word of code; a register that the
+-- table lacks is live, and so are all registers if pc is not divisible by 4
 abbrev pub is_live : (live : List (List Bool)) → (pc r : ℕ) → Bool
 is_live live pc r = not (pc % 4 == 0) || r == 0 || nat_le 32 r
     || slice_index_or (slice_index_or live (pc % 2 ^ 16 / 4) []) r true
 
--- It is live at a target, and another than the one that is written.
+-- whether the register is live at a target, and is not the one written before it
 abbrev pub is_passed : (live : List (List Bool)) → (target rd r : ℕ) → Bool
 is_passed live target rd r = not (r == rd) && is_live live target r
 
--- Whether an instruction at pc may read the register, or what comes after it, before it is written: one line a shape.
--- Where a jump to an address in a register leads is not known, so it needs all of them.
+-- Whether an instruction at pc, or one after it, may read the register before it is written: one line for each shape.
+-- The target of a jump to an address in a register is not known, so such a jump needs all registers.
 module _ (live : List (List Bool)) (pc : ℕ) where
   unfoldable pub is_needed : Insn → (r : ℕ) → Bool
   is_needed (Op op rd rs1 rs2) r = r == rs1 || r == rs2 || is_passed live (plus pc 4) rd r
@@ -36,11 +36,11 @@ module _ (live : List (List Bool)) (pc : ℕ) where
   is_needed Ebreak r = false
   is_needed (Amo op rd rs1 rs2 aq rl) r = r == rs1 || r == rs2 || is_passed live (plus pc 4) rd r
 
--- What the instruction at pc needs is live there,
+-- What the instruction at pc needs is live there.
 abbrev pub HasAllLiveAt : (code : List ℕ) → (live : List (List Bool)) → (pc : ℕ) → Type 0
 HasAllLiveAt code live pc = (i : Insn) (r : ℕ) → fetched code pc ≡ Ok i → is_needed live pc i r ≡ true →
     is_live live pc r ≡ true
 
--- and so for each pc.
+-- What each instruction needs is live there.
 abbrev pub HasAllLive : (code : List ℕ) → (live : List (List Bool)) → Type 0
 HasAllLive code live = (pc : ℕ) → HasAllLiveAt code live pc

@@ -1,28 +1,28 @@
-//! Laws of states between references: each is the contract of a function that does nothing.
+//! Laws of states between references. Each law is the contract of a function that does nothing.
 
 ghost use Rattle.local_reduction.specs.Laws.{ClosedSetsAreNotLeft, ClosedSetsContainAllFinalStates, MovesAreTurns};
 ghost use Rattle.local_reduction.specs.Laws.{MovesOfWhatIsKept, ShortSchedulesEnd, StoppedAreForgotten};
 ghost use Rattle.local_reduction.specs.Laws.{WhatComesBackNeverAsks, WhatComesBackSpins};
 
-/// If a set of states has the one to which a flat machine settles, and with each state those after
-/// a reference of each of its processors, but for states in which a processor spins, it has each end of that
-/// machine: what is kept of each state in which all processors have stopped, and of what they have printed.
+/// A closed set of states that has the state to which a flat machine settles has each end of that machine: what is kept
+/// of each state in which all processors have stopped, and of what they have printed. A set is closed if it has with
+/// each state those after a reference of each of its processors, or a processor of that state spins.
 pub fn closed_sets_contain_all_final_states()
     ensures ends { ClosedSetsContainAllFinalStates }
 {}
 
-/// And whatever turns are taken, the machine settles to a state of the set, if no processor spins.
+/// After any turns, the machine settles to a state of a closed set, if no processor spins.
 pub fn closed_sets_are_not_left()
     ensures stays { ClosedSetsAreNotLeft }
 {}
 
-/// And it need have no other: each state to which references lead is what is kept of the flat machine
+/// A closed set need have no other states: each state to which references lead is what is kept of the flat machine
 /// after some order of turns.
 pub fn moves_are_turns()
     ensures turns { MovesAreTurns }
 {}
 
-/// A move can be made from any station of which the state has what is kept.
+/// A move can be made from any local state of which the state has what is kept.
 pub fn moves_are_of_what_is_kept()
     ensures made { MovesOfWhatIsKept }
 {}
@@ -32,13 +32,13 @@ pub fn stopped_processors_can_be_forgotten()
     ensures forgotten { StoppedAreForgotten }
 {}
 
-/// If turns alone, in each of which it goes on, lead a processor back to where it was, it spins.
+/// If turns alone, in each of which it goes on, bring a processor back to where it was, it spins.
 pub fn what_comes_back_spins()
     ensures spins { WhatComesBackSpins }
     ensures quiet { WhatComesBackNeverAsks }
 {}
 
-/// If references follow one another only this many times, every schedule ends.
+/// If at most this many references follow one another, every schedule ends.
 pub fn short_schedules_end()
     ensures ends { ShortSchedulesEnd }
 {}

@@ -1,17 +1,17 @@
 //! What processors do alone, and sets of states between references.
 //!
-//! What a processor does between two references to shared words touches nothing that another sees. So a state is each
-//! processor at its next reference, or stopped, with what it has printed, and the shared words; and only references
-//! lead from one state to others (`specs/Closing.antt`). The laws say that no order of turns ends anywhere else. A
-//! processor may also *spin*: go on alone for ever, as one does that comes back to a state in which it was. Then no
-//! order of turns ends, so nothing need be known of what the others do. If processors stand alike, one state is enough
-//! of those that are exchanges of one another (`specs/Exchanging.antt`). What an end leaves is a result
+//! What a processor does between two references to shared words touches nothing that another one sees. So a state is
+//! each processor at its next reference, or stopped, with what it has printed, and the shared words; and only
+//! references lead from one state to another (`specs/Closing.antt`). The laws say that no order of turns ends anywhere
+//! else. A processor may also *spin*: go on alone for ever, as does one that comes back to a state in which it was.
+//! Then no order of turns ends, so nothing need be known of what the others do. If processors are alike, one state is
+//! enough for all those that are exchanges of one another (`specs/Exchanging.antt`). What is left at an end is a result
 //! (`specs/Results.antt`).
 //!
-//! A register is *live* where a processor stands at an instruction if that instruction, or one after it, may read the
-//! register before it is written. A table of live registers serves if it has, for each instruction, what the
-//! instruction reads, and what is live after it less what it writes; [`LiveTable::new`] makes one, and looks through
-//! it. What registers hold that are not live is never asked for, so it can be forgotten.
+//! A register is *live* at an instruction if that instruction, or one after it, may read the register before it is
+//! written. A table of live registers is right if it has, for each instruction, what the instruction reads, and what is
+//! live after it except what it writes. [`LiveTable::new`] makes a table, and checks it. Nothing ever asks for the
+//! contents of registers that are not live, so they can be forgotten.
 #![tactic(auto)]
 
 mod exchanges;

@@ -1,4 +1,4 @@
-//! Laws of live registers: each is the contract of a function that does nothing.
+//! Laws of live registers. Each law is the contract of a function that does nothing.
 
 ghost use Rattle.local_reduction.specs.Forgetting.{DeadAreForgotten, DeadAreNotKept};
 
@@ -9,7 +9,7 @@ pub fn dead_registers_are_not_kept()
     ensures not_kept { DeadAreNotKept }
 {}
 
-/// What registers hold that are not live can be forgotten, and so can all registers and the local memory of a
+/// The contents of registers that are not live can be forgotten, and so can all registers and the local memory of a
 /// processor that has stopped.
 pub fn dead_registers_can_be_forgotten()
     ensures forgotten { DeadAreForgotten }

@@ -8,7 +8,7 @@ use hart_ops::{branch_offset, jump_offset, sum};
 use rv_table::{Insn, Register};
 
 impl LiveTable {
-    /// Whether an instruction at `pc` may read a register, or what comes after it, before it is written.
+    /// Whether an instruction at `pc`, or one after it, may read a register before it is written.
     #[tactic(auto, unfolding(crate::specs::Live::is_needed))]
     pub(crate) fn needs(&self, pc: u32, insn: &Insn, register: Register) -> bool
         ensures { result ≡ is_needed self.now pc insn.now register }
@@ -46,7 +46,7 @@ impl LiveTable {
         }
     }
 
-    /// Whether a register is live at a target, and not written before.
+    /// Whether a register is live at a target, and is not the one written before it.
     fn passes(&self, target: u32, rd: Register, register: Register) -> bool
         ensures { result ≡ is_passed self.now target rd register }
     {
@@ -54,14 +54,14 @@ impl LiveTable {
     }
 }
 
-/// Whether an environment call reads the register: a7, by which it is named, or its argument a0.
+/// Whether an environment call reads the register: a7, which names the call, or a0, its argument.
 fn is_of_call(register: Register) -> bool
     ensures { result ≡ (register == 17 || register == 10) }
 {
     register.number() == 17 || register.number() == 10
 }
 
-/// Whether both are one register.
+/// Whether both are the same register.
 fn is_same(one: Register, other: Register) -> bool
     ensures { result ≡ one == other }
 {

@@ -1,4 +1,4 @@
-//! The table of live registers, how it is made, and that it is looked through.
+//! The table of live registers: how it is made and checked.
 
 ghost use Rattle.std.specs.Prelude.{◌≡◌, ◌/◌, ◌%◌, ◌^◌, IfOk, IsTrue};
 ghost use Rattle.local_reduction.specs.Live.{is_live, HasAllLive, HasAllLiveAt};
@@ -9,13 +9,13 @@ use rv_table::Register;
 use std::alloc::{AllocError, Global};
 use std::marker::Model;
 
-/// How many words code has.
+/// The number of words of code.
 const CODE_WORDS: u32 = REGION_BYTES / 4;
 
-/// How often code is gone through at most to make a table.
+/// The most passes over the code to make a table.
 const MAX_PASSES: u32 = 64;
 
-/// For each word of code the registers that are live there. Where nothing is noted of a word, all are.
+/// For each word of code, the registers that are live there. Where the table has nothing, all are live.
 #[derive(Drop)]
 pub struct LiveTable {
     words: Vec<[bool; 32]>,
@@ -30,7 +30,7 @@ impl Model for LiveTable {
 }
 
 impl LiveTable {
-    /// A table of code. Where more than [`MAX_PASSES`] passes would be needed, all registers are live in it.
+    /// Makes the table for this code. If it would take more than [`MAX_PASSES`] passes, all registers are live in it.
     pub fn new(alloc: Global, code: &Code) -> Result<Self, AllocError>
         ensures { IfOk result (λ live. HasAllLive code.now live) }
     {
@@ -46,7 +46,7 @@ impl LiveTable {
         })
     }
 
-    /// Whether a register is live where a processor stands at `pc`.
+    /// Whether a register is live at the instruction at `pc`.
     pub fn has(&self, pc: u32, register: Register) -> bool
         ensures { result ≡ is_live self.now pc register }
     {
@@ -66,7 +66,7 @@ impl LiveTable {
         Ok(LiveTable { words })
     }
 
-    /// Whether each instruction has what it needs.
+    /// Whether the table has what each instruction needs.
     fn is_right(&self, code: &Code) -> bool
         ensures { IsTrue result → HasAllLive code.now self.now }
     {
@@ -78,7 +78,7 @@ impl LiveTable {
         true
     }
 
-    /// Whether the instruction at `pc` has what it needs.
+    /// Whether the table has what the instruction at `pc` needs.
     fn is_right_at(&self, code: &Code, pc: u32) -> bool
         requires { pc % 4 ≡ 0 }
         ensures { IsTrue result → HasAllLiveAt code.now self.now pc }
@@ -95,8 +95,7 @@ impl LiveTable {
         true
     }
 
-    /// Adds what instructions need, from the last to the first. What it makes of the table is looked through
-    /// afterwards.
+    /// Adds what instructions need, from the last to the first. The table is checked afterwards.
     fn grow(&mut self, code: &Code) {
         for word in 0..CODE_WORDS {
             self.grow_at(code, CODE_START + 4 * (CODE_WORDS - 1 - word));
@@ -127,7 +126,7 @@ impl LiveTable {
     }
 }
 
-/// Where a table has what it notes of the word at `pc`.
+/// The place in a table of the word at `pc`.
 fn place_of(pc: u32) -> usize
     ensures { result ≡ pc % 2 ^ 16 / 4 }
 {

@@ -1,4 +1,4 @@
--- A state that is ready can be ranked after all others, and those that are ranked stay so.
+-- A state that is ready can be ranked after all others, and ranked states stay right.
 use Rattle.std.proofs.Common.{◌≡◌, ◌≢◌, ◌⊎◌, inl, inr, ℕ, ◌+◌, ◌<◌, ◌≤◌, zero, suc, Bool, true, false}
 use Rattle.std.proofs.Common.{cond, nat_lt, List, [], ◌∷◌, length, refl, sym, ap, subst, ◌∙◌, arith}
 use Rattle.std.specs.Prelude.{◌==◌, count_by, slice_set, slice_index, slice_index_or}
@@ -21,7 +21,7 @@ counted_one r h = ap weight (le-ltb r no_rank h)
 counted_none : (r : ℕ) → r < no_rank → weight (nat_lt r no_rank) ≡ 0
 counted_none r h = ap weight (lt-ltb r no_rank h)
 
--- as many states have no rank as have `no_rank`, if no number is greater
+-- The number of states with `no_rank` is the number of those without a rank, if no number is greater.
 pub unranked_counted : (ranks : List ℕ) → ((i : ℕ) → slice_index ranks i ≤ no_rank) →
     count_by (λ r. r == no_rank) ranks ≡ unranked ranks
 unranked_counted [] small = refl
@@ -33,7 +33,7 @@ unranked_counted (r ∷ ranks) small =
     tested : (r : ℕ) → r ≤ no_rank → ◌≡◌ {A = ℕ} (cond (r == no_rank) 1 0) (weight (nat_lt r no_rank))
     tested r l = grind (arith, nat_tests)
 
--- no more than there are
+-- At most all states have no rank.
 unranked_few : (ranks : List ℕ) → unranked ranks ≤ length ranks
 unranked_few [] = omega arith
 unranked_few (r ∷ ranks) = let h = unranked_few ranks in by (nat_lt r no_rank) h
@@ -42,30 +42,30 @@ unranked_few (r ∷ ranks) = let h = unranked_few ranks in by (nat_lt r no_rank)
     by true h = omega (arith, h)
     by false h = omega (arith, h)
 
--- one fewer when one of them is ranked
+-- If a state is ranked, one state fewer has no rank.
 unranked_set : (ranks : List ℕ) (i r : ℕ) → i < length ranks → no_rank ≤ rank_at ranks i → r < no_rank →
     unranked (slice_set ranks i r) + 1 ≡ unranked ranks
 unranked_set [] i r l none real = absurd (omega (arith, l))
 unranked_set (x ∷ ranks) zero r l none real = let a = counted_one x none in let b = counted_none r real in omega (arith, a, b)
 unranked_set (x ∷ ranks) (suc i) r l none real = let h = unranked_set ranks i r (omega (arith, l)) none real in omega (arith, h)
 
--- ---- ranks of which some stay
+-- ---- new ranks that keep the old ones
 
 module _ (old new : List ℕ) (stays : (i : ℕ) → rank_at old i < no_rank → rank_at new i ≡ rank_at old i)
     (successors : List ℕ) (rank : ℕ) (few : rank ≤ no_rank) where
   less : (i : ℕ) → rank_at old i < rank → rank_at new i < rank
   less i l = subst (λ r. r < rank) (sym (stays i (omega (arith, l, few)))) l
 
-  -- What is ready stays so.
+  -- What is ready stays ready.
   ready_stays : (r : Rule) → IsReady r successors old rank → IsReady r successors new rank
   ready_stays rule.Each below = λ t among. less t (below t among)
   ready_stays rule.One (inl none) = inl none
   ready_stays rule.One (inr h) = inr (h.0, h.1, less h.0 h.2)
 
--- ranks that are less than a number
+-- Here all ranks are less than a number.
 module _ (ranks : List ℕ) (next : ℕ) (all_less : (i : ℕ) → rank_at ranks i < no_rank → rank_at ranks i < next)
     (successors : List ℕ) where
-  -- What is ready can have that number as its rank.
+  -- A state that is ready can have that number as its rank.
   ready_next : (r : Rule) → IsReady r successors ranks no_rank → IsReady r successors ranks next
   ready_next rule.Each below = λ t among. all_less t (below t among)
   ready_next rule.One (inl none) = inl none
@@ -90,7 +90,7 @@ module _ (r : Rule) (moves : List (List ℕ)) (few : length moves ≤ no_rank) w
         positive (x ∷ xs) zero l e = let a = counted_one x e in omega (arith, a)
         positive (x ∷ xs) (suc i) l e = let p = positive xs i (omega (arith, l)) e in omega (arith, p)
 
-    -- The next number is a rank.
+    -- The next number can be a rank.
     pub next_real : next < no_rank
     next_real = omega (arith, some, h.room, few)
 
@@ -103,11 +103,11 @@ module _ (r : Rule) (moves : List (List ℕ)) (few : length moves ≤ no_rank) w
     stays : (i : ℕ) → rank_at ranks i < no_rank → rank_at put i ≡ rank_at ranks i
     stays i l = other i (λ same. let e : rank_at ranks i ≡ rank_at ranks at = ap (rank_at ranks) same in omega (arith, l, e, none))
 
-    -- One state fewer has no rank,
+    -- One state fewer has no rank.
     one_fewer : unranked put + 1 ≡ unranked ranks
     one_fewer = unranked_set ranks at next within none next_real
 
-    -- and the ranks are ranks so far with that of the state among them.
+    -- The ranks with that of the state among them are ranks so far.
     pub ranked_on : AreRanksSoFar r moves put (next + 1)
     ranked_on = record {
       all = length-set ranks at next ∙ h.all;

@@ -1,4 +1,4 @@
--- What the results of states that are found stand for.
+-- What the results of found states stand for.
 use Rattle.std.proofs.Common.{◌≡◌, ℕ, suc, List, [], ◌∷◌, Some, None, length, map, refl, sym, ap, subst, ◌∙◌}
 use Rattle.std.specs.Prelude.{slice_get, slice_index_or, option_map}
 use Rattle.std.specs.List.{range_with_len}
@@ -20,7 +20,7 @@ use Rattle.state_graph.proofs.Scheduling.{all_ends, none_runs}
 
 -- ---- lists
 
--- Lists that have the same at each place are equal.
+-- Lists with the same elements are equal.
 same_list : {X : Type 0} (xs ys : List X) → ((k : ℕ) → slice_get xs k ≡ slice_get ys k) → xs ≡ ys
 same_list [] [] e = refl
 same_list [] (y ∷ ys) e = let f : None ≡ Some y = e 0 in absurd (cc)
@@ -50,7 +50,7 @@ module _ (kept : LocalState → LocalState) (keeps : KeepsResults kept) where
       ∙ keeps (local_state k))) in
       λ i. record { processors = processors i; words = sym h.shared i }
 
--- The result of a state that is exchanged is exchanged.
+-- The result of an exchanged state is the exchanged result.
 result_exchanged : (place : ℕ → ℕ) (s v : MacroState) → IsExchanged place s v →
     IsResultExchanged place (result_at s) (result_at v)
 result_exchanged place s v e = record {
@@ -60,7 +60,7 @@ result_exchanged place s v e = record {
       ∙ (ap (option_map local_state_result) (e.each k) ∙ sym (slice_get-map local_state_result s.local_states (place k)));
 }
 
--- An exchange makes one result of a result.
+-- An exchange gives one result only.
 exchanged_is : (place : ℕ → ℕ) (r q p : FinalResult) → IsResultExchanged place r q → IsResultExchanged place r p → q ≡ p
 exchanged_is place r q p a b =
     let processors = same_list q.processors p.processors (λ k. a.each k ∙ sym (b.each k)) in
@@ -68,8 +68,8 @@ exchanged_is place r q p a b =
 
 -- ---- the laws
 
--- If sets that are closed up to exchanges have all final states, the result of a found state stands
--- for each result of the flat machine.
+-- If sets that are closed up to exchanges have all final states, then for each result of the flat machine there is a
+-- found state whose result stands for it.
 pub complete : SetsClosedUpToContainAllFinalStates → EachResultIsStoodFor
 complete law at code kept classes state count moves m q f keeps h settles is =
     let z = all_ends at code kept classes state count moves h m (λ k. []) settles f law is.0 is.1 in
@@ -87,8 +87,8 @@ complete law at code kept classes state count moves m q f keeps h settles is =
       ),
     )
 
--- If each exchange of a found state is reached, all that the result of a found state stands for
--- are results of the flat machine.
+-- If each exchange of a found state is reached, all results for which the result of a found state stands are results of
+-- the flat machine.
 pub sound : EachExchangeIsReached → AllStoodForAreResults
 sound law at code kept classes state count m i q f keeps reached uniform settles l stopped x =
     let way = reached i l in

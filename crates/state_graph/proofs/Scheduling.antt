@@ -1,5 +1,5 @@
--- What ranks of states that are found up to exchanges say of the schedules of a flat machine that settles to the
--- first.
+-- What ranks of states that are found up to exchanges say of the schedules of a flat machine that settles to the first
+-- state.
 use Rattle.std.proofs.Common.{◌≡◌, ◌⊎◌, inl, inr, ℕ, ◌<◌, ◌≤◌, zero, suc, Bool, true, false, cond, true≢false, nat_lt}
 use Rattle.std.proofs.Common.{List, [], ◌∷◌, ◌++◌, Some, length, refl, sym, ap, subst, ◌∙◌, arith, length-append}
 use Rattle.std.specs.Prelude.{slice_get, All, Contains}
@@ -27,7 +27,7 @@ use Rattle.state_graph.specs.Laws.{IsTerminationOf}
 
 -- ---- turns and ways
 
--- If a turn is a reference, one that goes the same way is.
+-- If a turn is a reference, a turn that goes the same way is one.
 referred_too : (kept : LocalState → LocalState) (a b : LocalState) (x y : Turn) → IsAlike kept a b x y → IsReference y →
     IsReference x
 referred_too kept a b (Retires p r) (Retires q o) h w = absurd w
@@ -38,16 +38,16 @@ referred_too kept a b (Stops c) (Retires p r) h i = absurd h
 referred_too kept a b (Stops c) (Reaches w d f) h i = absurd h
 referred_too kept a b (Stops c) (Stops d) h i = absurd i
 
--- a way with one move after it
+-- A way followed by one move is a way.
 way_on : (at : ℕ → Setting) (code : List ℕ) (kept : LocalState → LocalState) (classes : List ℕ) (way : List (ℕ × MacroState))
     (s u t : MacroState) (k : ℕ) → IsWayUpTo at code kept classes s way u → IsMoveUpTo at code kept classes u k t →
     IsWayUpTo at code kept classes s (way ++ (k, t) ∷ []) t
 way_on at code kept classes [] s u t k w m = (subst (λ v. IsMoveUpTo at code kept classes v k t) (sym w) m, refl)
 way_on at code kept classes ((j, v) ∷ way) s u t k w m = (w.0, way_on at code kept classes way v u t k w.1 m)
 
--- ---- stations that stand where others have stopped
+-- ---- states whose processors have all stopped
 
--- If each processor is settled, none may move and none spins, all have stopped.
+-- If each processor is settled, none may move and none spins, then all have stopped.
 stopped : (at : ℕ → Setting) (code : List ℕ) (forget : LocalState → LocalState) (n : FlatState) (consoles : ℕ → List ℕ)
     (u : MacroState) → IsForgetful at code forget → IsKeptOf forget n consoles u → AreSettled at code n →
     ((k : ℕ) → MayMove at code u k → ⊥) → (HasSpinner at code u → ⊥) → HasStopped n
@@ -75,7 +75,7 @@ stopped at code forget n consoles u forgets kept settled none no_spinner k p fou
     by false stops = stops
     by true runs = absurd (goes runs (settled k p found runs))
 
--- If all have stopped, none runs in what is kept.
+-- If all processors have stopped, none runs in what is kept.
 pub none_runs : (at : ℕ → Setting) (code : List ℕ) (forget : LocalState → LocalState) (n : FlatState) (consoles : ℕ → List ℕ)
     (u : MacroState) → IsForgetful at code forget → IsKeptOf forget n consoles u → HasStopped n → (k : ℕ) (a : LocalState) →
     slice_get u.local_states k ≡ Some a → is_running a.processor.status ≡ false
@@ -91,7 +91,7 @@ nowhere_there i x found = cc
 
 -- ---- lists of successors
 
--- A list that contains nothing is empty.
+-- A list without an element is empty.
 empty : (ts : List ℕ) → ((t : ℕ) → Contains ts t → ⊥) → ts ≡ []
 empty [] none = refl
 empty (t ∷ ts) none = absurd (none t (0, omega arith, refl))
@@ -99,12 +99,12 @@ empty (t ∷ ts) none = absurd (none t (0, omega arith, refl))
 empty_has_none : (ts : List ℕ) (t : ℕ) → ts ≡ [] → Contains ts t → ⊥
 empty_has_none ts t e x = let least = x.1 in let none = ap length e in omega (arith, least, none)
 
--- What is so unless something is that is not.
+-- If one of two facts holds, and not the first, the second does.
 unless : {X Y : Type 0} → (X → ⊥) → X ⊎ Y → Y
 unless none (inl x) = absurd (none x)
 unless none (inr y) = y
 
--- A successor has no rank, or each has one.
+-- Either some successor has no rank, or each has one.
 some_up : (ranks ts : List ℕ) →
     ((t : ℕ) × Contains ts t × (no_rank ≤ rank_at ranks t)) ⊎ All (λ t. rank_at ranks t < no_rank) ts
 some_up ranks [] = inr (All-nil (λ t. rank_at ranks t < no_rank))
@@ -131,7 +131,7 @@ module _ (at : ℕ → Setting) (code : List ℕ) (kept : LocalState → LocalSt
 
   module _ (ranks : List ℕ) (are : AreRanks rule.Each moves ranks)
       (all : (i : ℕ) → i < length moves → rank_at ranks i < no_rank) where
-    -- A state in which a processor spins would have to be ranked after itself.
+    -- In no state does a processor spin, since that state would be ranked after itself.
     none_spins : (i : ℕ) → i < count → HasSpinner at code (state i) → ⊥
     none_spins i l spins =
         let itself : Contains (successors_at moves i) i =
@@ -167,7 +167,7 @@ module _ (at : ℕ → Setting) (code : List ℕ) (kept : LocalState → LocalSt
       (no_spinner : (i : ℕ) → i < count → HasSpinner at code (state i) → ⊥) (ranks : List ℕ)
       (are : AreRanks rule.Each moves ranks) (from : ℕ) (there : from < length moves)
       (none : no_rank ≤ rank_at ranks from) where
-    -- A way of at least this many moves leads to a state that has no rank.
+    -- A way of at least this many moves leads to a state without a rank.
     abbrev Long : ℕ → Type 0
     Long least =
         (way : List (ℕ × MacroState)) × (i : ℕ) × (i < count) × (no_rank ≤ rank_at ranks i)
@@ -207,7 +207,7 @@ module _ (at : ℕ → Setting) (code : List ℕ) (kept : LocalState → LocalSt
   -- ---- sets of states
 
   module _ (left_out : ℕ → Bool) where
-    -- the states with lesser numbers, but for those that are left out
+    -- the states with lesser numbers, except those that are left out
     picked : ℕ → List MacroState
     picked zero = []
     picked (suc n) = cond (left_out n) (picked n) (state n ∷ picked n)
@@ -239,7 +239,7 @@ module _ (at : ℕ → Setting) (code : List ℕ) (kept : LocalState → LocalSt
         by again false _ (inl low) = let x = again low in (suc x.0, x.1)
         by again false _ (inr same) = (zero, ap (λ j. Some (state j)) (sym same))
 
-    -- A set that has with each state its successors is closed.
+    -- A set is closed if it has all successors of each of its states.
     closed : ((i t : ℕ) → i < count → left_out i ≡ false → Contains (successors_at moves i) t → left_out t ≡ false) →
         IsClosedUpTo at code kept classes (picked count)
     closed stay s k a inside there runs refers =
@@ -263,7 +263,7 @@ module _ (at : ℕ → Setting) (code : List ℕ) (kept : LocalState → LocalSt
 
   module _ (ranks : List ℕ) (are : AreRanks rule.One moves ranks)
       (all : (i : ℕ) → i < length moves → rank_at ranks i < no_rank) where
-    -- A state in which a processor spins has no successor but itself, and so no rank.
+    -- In no state does a processor spin, since such a state has only itself as a successor, and so no rank.
     none_runs_on : (i : ℕ) → i < count → HasSpinner at code (state i) → ⊥
     none_runs_on i l spins = by (are.sound i (listed i l) (all i (listed i l)))
       where
@@ -283,7 +283,7 @@ module _ (at : ℕ → Setting) (code : List ℕ) (kept : LocalState → LocalSt
             let less = x.2 in
             omega (arith, same, less)
 
-    -- A way leads to where none may move, and none spins.
+    -- From this state a way leads to a state in which no processor may move and none spins.
     abbrev Leads : ℕ → Type 0
     Leads i =
         (way : List (ℕ × MacroState)) × (u : MacroState) × IsWayUpTo at code kept classes (state i) way u
@@ -352,7 +352,7 @@ module _ (at : ℕ → Setting) (code : List ℕ) (kept : LocalState → LocalSt
     abbrev has_rank : ℕ → Bool
     has_rank i = nat_lt (rank_at ranks i) no_rank
 
-    -- The successors of a state without a rank have none.
+    -- The successors of a state without a rank have no rank.
     stay : (i t : ℕ) → i < count → has_rank i ≡ false → Contains (successors_at moves i) t → has_rank t ≡ false
     stay i t l out x = by (cases_lt (rank_at ranks t) no_rank)
       where
@@ -399,7 +399,7 @@ module _ (at : ℕ → Setting) (code : List ℕ) (kept : LocalState → LocalSt
             is_running a.processor.status ≡ false) (sym row.3)
             (λ k a here. still (z.3.0.taker k) a (sym (turned_back.each k) ∙ here)))))
 
-  -- What is said of schedules is so.
+  -- What the successors of states say about schedules is true.
   pub verdict_is : AreReached at code kept classes state count → SetsClosedUpToContainAllFinalStates → SetsClosedUpToAreNotLeft →
       MovesUpToAreTurns → ShortUpToSchedulesEnd → (verdict : Termination) → IsTrueOf moves verdict →
       IsTerminationOf m verdict
@@ -413,7 +413,7 @@ module _ (at : ℕ → Setting) (code : List ℕ) (kept : LocalState → LocalSt
   verdict_is reached ends stays law short (termination_claim.Deadlock states first) x =
       stuck reached x.0 x.1 first x.2 x.3 ends law
 
-  -- Each end is what is kept of an exchange of a state that is found.
+  -- Each end is what is kept of an exchange of a found state.
   pub all_ends : SetsClosedUpToContainAllFinalStates → (order : List ℕ) → HasStopped (flat_run m (turns order)) →
       (i : ℕ) × (v : MacroState) × (i < count) × IsExchangeOf classes (state i) v
       × IsKeptOf kept (flat_run m (turns order)) (consoles_after consoles (flat_events m (turns order))) v

@@ -1,5 +1,5 @@
--- Where states stand in the order in which they are found breadth first, no path is shorter than one by the first
--- states that lead to each.
+-- If states are in breadth-first order, no path is shorter than the one on which each state is the first that leads to
+-- the next.
 use Rattle.std.proofs.Common.{◌≡◌, ◌⊎◌, inl, inr, ℕ, ◌-◌, ◌<◌, ◌≤◌, zero, suc, List, [], ◌∷◌, ◌++◌, length, refl, sym, subst, arith, length-append}
 use Rattle.std.specs.Prelude.{Contains}
 use Rattle.std.proofs.lemmas.Bool.{cases_lt}
@@ -7,11 +7,11 @@ use Rattle.state_graph.specs.Paths.{IsPath, IsBreadthFirst, IsFirstFrom}
 use Rattle.state_graph.specs.Ranks.{successors_at}
 
 module _ (moves : List (List ℕ)) where
-  -- a path of this many states at most
+  -- A path of at most this many states leads to this place.
   abbrev pub IsNear : (place most : ℕ) → Type 0
   IsNear place most = (path : List ℕ) × IsPath moves 0 path place × (length path ≤ most)
 
-  -- a path with one state after it
+  -- A path followed by one more state is a path.
   path_on : (path : List ℕ) (from mid to : ℕ) → IsPath moves from path mid → Contains (successors_at moves mid) to →
       IsPath moves from (path ++ to ∷ []) to
   path_on [] from mid to h leads = (subst (λ i. Contains (successors_at moves i) to) (sym h) leads, refl)
@@ -22,7 +22,7 @@ module _ (moves : List (List ℕ)) where
       let short = h.2 in
       (h.0 ++ to ∷ [], path_on h.0 0 mid to h.1 leads, omega (arith, length-append h.0 (to ∷ []), short))
 
-  -- the last state before the end of a path
+  -- A path ends with a last move, from the state `mid`.
   record HasLast (from to count : ℕ) : Type 0 where
     mid : ℕ
     path : List ℕ
@@ -43,7 +43,7 @@ module _ (moves : List (List ℕ)) where
       let same = k.shorter in
       record { mid = k.mid; path = next ∷ k.path; is = (h.0, k.is); leads = k.leads; shorter = omega (arith, same) }
 
-  -- A state that stands before another is as near.
+  -- A state before another one is as near as that one.
   pub near_before : IsBreadthFirst moves → (most u w : ℕ) → u ≤ w → IsNear w most → IsNear u most
   near_before breadth zero u w low h = by h.0 h.1 h.2
     where
@@ -67,7 +67,7 @@ module _ (moves : List (List ℕ)) where
           near_on found.0 u most
           (before found.0 k.mid found.1 (k.path, k.is, omega (arith, long, short))) found.2
 
-  -- The first state that leads to one does not stand after another that does.
+  -- The first state that leads to this one is not after any other that does.
   least : (from place mid : ℕ) → IsFirstFrom moves from place → Contains (successors_at moves mid) place → from ≤ mid
   least from place mid first leads = by (cases_lt mid from)
     where
@@ -75,7 +75,7 @@ module _ (moves : List (List ℕ)) where
       by (inl below) = absurd (first.first mid below leads)
       by (inr past) = past
 
-  -- So it is nearer than it.
+  -- The first state that leads to this one is nearer than it.
   pub first_nearer : IsBreadthFirst moves → (from place most : ℕ) → IsFirstFrom moves from place → IsNear place most →
       (less : ℕ) × (most ≡ suc less) × IsNear from less
   first_nearer breadth from place most first h = by h.0 h.1 h.2

@@ -13,17 +13,17 @@ use Rattle.state_graph.specs.declared.termination.Termination.TheVariants as ter
 use Rattle.state_graph.specs.Termination.{IsTrueOf}
 use Rattle.state_graph.specs.Search.{AreSuccessors, AreReached}
 
--- So it is with the schedules of the flat machine.
+-- This is true of the schedules of the flat machine.
 abbrev pub IsTerminationOf : FlatState → Termination → Type 0
 IsTerminationOf m termination_claim.Always = EveryScheduleEnds m
 IsTerminationOf m termination_claim.Possible = SomeScheduleNeverEnds m × CanAlwaysEnd m
 IsTerminationOf m (termination_claim.Deadlock states first) = CanBeStuck m
 
--- What is kept of a station has its result.
+-- What is kept of a local state has the same result.
 abbrev pub KeepsResults : (kept : LocalState → LocalState) → Type 0
 KeepsResults kept = (a : LocalState) → local_state_result (kept a) ≡ local_state_result a
 
--- What is said of schedules from the successors of the states holds of each flat machine that settles to the first.
+-- What the successors of the states say about schedules is true of each flat machine that settles to the first state.
 abbrev pub SuccessorsDecideTermination : Type 0
 SuccessorsDecideTermination =
     (at : ℕ → Setting) (code : List ℕ) (kept : LocalState → LocalState) (classes : List ℕ) (state : ℕ → MacroState)
@@ -32,7 +32,7 @@ SuccessorsDecideTermination =
     AreReached at code kept classes state count → ReachesMacroState at code kept m consoles (state 0) →
     IsTrueOf moves termination_claim → IsTerminationOf m termination_claim
 
--- Each result of the flat machine is one for which the result of a state stands that is found,
+-- For each result of the flat machine there is a found state whose result stands for it.
 abbrev pub EachResultIsStoodFor : Type 0
 EachResultIsStoodFor =
     (at : ℕ → Setting) (code : List ℕ) (kept : LocalState → LocalState) (classes : List ℕ) (state : ℕ → MacroState)
@@ -41,7 +41,8 @@ EachResultIsStoodFor =
     ReachesMacroState at code kept m (λ k. []) (state 0) → IsFlatResult m q →
     (i : ℕ) × (i < count) × HaveStopped (state i) × StandsFor classes (result_at (state i)) q
 
--- and all for which it stands are results, if processors of one class stand in equal states in the first.
+-- All results for which the result of a found state stands are results of the flat machine, if processors of one class
+-- are in equal states in the first state.
 abbrev pub AllStoodForAreResults : Type 0
 AllStoodForAreResults =
     (at : ℕ → Setting) (code : List ℕ) (kept : LocalState → LocalState) (classes : List ℕ) (state : ℕ → MacroState)

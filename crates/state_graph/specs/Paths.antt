@@ -3,7 +3,7 @@ use Rattle.std.specs.Prelude.{◌≡◌, ℕ, ◌<◌, ◌≤◌, List, [], ◌�
 use Rattle.state_graph.specs.Ranks.{successors_at}
 
 module _ (moves : List (List ℕ)) where
-  -- Each state of the path is a successor of the one before it, and the last is the one to which it leads.
+  -- Each state of the path is a successor of the one before it, and the path leads to its last state.
   abbrev pub IsPath : (from : ℕ) → (path : List ℕ) → (to : ℕ) → Type 0
   IsPath from [] to = from ≡ to
   IsPath from (next ∷ path) to = Contains (successors_at moves from) next × IsPath next path to
@@ -12,14 +12,14 @@ module _ (moves : List (List ℕ)) where
   abbrev pub HasNoneBefore : (place : ℕ) → Type 0
   HasNoneBefore i = (k : ℕ) → k < i → Contains (successors_at moves k) i → ⊥
 
-  -- The first state that has this one among its successors stands before it.
+  -- This is the first state that has the one at `place` as a successor, and it is before that one.
   pub record IsFirstFrom (from place : ℕ) : Type 0 where
     pub before : from < place
     pub leads : Contains (successors_at moves from) place
     pub first : (k : ℕ) → k < from → Contains (successors_at moves k) place → ⊥
 
-  -- The states stand in the order in which they are found breadth first: each that stands before a successor of a
-  -- state, but for the first, is a successor of that state or of one before it.
+  -- The states are in breadth-first order: each state before a successor of a state, except for the first, is a
+  -- successor of that state or of one before it.
   abbrev pub IsBreadthFirst : Type 0
   IsBreadthFirst =
       (i v u : ℕ) → Contains (successors_at moves i) v → 0 < u → u < v →

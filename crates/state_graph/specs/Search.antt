@@ -1,5 +1,5 @@
--- States that are found up to exchanges, and where their moves lead. A state is a number below a count, and has a
--- meaning.
+-- States that are found up to exchanges, and the states to which their moves lead. A found state is a number below a
+-- count, and stands for a macro state.
 use Rattle.std.specs.Prelude.{◌≡◌, ◌⊎◌, ℕ, ◌<◌, ◌≤◌, List, [], ◌∷◌, Contains, length}
 use Rattle.local_reduction.specs.flat_machine.declared.setting.Setting.{Setting}
 use Rattle.local_reduction.specs.LocalStates.{LocalState}
@@ -9,8 +9,9 @@ use Rattle.state_graph.specs.Ranks.{no_rank, successors_at}
 
 module _ (at : ℕ → Setting) (code : List ℕ) (kept : LocalState → LocalState) (classes : List ℕ)
     (state : ℕ → MacroState) (count : ℕ) where
-  -- The successors that are listed of each state are those to which its moves lead, up to exchanges: each is one,
-  -- and each move leads to one. A state in which a processor spins has itself for its successor, and no other.
+  -- The successors listed for each state are those to which its moves lead, up to exchanges: each listed one is such a
+  -- state, and each move leads to one that is listed. A state in which a processor spins has itself as its only
+  -- successor.
   pub record AreSuccessors (moves : List (List ℕ)) : Type 0 where
     pub filled : 0 < count
     pub all : length moves ≡ count

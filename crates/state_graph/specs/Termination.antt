@@ -6,25 +6,25 @@ use Rattle.state_graph.specs.declared.termination.Termination.TheVariants as ter
 use Rattle.state_graph.specs.Ranks.{no_rank, rank_at, unranked, AreRanks}
 
 module _ (moves : List (List ℕ)) where
-  -- Each state has a rank, and each of its successors a lesser one,
+  -- Each state has a rank, and all of its successors have lesser ones.
   abbrev pub AllEnd : Type 0
   AllEnd = (ranks : List ℕ) × AreRanks rule.Each moves ranks × ((i : ℕ) → i < length moves → rank_at ranks i < no_rank)
 
-  -- or this state has none;
+  -- This state has no rank by that rule.
   abbrev pub HasNoEnd : (place : ℕ) → Type 0
   HasNoEnd i = (ranks : List ℕ) × AreRanks rule.Each moves ranks × (i < length moves) × (no_rank ≤ rank_at ranks i)
 
-  -- each state has one, and one of its successors a lesser one, if it has any,
+  -- Each state has a rank, and one of its successors has a lesser one, if it has successors.
   abbrev pub AllReach : Type 0
   AllReach = (ranks : List ℕ) × AreRanks rule.One moves ranks × ((i : ℕ) → i < length moves → rank_at ranks i < no_rank)
 
-  -- or this state has none, as this many have.
+  -- This state has no rank by that rule, and neither have others: as many as `states`, with this one.
   abbrev pub ReachesNone : (states place : ℕ) → Type 0
   ReachesNone states i =
       (ranks : List ℕ) × AreRanks rule.One moves ranks × (i < length moves) × (no_rank ≤ rank_at ranks i)
       × (states ≡ unranked ranks)
 
-  -- what is said of schedules from the successors of states
+  -- This is true of the successors of states.
   abbrev pub IsTrueOf : Termination → Type 0
   IsTrueOf termination_claim.Always = AllEnd
   IsTrueOf termination_claim.Possible = ((i : ℕ) × HasNoEnd i) × AllReach

@@ -1,4 +1,4 @@
-//! Laws of the states that a search has found: each is the contract of a function that does nothing.
+//! Laws of the states that a search has found. Each law is the contract of a function that does nothing.
 
 ghost use Rattle.state_graph.specs.Laws.{AllStoodForAreResults, EachResultIsStoodFor, SuccessorsDecideTermination};
 
@@ -7,7 +7,7 @@ use local_reduction::{
     sets_closed_up_to_contain_all_final_states, short_up_to_schedules_end,
 };
 
-/// What is said of schedules from the successors of states is so.
+/// What the successors of states say about schedules is true.
 pub fn successors_decide_termination()
     ensures termination_claim { SuccessorsDecideTermination }
 {
@@ -17,14 +17,14 @@ pub fn successors_decide_termination()
     short_up_to_schedules_end();
 }
 
-/// The result of some state stands for each result of the flat machine.
+/// For each result of the flat machine there is a state whose result stands for it.
 pub fn each_result_is_stood_for()
     ensures complete { EachResultIsStoodFor }
 {
     sets_closed_up_to_contain_all_final_states();
 }
 
-/// All that the result of a state stands for are results of the flat machine.
+/// All results for which the result of a state stands are results of the flat machine.
 pub fn all_stood_for_are_results()
     ensures sound { AllStoodForAreResults }
 {

@@ -1,12 +1,12 @@
-//! The graph of the states that a search has found, and what it says.
+//! The graph of the states that a search has found, and what it says of the flat machine.
 //!
-//! A state is its place in a list, which has for each state the places of its successors ([`Successors`]), up to
-//! exchanges of processors that stand alike. Each state is ranked after those to which its moves lead. If each state
-//! has a rank after all of them, every schedule ends. If each has one after some of them, an end can always be reached
-//! ([`termination_of`]). [`path_to`] gives the states that lead to one.
+//! A state is its place in a list. [`Successors`] has, for each state, the places of its successors, up to exchanges of
+//! processors that are alike. Each state is ranked after states to which its moves lead. If each state has a rank after
+//! all of them, every schedule ends. If each has a rank after some of them, an end can always be reached
+//! ([`termination_of`]). [`path_to`] lists the states on a path to a state.
 //!
-//! The laws say what this says of the flat machine: its results and its schedules. Each is the contract of a function
-//! that does nothing.
+//! The laws say what the graph means for the flat machine's results and schedules. Each law is the contract of a
+//! function that does nothing.
 #![tactic(auto)]
 
 mod laws;

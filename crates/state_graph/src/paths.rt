@@ -7,10 +7,11 @@ ghost use Rattle.state_graph.specs.Ranks.{successors_at};
 use crate::successors::Successors;
 use std::alloc::{AllocError, Global};
 
-/// The states on a path from the first to the one at a place, in their order, without the first and with that one.
+/// The states on a path from the first state to the one at a place, in their order, without the first and with the
+/// last.
 ///
-/// Each is a successor of the first state that leads to it. If the states stand in the order in which they are found
-/// breadth first, no path is shorter.
+/// The state before each one on the path is the first that has it as a successor. If the states are in breadth-first
+/// order, no path is shorter.
 ///
 /// # Errors
 ///
@@ -31,14 +32,14 @@ pub fn path_to(alloc: Global, moves: &Successors, place: u32) -> Result<Vec<u32>
     Ok(path)
 }
 
-/// The first state before this one that has it among its successors.
+/// The first state before this one that has it as a successor.
 fn found_from(moves: &Successors, place: u32) -> Option<u32>
     ensures { MatchOption result (HasNoneBefore moves.now place) (λ before. IsFirstFrom moves.now before place) }
 {
     (0..place).find(|before| leads_to(moves, *before, place))
 }
 
-/// Whether a state has another among its successors.
+/// Whether one state has another as a successor.
 fn leads_to(moves: &Successors, from: u32, to: u32) -> bool
     ensures { IsTrue result ↔ Contains (successors_at moves.now from) to }
 {

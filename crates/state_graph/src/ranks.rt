@@ -1,4 +1,4 @@
-//! Ranks of states, by where their moves lead.
+//! Ranks of states, by the states to which their moves lead.
 
 ghost use Rattle.std.specs.Prelude.{◌≡◌, ◌↔◌, ◌≤◌, ℕ, length, IfOk, IsTrue};
 ghost use Rattle.state_graph.specs.Ranks.{AreBelow, AreRanks, AreRanksSoFar, HasBelow, IsPassed, IsReady, no_rank};
@@ -7,19 +7,19 @@ ghost use Rattle.state_graph.specs.Ranks.{rank_at};
 use crate::successors::Successors;
 use std::alloc::{AllocError, Global};
 
-/// What a state is ranked for.
+/// When a state can be ranked.
 #[derive(Clone, Copy, Debug, PartialEq, Eq, Drop)]
 pub enum Rule {
-    /// Each of its successors is ranked before it.
+    /// When each of its successors is ranked before it.
     Each,
-    /// It has no successor, or one of its successors is ranked before it.
+    /// When it has no successor, or one of its successors is ranked before it.
     One,
 }
 
-/// What stands for the rank of a state that has none.
+/// The value for a state without a rank.
 pub const NO_RANK: u32 = u32::MAX;
 
-/// A rank for each state that can have one by the rule, and [`NO_RANK`] for the others.
+/// Ranks each state that can be ranked by the rule. The others have [`NO_RANK`].
 pub fn ranks_of(alloc: Global, rule: Rule, moves: &Successors) -> Result<Vec<u32>, AllocError>
     requires few { length moves.now ≤ no_rank }
     ensures { IfOk result (λ ranks. AreRanks rule moves.now ranks.items) }
@@ -30,7 +30,7 @@ pub fn ranks_of(alloc: Global, rule: Rule, moves: &Successors) -> Result<Vec<u32
     Ok(ranks)
 }
 
-/// This many states without a rank.
+/// No rank for any of this many states.
 fn without_ranks(alloc: Global, count: usize) -> Result<Vec<u32>, AllocError>
     ensures all { IfOk result (λ ranks. length ranks.items ≡ count) }
     ensures none { IfOk result (λ ranks. (i : ℕ) → no_rank ≤ rank_at ranks.items i) }
@@ -40,7 +40,7 @@ fn without_ranks(alloc: Global, count: usize) -> Result<Vec<u32>, AllocError>
     Ok(ranks)
 }
 
-/// Ranks each state that is ready, from the last to the first, and says whether there was one.
+/// Ranks each state that is ready, from the last to the first, and returns whether there was one.
 fn rank_ready(rule: Rule, moves: &Successors, ranks: &mut Vec<u32>, next: &mut u32) -> bool
     requires few { length moves.now ≤ no_rank }
     requires ranks { AreRanksSoFar rule moves.now ranks.old.items next.old }
@@ -60,7 +60,7 @@ fn rank_ready(rule: Rule, moves: &Successors, ranks: &mut Vec<u32>, next: &mut u
     is_found
 }
 
-/// Whether a state can be ranked that has these successors.
+/// Whether a state with these successors can be ranked.
 fn is_ready(rule: Rule, successors: &[u32], ranks: &[u32]) -> bool
     ensures { IsTrue result ↔ IsReady rule successors.now ranks.now no_rank }
 {

@@ -9,9 +9,9 @@ use std::marker::Model;
 /// The successors of each state, in the order of the states.
 #[derive(Drop)]
 pub struct Successors {
-    /// The successors of all, one list after another.
+    /// The successors of all states, one list after another.
     targets: Vec<u32>,
-    /// Where the list of each state ends.
+    /// The end of each state's list.
     ends: Vec<usize>,
 }
 
@@ -27,7 +27,7 @@ impl Model for Successors {
 }
 
 impl Successors {
-    /// Those of no state.
+    /// The successors of no states.
     pub fn new(alloc: Global) -> Self
         ensures { result ≡ [] }
     {
@@ -55,7 +55,7 @@ impl Successors {
         &self.targets[start..*end]
     }
 
-    /// Adds a state that has these successors.
+    /// Appends a state with these successors.
     ///
     /// # Errors
     ///
@@ -72,7 +72,7 @@ impl Successors {
     }
 }
 
-/// Where the list of a state begins.
+/// The start of a state's list.
 fn start_of(ends: &[usize], state: usize) -> usize
     requires { state ≤ length ends.now }
     ensures { result ≡ slice_index (0 ∷ ends.now) state }

@@ -13,13 +13,13 @@ use std::alloc::{AllocError, Global};
 pub enum Termination {
     /// Every schedule ends.
     Always,
-    /// Some schedule never ends, but wherever one has led, an end can be reached.
+    /// Some schedule never ends, but after any turns an end can still be reached.
     Possible,
-    /// From some states no end can be reached: from this many, of which the first was found at a place.
+    /// From `states` states no end can be reached. The first of them is at place `first`.
     Deadlock { states: usize, first: u32 },
 }
 
-/// Whether schedules end that begin at the first state.
+/// Returns whether the schedules that begin at the first state end.
 ///
 /// # Errors
 ///
@@ -58,7 +58,7 @@ fn first_unranked(ranks: &[u32]) -> Option<u32>
     None
 }
 
-/// How many states have no rank.
+/// The number of states without a rank.
 fn count_unranked(ranks: &[u32]) -> usize
     ensures { result ≡ unranked ranks.now }
 {

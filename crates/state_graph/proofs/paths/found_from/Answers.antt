@@ -6,7 +6,7 @@ use Rattle.state_graph.specs.Paths.{HasNoneBefore, IsFirstFrom}
 use Rattle.state_graph.specs.Ranks.{successors_at}
 use Rattle.state_graph.proofs.paths.found_from.Goals as goal
 
--- What a search of a range says holds of all numbers below its end, if it begins at 0.
+-- What a search of a range from 0 says holds of all numbers below its end.
 below : (found : Option ℕ) (moves : List (List ℕ)) (place : ℕ) →
     MatchOption found ((k : ℕ) → 0 ≤ k → k < place → Contains (successors_at moves k) place → ⊥)
     (λ i. (0 ≤ i) × (i < place) × Contains (successors_at moves i) place
