@@ -1,4 +1,4 @@
--- Ports with all cores back, place by place.
+-- Ports with all cores back, one by one.
 use Rattle.std.proofs.Common.{◌≡◌, ◌≢◌, ℕ, zero, suc, ◌+◌, ◌≤◌, ◌<◌, List, [], ◌∷◌, length, Option, Some, None, refl, sym, ap, ap₂, ◌∙◌, arith}
 use Rattle.std.specs.Prelude.{replicate, slice_index_or, slice_set}
 use Rattle.machine_steps.specs.machine_ports.Ports.{PortState}
@@ -27,7 +27,7 @@ back_at (port ∷ ports) [] p same = absurd (omega arith)
 back_at (port ∷ ports) (l ∷ lent) zero same = refl
 back_at (port ∷ ports) (l ∷ lent) (suc p) same = back_at ports lent p (omega arith)
 
--- where a port changes, and what is known of its core
+-- If a port and what is known of its core are replaced, only that port changes with all cores back.
 pub back_set : (ports : List PortState) (lent : List (Option Lent)) (p : ℕ) (port : PortState) (l : Option Lent) → length lent ≡ length ports →
     all_back (slice_set ports p port) (slice_set lent p l) ≡ slice_set (all_back ports lent) p (with_lent port l)
 unfolding all_back
@@ -37,7 +37,7 @@ back_set (q ∷ ports) [] p port l same = absurd (omega arith)
 back_set (q ∷ ports) (k ∷ lent) zero port l same = refl
 back_set (q ∷ ports) (k ∷ lent) (suc p) port l same = ap (λ rest. with_lent q k ∷ rest) (back_set ports lent p port l (omega arith))
 
--- where nothing is lent
+-- If no core is lent, all ports are as they are.
 pub back_none : (ports : List PortState) (lent : List (Option Lent)) → ((p : ℕ) → lent_at lent p ≡ None) → all_back ports lent ≡ ports
 unfolding all_back
 back_none [] lent none = refl
@@ -50,7 +50,7 @@ replicate_none zero p = none_there p
 replicate_none (suc n) zero = refl
 replicate_none (suc n) (suc p) = replicate_none n p
 
--- where nothing is known any more of one
+-- If an entry is replaced by None, that core is not known to be away.
 pub none_set : (lent : List (Option Lent)) (p q : ℕ) → (q ≢ p → lent_at lent q ≡ None) → lent_at (slice_set lent p None) q ≡ None
 none_set [] p q others = none_there q
 none_set (l ∷ lent) zero zero others = refl
@@ -58,14 +58,14 @@ none_set (l ∷ lent) zero (suc q) others = others (λ e. absurd (omega (arith, 
 none_set (l ∷ lent) (suc p) zero others = others (λ e. absurd (omega (arith, e)))
 none_set (l ∷ lent) (suc p) (suc q) others = none_set lent p q (λ apart. others (λ e. apart (omega (arith, e))))
 
--- where nothing is known of the first, as many as there are
+-- If none of the first n is known to be away, and the list has at most n, none is.
 pub none_past : (lent : List (Option Lent)) (n : ℕ) → length lent ≤ n → ((q : ℕ) → q < n → lent_at lent q ≡ None) → (q : ℕ) → lent_at lent q ≡ None
 none_past [] n few none q = none_there q
 none_past (l ∷ lent) zero few none q = absurd (omega arith)
 none_past (l ∷ lent) (suc n) few none zero = none 0 (omega arith)
 none_past (l ∷ lent) (suc n) few none (suc q) = none_past lent n (omega arith) (λ j within. none (suc j) (omega (arith, within))) q
 
--- what a borrowed element is
+-- A borrowed element is the element at its place, with any default.
 pub found_at : {X : Type 0} (xs : List X) (i place : ℕ) (d x : X) → place ≡ i → i < length xs → x ≡ slice_index_or xs place x → x ≡ slice_index_or xs i d
 found_at {X} xs i place d x same within is = is ∙ ap (λ j. slice_index_or xs j x) same ∙ any_default xs i within
   where
@@ -82,7 +82,7 @@ unfolding promised
 none_promised zero = refl
 none_promised (suc n) = none_promised n
 
--- a promise is made
+-- A new loan adds its steps to those promised.
 pub promise_more : (lent : List (Option Lent)) (p : ℕ) (l : Lent) → p < length lent → lent_at lent p ≡ None →
     promised (slice_set lent p (Some l)) ≡ promised lent + l.most
 unfolding promised
@@ -92,7 +92,7 @@ promise_more (Some k ∷ lent) zero l within none = absurd (cc)
 promise_more (None ∷ lent) (suc p) l within none = promise_more lent p l (omega arith) none
 promise_more (Some k ∷ lent) (suc p) l within none = let more = promise_more lent p l (omega arith) none in omega (arith, more)
 
--- a promise ends
+-- The end of a loan takes its steps from those promised.
 pub promise_less : (lent : List (Option Lent)) (p : ℕ) (l : Lent) → lent_at lent p ≡ Some l →
     promised (slice_set lent p None) + l.most ≡ promised lent
 unfolding promised

@@ -1,4 +1,4 @@
--- The turns of a core that has come back.
+-- The turns of a core that comes back.
 use Rattle.std.proofs.Common.{◌≡◌, ℕ, ◌+◌, ◌^◌, ◌<◌, ◌≤◌, false, List, [], ◌∷◌, ◌++◌, length, map, Option, Some}
 use Rattle.std.proofs.Common.{None, ◌⊎◌, inl, inr, refl, sym, ap, ◌∙◌, subst, get_or-set_same, arith}
 use Rattle.std.specs.Prelude.{slice_set}
@@ -36,7 +36,7 @@ use Rattle.machine_log.specs.declared.lent.Lent.{Lent}
 use Rattle.machine_log.proofs.Backing.{promise_less}
 use Rattle.machine_log.proofs.Changing.{IsAway, as_long, back_port, lends_so, whole_set}
 
--- ---- words stay words
+-- ---- words stay in range
 
 words_kept : (c : Config) (p : ℕ) (code : List ℕ) (before after : Processor) (taken : List retirement.Retired) → c.k ≤ 6 → p < 2 ^ c.k → AreBelow 256 code →
     HasWords before → TakesLocal (setting_of c p) code before taken after → HasWords after
@@ -53,7 +53,7 @@ unfolding all_after theory.machine_after after
 all_same c code [] M = refl
 all_same c code (s ∷ ss) M = all_same c code ss (after c code M s)
 
--- what retires does not stall
+-- Steps that retire instructions do not stall.
 none_stalls : (c : Config) (code : List ℕ) (ss : List Step) (M : theory.Machine ObservedCore) (taken : List retirement.Retired) →
     answers_of c code M ss ≡ outcomes_of taken →
     NoneStalls c code M ss
@@ -74,7 +74,7 @@ module _ (catches : LocalTurnsCatchUp) (V : MachineLists) (is : IsMachine V) (p 
     abbrev M : theory.Machine ObservedCore
     M = machine_of V shown
 
-    -- the core that has gone on
+    -- the core after the instructions, with their events
     abbrev gone : ObservedCore
     gone = record { state = core.state; events = shown p ++ map event.Retired taken }
 
@@ -85,7 +85,7 @@ module _ (catches : LocalTurnsCatchUp) (V : MachineLists) (is : IsMachine V) (p 
     behind_is : all_after V.config V.code M turns ≡ with_core M p gone
     behind_is = sym (all_same V.config V.code turns M) ∙ caught.1
 
-    -- the events that are shown then
+    -- the events shown after the core is put in
     abbrev later : ℕ → List Event
     later = events_of (with_core M p gone)
 
@@ -148,23 +148,23 @@ module _ (catches : LocalTurnsCatchUp) (joined : ReplaysAreJoined) (opening : Ma
 
 -- ---- a core that has come back
 
--- The core of p, of which this is known, has come back as it is after these instructions.
+-- Processor p's core, which was lent like this, comes back as it is after these instructions.
 pub record ComesBack (opening m : MachineLists) (steps : List Step) (capacity : ℕ) (lent : List (Option Lent)) (p : ℕ) (l : Lent) (core : CoreState)
     (taken : List retirement.Retired) : Type 0 where
   pub catches : LocalTurnsCatchUp
-  -- One replay after another is a replay.
+  -- a replay followed by a replay is a replay
   pub joined : ReplaysAreJoined
   pub is : IsLending opening m steps capacity lent
-  -- The core of p is away, and was lent as l says.
+  -- the core of p is away, and was lent as l says
   pub away : IsAway m lent p l
-  -- The core that comes back has the setting with which it was lent.
+  -- the core that comes back has the setting with which it was lent
   pub setting : core.setting ≡ l.core.setting
   pub home : is_away core.state ≡ false
   pub local : TakesLocal l.core.setting m.code l.core.state taken core.state
-  -- It has taken no more instructions than were promised.
+  -- it has taken no more instructions than were promised
   pub few : length taken ≤ l.most
 
--- as a call finds it
+-- If a call finds the core away, and it has taken these instructions, it comes back.
 pub comes_back : {opening m : MachineLists} {steps : List Step} {capacity : ℕ} {lent : List (Option Lent)} {p : ℕ} {l : Lent} {core : CoreState}
     {taken : List retirement.Retired} {x : LendingLog} → LocalTurnsCatchUp → ReplaysAreJoined → IsLending opening m steps capacity lent → IsAway m lent p l →
     record { log = record { opening = opening; steps = steps; machine = whole m lent }; lent = lent } ≡ x → core.setting ≡ l.core.setting →
@@ -205,17 +205,17 @@ module _ {opening m : MachineLists} {steps : List Step} {capacity : ℕ} {lent :
   local_there = subst (λ (x : Setting × Processor). TakesLocal x.0 m.code x.1 taken core.state)
       (λ i. (setting_is i, sym (ap (λ (x : PortState). x.core.state) port_is) i)) b.local
 
-  -- The core that comes back has words.
+  -- The words of the core that comes back are in range.
   pub core_words : HasWords core.state
   core_words = words_kept m.config p m.code l.core.state core.state taken b.is.sound.limits.stages b.away.within b.is.sound.code
       (b.is.away p l b.away.known).words
       (subst (λ s. TakesLocal s m.code l.core.state taken core.state) setting_is b.local)
 
-  -- A turn for each instruction taken leads the machine with all cores back to the one with this core at p.
+  -- A turn for each instruction leads the machine with all cores back to the one with this core at p.
   pub back_replay : IsReplay V (turns_of p (length taken)) (with_core_at V p core)
   back_replay = turns_replay b.catches V b.is.kept.sound p b.away.within shut core taken local_there
 
-  -- A turn for each instruction taken, after the steps of the log, retires it.
+  -- After the steps of the log, a turn for each instruction retires it.
   pub back_answered : AreAnswered opening steps p taken
   back_answered =
       each_answers b.catches b.joined opening V steps p core.setting core.state taken b.is.kept.sound b.away.within shut
@@ -233,7 +233,7 @@ module _ {opening m : MachineLists} {steps : List Step} {capacity : ℕ} {lent :
   pub whole_returned : (m' : MachineLists) → m' ≡ with_core_at m p core → whole m' (slice_set lent p None) ≡ with_core_at V p core
   whole_returned m' same = ap (λ x. whole x (slice_set lent p None)) same ∙ whole_set m lent long p core None
 
-  -- If the core is put in and a turn is entered for each instruction taken, the log is kept with one core fewer away.
+  -- If the core is put in and a turn is entered for each instruction, the log still lends, with one core less.
   pub returned : (m' : MachineLists) (steps' : List Step) (capacity' : ℕ) → m' ≡ with_core_at m p core → IsMachine m' →
       steps' ≡ steps ++ turns_of p (length taken) → capacity' ≡ capacity → length steps ≤ capacity →
       IsLending opening m' steps' capacity' (slice_set lent p None)

@@ -1,4 +1,4 @@
--- What always holds of a log that lends, where a core is taken out or put in.
+-- A log that lends is still one after a core is taken out or put in.
 use Rattle.std.proofs.Common.{◌≡◌, ◌≢◌, ℕ, ◌+◌, ◌-◌, ◌^◌, ◌<◌, ◌≤◌, Bool, true, false, List}
 use Rattle.std.proofs.Common.{length, Option, Some, None, ◌⊎◌, inl, inr, refl, sym, ap, ◌∙◌}
 use Rattle.std.proofs.Common.{subst, get_or-set_same, get_or-set_other, length-set, arith}
@@ -19,11 +19,11 @@ use Rattle.machine_log.specs.Lendings.{IsLending, IsLent, LendingLog, all_back, 
 use Rattle.machine_log.specs.declared.lent.Lent.{Lent}
 use Rattle.machine_log.proofs.Backing.{back_at, back_none, back_set, found_at, none_past, promise_less, promise_more}
 
--- a core that is put where it stands changes nothing
+-- A machine is as before if the core that is there already is put in its place.
 pub same_core : (m : MachineLists) (p : ℕ) → with_core_at m p (port_at m.ports p).core ≡ m
 same_core m p = ap (λ ports. record m { ports = ports }) (set-get_or m.ports p no_port)
 
--- the core that counts: what is known of it, if it is away
+-- the core that counts: the lent one, if it is away
 abbrev pub counting : CoreState → Option Lent → CoreState
 counting core None = core
 counting core (Some l) = l.core
@@ -37,15 +37,15 @@ other_core port None core = refl
 other_core port (Some k) core = refl
 
 module _ (m : MachineLists) (lent : List (Option Lent)) (same : length lent ≡ length m.ports) (p : ℕ) (core : CoreState) (l : Option Lent) where
-  -- With all cores back, a machine in which the core of p and what is known of it are replaced
-  -- is the one before with the core that counts at p.
+  -- If p's core and what is known of it are replaced, the machine with all cores back is the one before, with the core
+  -- that counts at p.
   pub whole_set : whole (with_core_at m p core) (slice_set lent p l) ≡ with_core_at (whole m lent) p (counting core l)
   whole_set = ap (λ ports. record m { ports = ports })
       (back_set m.ports lent p (record (port_at m.ports p) { core = core }) l same
       ∙ ap (slice_set (all_back m.ports lent) p) (counts (port_at m.ports p) core l ∙ other_core (port_at m.ports p) (lent_at lent p) (counting core l)
       ∙ ap (λ (x : PortState). record x { core = counting core l }) (sym (back_at m.ports lent p same))))
 
-  -- other cores are away as they were
+  -- Other cores are away as before.
   pub away_other : (q : ℕ) → q ≢ p → away_at (with_core_at m p core) q ≡ away_at m q
   away_other q apart = ap (λ (x : PortState). is_away x.core.state) (get_or-set_other m.ports p q (record (port_at m.ports p) { core = core }) no_port apart)
 
@@ -53,21 +53,21 @@ module _ (m : MachineLists) (lent : List (Option Lent)) (same : length lent ≡ 
   away_here inside =
       ap (λ (x : PortState). is_away x.core.state) (get_or-set_same m.ports p (record (port_at m.ports p) { core = core }) no_port inside)
 
--- the port with all cores back
+-- With all cores back, a port has its core as it was lent.
 pub back_port : (m : MachineLists) (lent : List (Option Lent)) (p : ℕ) → length lent ≡ length m.ports →
     port_at (whole m lent).ports p ≡ with_lent (port_at m.ports p) (lent_at lent p)
 back_port m lent p same = back_at m.ports lent p same
 
 module _ (opening m : MachineLists) (steps : List Step) (capacity : ℕ) (lent : List (Option Lent)) (is : IsLending opening m steps capacity lent)
     (p : ℕ) (within : p < 2 ^ m.config.k) (core : CoreState) (l : Option Lent) where
-  -- The list of what is known of cores is as long as that of the ports.
+  -- The list of lent cores is as long as that of the ports.
   pub as_long : length lent ≡ length m.ports
   as_long = is.all ∙ sym is.sound.ports.all
 
   inside : p < length lent
   inside = subst (λ n. p < n) (sym is.all) within
 
-  -- it goes on to hold
+  -- The log still lends after a core and what is known of it are replaced.
   pub lends_so : (steps' : List Step) (capacity' : ℕ) → IsMachine (with_core_at m p core) →
       IsWellFormed (record { opening = opening; steps = steps'; machine = with_core_at (whole m lent) p (counting core l) }) →
       ((k : Lent) → l ≡ Some k → IsLent (with_core_at m p core) p k) → promised (slice_set lent p l) ≤ capacity' - length steps' →
@@ -91,14 +91,14 @@ module _ (opening m : MachineLists) (steps : List Step) (capacity : ℕ) (lent :
 
 -- ---- a core is put back as it was lent
 
--- the core of p is away, and this is known of it
+-- The core of p is away, and was lent like this.
 pub record IsAway (m : MachineLists) (lent : List (Option Lent)) (p : ℕ) (l : Lent) : Type 0 where
   -- The machine has this processor.
   pub within : p < 2 ^ m.config.k
   -- The core is known to be away, and how it was lent.
   pub known : lent_at lent p ≡ Some l
 
--- as a call finds it
+-- what a call finds of a log that lends
 module _ {opening m : MachineLists} {steps : List Step} {capacity : ℕ} {lent : List (Option Lent)} (is : IsLending opening m steps capacity lent)
     {x : LendingLog} (view : record { log = record { opening = opening; steps = steps; machine = whole m lent }; lent = lent } ≡ x)
     {p : ℕ} (there : p < 2 ^ x.log.machine.config.k) where
@@ -130,7 +130,7 @@ module _ {opening m : MachineLists} {steps : List Step} {capacity : ℕ} {lent :
   pub whole_back : (m' : MachineLists) → m' ≡ with_core_at m p l.core → whole m' (slice_set lent p None) ≡ whole m lent
   whole_back m' same = ap (λ x. whole x (slice_set lent p None)) same ∙ whole_set m lent long p l.core None ∙ stands_so
 
-  -- If a core is put back as it was lent, the log is kept with one core fewer away.
+  -- If a core is put back as it was lent, the log still lends, with one core less.
   pub brought_back : (m' : MachineLists) → m' ≡ with_core_at m p l.core → IsMachine m' → IsLending opening m' steps capacity (slice_set lent p None)
   brought_back m' same sound =
       let less = promise_less lent p l away.known in
@@ -141,7 +141,7 @@ module _ {opening m : MachineLists} {steps : List Step} {capacity : ℕ} {lent :
       (subst (λ (x : MachineLists). IsWellFormed (record { opening = opening; steps = steps; machine = x })) (sym stands_so) is.kept)
       (λ k f. absurd (cc)) (omega (arith, less, capacity_left)) (omega (arith, less, room)))
 
--- where none of this many is known to be away, all cores are back
+-- If none of the processors is known to be away, all cores are back.
 pub back_all : {opening m : MachineLists} {steps : List Step} {capacity : ℕ} {lent : List (Option Lent)} {x : LendingLog} {size : Config} {end n : ℕ} →
     IsLending opening m steps capacity lent → record { log = record { opening = opening; steps = steps; machine = whole m lent }; lent = lent } ≡ x →
     x.log.machine.config ≡ size → end ≡ 2 ^ size.k → end ≤ n → ((q : ℕ) → q < n → lent_at x.lent q ≡ None) → whole m lent ≡ m
@@ -173,14 +173,14 @@ module _ {opening m : MachineLists} {steps : List Step} {capacity : ℕ} {lent :
       ap (λ a. not a && runs p) (sym (sym same ∙ home))
   free_by p (Some l) e true t = ap (λ a. not a && runs p) (sym (is.away p l e).away)
 
-  -- a core can be lent that can be taken out
+  -- A core can be lent if and only if it can be taken out.
   pub free_is : (p : ℕ) → may_lend view p ≡ is_free m p
   free_is p =
       ap (λ (x : PortState). nat_lt p (2 ^ m.config.k) && (not (is_some (lent_at lent p)) && (is_running x.core.state.status && not x.is_open)))
       (back_port m lent p long_enough)
       ∙ free_by p (lent_at lent p) refl (nat_lt p (2 ^ m.config.k)) refl
 
-  -- as a call finds it
+  -- If a call finds that a core can be lent, it can be taken out.
   pub found_free : {x : LendingLog} {b : Bool} → view ≡ x → (p : ℕ) → b ≡ may_lend x p → b ≡ true → is_free m p ≡ true
   found_free same p fact may = sym (free_is p) ∙ ap (λ (x : LendingLog). may_lend x p) same ∙ sym fact ∙ may
 
@@ -202,7 +202,7 @@ module _ {opening m : MachineLists} {steps : List Step} {capacity : ℕ} {lent :
         by false e = e
         by true e = absurd (true≢false (sym there_parts.1 ∙ ap not e))
 
-    -- nothing is known of it
+    -- The core of a free processor is not known to be away.
     pub free_unlent : lent_at lent p ≡ None
     free_unlent = by (lent_at lent p) refl
       where
@@ -210,7 +210,7 @@ module _ {opening m : MachineLists} {steps : List Step} {capacity : ℕ} {lent :
         by None e = e
         by (Some l) e = absurd (true≢false (sym (is.away p l e).away ∙ at_home))
 
-    -- with all cores back, it stands there
+    -- With all cores back, a free processor has the core that it has.
     pub free_core : (port_at (whole m lent).ports p).core ≡ (port_at m.ports p).core
     free_core = ap (λ (x : PortState). x.core) (back_port m lent p long_enough ∙ ap (with_lent (port_at m.ports p)) free_unlent)
 
@@ -221,12 +221,12 @@ module _ {opening m : MachineLists} {steps : List Step} {capacity : ℕ} {lent :
       stands_still : with_core_at (whole m lent) p l.core ≡ whole m lent
       stands_still = ap (with_core_at (whole m lent) p) (core_is ∙ sym free_core) ∙ same_core (whole m lent) p
 
-      -- If the core of p is taken out and known as it is, the machine with all cores back is the same.
+      -- If p's core is taken out and entered as it is, the machine with all cores back is the same.
       pub whole_out : (m' : MachineLists) → m' ≡ without_core_at m p → whole m' (slice_set lent p (Some l)) ≡ whole m lent
       whole_out m' same =
           ap (λ x. whole x (slice_set lent p (Some l))) same ∙ whole_set m lent long_enough p none (Some l) ∙ stands_still
 
-      -- If the core of p is lent with room for the steps promised to it, the log is kept with one core more away.
+      -- If p's core is lent with room for the steps promised to it, the log still lends, with one core more.
       pub lent_out : (m' : MachineLists) (capacity' : ℕ) → m' ≡ without_core_at m p → IsMachine m' → promised lent + l.most ≤ capacity' - length steps →
           length steps + (promised lent + l.most) ≤ 4194304 → IsLending opening m' steps capacity' (slice_set lent p (Some l))
       lent_out m' capacity' same sound capacity_left room =

@@ -4,5 +4,5 @@
 pub use Rattle.machine_log.proofs.Taking.{entered_length, entered_moving, entered_one, kept_after, kept_home}
 -- Ports with all cores back.
 pub use Rattle.machine_log.proofs.Backing.{back_at, replicate_none}
--- All machines that open on one image are one: none of the steps that one of them takes stalls in another.
+-- All machines that open on one image are the same: a step that one of them has taken does not stall in another.
 pub use Rattle.machine_log.proofs.OneOpening.{none_stalls}

@@ -1,4 +1,4 @@
--- A step that no lent core takes does the same to the machine with all cores back.
+-- A step of others than the lent cores does the same to the machine with all cores back.
 use Rattle.std.proofs.Common.{◌≡◌, ◌≢◌, ℕ, zero, suc, ◌<◌, ◌≤◌, Bool, List, [], ◌∷◌, length, Option, Some, None, ◌⊎◌, inl, inr, refl, sym, ap, ap₂, ◌∙◌, arith}
 use Rattle.std.proofs.lemmas.Bool.{cases_eq, cases_lt}
 use mathlib.Core.Path.{fun_ext}
@@ -26,7 +26,7 @@ use Rattle.machine_log.proofs.Backing.{back_at}
 
 -- ---- cores that are put in
 
--- they change nothing else
+-- Cores that are put in change nothing else.
 cores_alone : (M : theory.Machine ObservedCore) (cores : List (ℕ × ObservedCore)) →
     with_cores M cores ≡ record { net = M.net; mem = M.mem; core = (with_cores M cores).core; is_open = M.is_open }
 cores_alone M [] = refl
@@ -39,7 +39,7 @@ module _ (lent : List (Option Lent)) (shown : ℕ → List Event) where
   abbrev observed_lent : ℕ → Lent → ObservedCore
   observed_lent p l = record { state = l.core.state; events = shown p }
 
-  -- before others, if it is lent
+  -- the list, with a lent core before the others, if there is one
   abbrev behind : ℕ → Option Lent → List (ℕ × ObservedCore) → List (ℕ × ObservedCore)
   behind p None cores = cores
   behind p (Some l) cores = (p, observed_lent p l) ∷ cores
@@ -49,7 +49,7 @@ module _ (lent : List (Option Lent)) (shown : ℕ → List Event) where
   cores_of zero = []
   cores_of (suc n) = behind n (lent_at lent n) (cores_of n)
 
-  -- what stands at p: the lent core, if there is one
+  -- the core at p: the lent one, if there is one
   abbrev standing : ObservedCore → ℕ → Option Lent → ObservedCore
   standing g p None = g
   standing g p (Some l) = observed_lent p l
@@ -65,13 +65,13 @@ module _ (lent : List (Option Lent)) (shown : ℕ → List Event) where
     behind_there p q None cores apart = refl
     behind_there p q (Some l) cores apart = put_other (with_cores M cores).core p (observed_lent p l) q apart
 
-    -- past the first n the cores are the machine's
+    -- Past the first n, the cores are the machine's.
     later_stand : (n q : ℕ) → n ≤ q → (with_cores M (cores_of n)).core q ≡ M.core q
     unfolding cores_of
     later_stand zero q past = refl
     later_stand (suc n) q past = behind_there n q (lent_at lent n) (cores_of n) (λ e. absurd (omega (arith, e, past))) ∙ later_stand n q (omega (arith, past))
 
-    -- and among them the lent ones
+    -- Among the first n, lent cores are in their places.
     first_stand : (n q : ℕ) → q < n → (with_cores M (cores_of n)).core q ≡ standing (M.core q) q (lent_at lent q)
     unfolding cores_of
     first_stand zero q within = absurd (omega arith)
@@ -140,7 +140,7 @@ module _ (laws : OthersDoNotNotice) (c : Config) (code : List ℕ) (M : theory.M
           let one = laws c code (with_cores M (cores_of lent shown n)) n core s (others n l e) in
           (one.0 ∙ h.0, one.1 ∙ ap (λ N. with_core N n core) h.1)
 
--- what other processors have shown does not count
+-- Events of processors whose cores are not lent do not matter.
 shown_alike : (lent : List (Option Lent)) (shown shown' : ℕ → List Event) → ((p : ℕ) (l : Lent) → lent_at lent p ≡ Some l → shown' p ≡ shown p) →
     (n : ℕ) → cores_of lent shown' n ≡ cores_of lent shown n
 unfolding cores_of
@@ -152,7 +152,7 @@ shown_alike lent shown shown' same (suc n) = at (lent_at lent n) refl (shown_ali
     at None e h = h
     at (Some l) e h = ap₂ (λ es (cores : List (ℕ × ObservedCore)). (n, record { state = l.core.state; events = es }) ∷ cores) (same n l e) h
 
--- a step of others shows nothing of p
+-- A step of others shows no event of p.
 shown_so : (p : ℕ) (shown : ℕ → List Event) (s : Step) (o : Outcome) → IsOfOthers p s → with_shown shown s o p ≡ shown p
 shown_so p shown (step.Turn q) (Retired r) apart = put_other shown q _ p (λ e. apart (sym e))
 shown_so p shown (step.Turn q) (Stopped cause) apart = put_other shown q _ p (λ e. apart (sym e))
@@ -200,7 +200,7 @@ module _ (laws : OthersDoNotNotice) (m m' : MachineLists) (lent : List (Option L
   away_is x None x' stays = stays
   away_is x (Some l) x' stays = refl
 
-  -- A step of others, taken while cores are away, is the same step of the machine with all cores back.
+  -- A step of others that is taken while cores are away is the same step of the machine with all cores back.
   pub step_back : IsStep m s o m' → IsStep (whole m lent) s o (whole m' lent)
   step_back st = record {
     config = st.config;
@@ -213,7 +213,7 @@ module _ (laws : OthersDoNotNotice) (m m' : MachineLists) (lent : List (Option L
     step = parts_back laws m.config m.code (net_of m.network) (net_of m'.network) m.ports m'.ports m.modules m'.modules lent same same' s o others st.step;
   }
 
--- what a step of others answers
+-- A step of others has the same outcome with all cores back.
 pub answers_back : OthersDoNotNotice → (m : MachineLists) (lent : List (Option Lent)) → length lent ≡ length m.ports → (s : Step) → OfOthers lent s →
     outcome_of m.config m.code (machine_of m (λ p. [])) s ≡ outcome_of m.config m.code (machine_of (whole m lent) (λ p. [])) s
 answers_back laws m lent same s others =

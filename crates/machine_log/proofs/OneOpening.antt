@@ -1,4 +1,4 @@
--- All machines that open on one image are one: none of the steps that one of them takes stalls in another.
+-- All machines that open on one image are the same: a step that one of them has taken does not stall in another.
 use Rattle.std.proofs.Common.{◌≡◌, ℕ, zero, suc, ◌<◌, List, [], ◌∷◌, length, take, slice_index_or, ◌∙◌, subst, arith}
 use Rattle.flat_machine.specs.declared.config.Config.{Config}
 use Rattle.machine_steps.specs.elf_image.Images.{ImageContents}
@@ -13,7 +13,7 @@ use Rattle.machine_steps.specs.Runs.{IsOpening, IsReplay, NoneStalls, all_after}
 use Rattle.machine_steps.proofs.Lemmas.{outcome_there, same_code, same_config, same_machine}
 use Rattle.machine_log.specs.Replays.{StallsAt}
 
--- a step of a replay does something where it is taken
+-- Each step of a replay does something on the machine that takes it.
 moves_there : (c : Config) (code : List ℕ) (M : theory.Machine ObservedCore) (steps : List Step) (place : ℕ) → NoneStalls c code M steps →
     place < length steps →
     outcome_of c code (all_after c code M (take place steps)) (slice_index_or steps place (step.Turn 0)) ≡ Stalled → ⊥

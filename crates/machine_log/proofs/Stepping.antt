@@ -1,4 +1,4 @@
--- What always holds of a log that lends, where it takes a step.
+-- A log that lends is still one after a step.
 use Rattle.std.proofs.Common.{◌≡◌, ℕ, ◌+◌, ◌-◌, ◌^◌, ◌<◌, ◌≤◌, true, false, List, length, Option, Some, None, refl, sym, ap, ◌∙◌, subst, arith}
 use Rattle.std.specs.Prelude.{replicate}
 use Rattle.std.proofs.lemmas.Bool.{true≢false}
@@ -51,7 +51,7 @@ module _ (c : Config) (ports : List PortState) (are : ArePorts c ports) (lent : 
       rest_at p None e = are.rest p
       rest_at p (Some l) e = λ away. absurd (true≢false (sym away ∙ home p l e))
 
--- the machine itself, where none is lent
+-- If no core is lent, the machine with all cores back is the machine itself.
 pub whole_none : (m : MachineLists) (n : ℕ) → whole m (replicate n None) ≡ m
 whole_none m n = ap (λ ports. record m { ports = ports }) (back_none m.ports (replicate n None) (replicate_none n))
 
@@ -111,7 +111,7 @@ module _ (laws : OthersDoNotNotice) (opening m m' : MachineLists) (steps : List 
   pub entered_there : IsEntered (whole m lent) steps 1 (whole m' lent) (entered steps s o)
   entered_there = entered_one (whole m lent) (whole m' lent) steps s o whole_sound step_there stalled_there
 
-  -- it goes on to hold
+  -- The log still lends after the step.
   pub lends_on : (steps' : List Step) (capacity' : ℕ) → steps' ≡ entered steps s o → promised lent ≤ capacity' - length steps' →
       length steps' + promised lent ≤ 4194304 → IsLending opening m' steps' capacity' lent
   lends_on steps' capacity' e capacity_left room = record {
@@ -124,18 +124,18 @@ module _ (laws : OthersDoNotNotice) (opening m m' : MachineLists) (steps : List 
     room = room;
   }
 
-  -- The log, as it is with all cores back, has taken the step.
+  -- The log with all cores back has taken the step.
   pub taken_there : (steps' : List Step) → steps' ≡ entered steps s o →
       HasTaken (record { opening = opening; steps = steps; machine = whole m lent }) s o (record { opening = opening; steps = steps'; machine = whole m' lent })
   taken_there steps' e = record { opening = refl; step = step_there; steps = e; stalled = stalled_there }
 
-  -- The outcome is what the machine answers to the step after the steps of the log.
+  -- The outcome is that of the step after the steps of the log.
   pub answer_there : o ≡ answer_after opening steps s
   answer_there = step_there.step.outcome ∙ sym (outcome_there opening (whole m lent) steps is.kept.replay.run s)
 
 -- ---- none is lent
 
--- A well-formed log is kept as one that lends, if no core is away.
+-- A well-formed log is one that lends, with no core away.
 pub lends_none : (opening m : MachineLists) (steps : List Step) (capacity n : ℕ) → IsWellFormed (record { opening = opening; steps = steps; machine = m }) →
     n ≡ 2 ^ m.config.k → IsLending opening m steps capacity (replicate n None)
 lends_none opening m steps capacity n kept count =

@@ -27,7 +27,7 @@ use Rattle.machine_log.specs.Logs.{Log, entered, IsWellFormed, IsEntered, ArePok
 pub moving_is : (o : Outcome) → is_stalled o ≡ false → o ≡ Stalled → ⊥
 moving_is o moves e = true≢false (sym (ap is_stalled e) ∙ moves)
 
--- what does not stall is entered
+-- A step that does not stall is entered.
 pub entered_moving : (steps : List Step) (s : Step) (o : Outcome) → (o ≡ Stalled → ⊥) → entered steps s o ≡ steps ++ s ∷ []
 entered_moving steps s o moves = by (is_stalled o) refl
   where
@@ -35,7 +35,7 @@ entered_moving steps s o moves = by (is_stalled o) refl
     by true e = absurd (moves (stalled_is o e))
     by false e = refl
 
--- and what stalls is not
+-- A step that stalls is not entered.
 pub entered_stalled : (steps : List Step) (s : Step) (o : Outcome) → is_stalled o ≡ true → entered steps s o ≡ steps
 entered_stalled steps s o stalls = ap (λ b. if b then steps else steps ++ s ∷ []) stalls
 
@@ -44,7 +44,7 @@ entered_stalled steps s o stalls = ap (λ b. if b then steps else steps ++ s ∷
 pub entered_none : (m : MachineLists) (steps : List Step) (most : ℕ) → IsMachine m → IsEntered m steps most m steps
 entered_none m steps most is = record { sound = is; more = []; is = sym (append-nil steps); count = omega arith; replay = λ opening r. r }
 
--- A step that a machine takes enters one step at most: none if it stalls.
+-- A step that a machine takes enters at most one step: none if it stalls.
 pub entered_one : (m new : MachineLists) (steps : List Step) (s : Step) (o : Outcome) → IsMachine new → IsStep m s o new →
     (o ≡ Stalled → (shown : ℕ → List Event) → machine_of new shown ≡ machine_of m shown) →
     IsEntered m steps 1 new (entered steps s o)
@@ -75,7 +75,7 @@ pub entered_most : (m new : MachineLists) (steps steps' : List Step) (a b : ℕ)
 entered_most m new steps steps' a b e few =
     record { sound = e.sound; more = e.more; is = e.is; count = (let x = e.count in omega (arith, x, few)); replay = e.replay }
 
--- Steps that a machine has taken one after another, and a list has at its end.
+-- Steps that a machine has taken one after another, and that end the list, are entered.
 pub entered_all : (m new : MachineLists) (steps more steps' : List Step) (most : ℕ) → IsMachine new → steps' ≡ steps ++ more → length more ≤ most →
     IsReplay m more new → IsEntered m steps most new steps'
 entered_all m new steps more steps' most is behind few replay = record {
@@ -86,13 +86,13 @@ entered_all m new steps more steps' most is behind few replay = record {
   replay = λ opening r. subst (λ xs. IsReplay opening xs new) (sym behind) (replay_joined opening m new steps more r replay);
 }
 
--- how many steps there are then
+-- Entering at most n steps makes the list at most n longer.
 pub entered_length : (m new : MachineLists) (steps steps' : List Step) (most : ℕ) → IsEntered m steps most new steps' → length steps' ≤ length steps + most
 entered_length m new steps steps' most e =
     let all : length steps' ≡ length steps + length e.more = ap length e.is ∙ length-append steps e.more in
     let few = e.count in omega (arith, all, few)
 
--- a log is kept where it is new
+-- A new log is well formed.
 pub kept_new : (opening m : MachineLists) (steps : List Step) → IsMachine m → IsIdle m → AreHome m → opening ≡ m → steps ≡ [] →
     IsWellFormed (record { opening = opening; steps = steps; machine = m })
 kept_new opening m steps is idle home same none =
@@ -100,13 +100,13 @@ kept_new opening m steps is idle home same none =
     (subst (λ xs. IsWellFormed (record { opening = m; steps = xs; machine = m })) (sym none)
     (record { opens = is; idle = idle; home = home; sound = is; replay = replay_begins m; room = omega arith }))
 
--- and where its machine's steps are entered, and there is room for them
+-- A well-formed log is still well formed after steps are entered for which there is room.
 pub kept_after : (l : Log) (new : MachineLists) (steps' : List Step) (most : ℕ) → IsWellFormed l → IsEntered l.machine l.steps most new steps' →
     length steps' ≤ 4194304 → IsWellFormed (record { opening = l.opening; steps = steps'; machine = new })
 kept_after l new steps' most k e room =
     record { opens = k.opens; idle = k.idle; home = k.home; sound = e.sound; replay = e.replay l.opening k.replay; room = room }
 
--- no core is away in its machine either
+-- No core is away in the machine of a well-formed log.
 pub kept_home : (l : Log) → IsWellFormed l → AreHome l.machine
 kept_home l k = run_home l.opening l.machine l.steps k.replay.run k.home
 
@@ -121,7 +121,7 @@ pub poked_none : (m : MachineLists) (steps : List Step) → IsMachine m → IsId
 poked_none m steps is idle = record { is = sym (append-nil steps); replay = replay_begins m; idle = idle; flat = refl; entered = entered_none m steps 0 is }
 
 module _ (old m new : MachineLists) (steps steps' steps2 : List Step) (done : List Poke) (q : Poke) (o : Outcome) (d : ArePoked old steps done m steps') where
-  -- If one lawful poke more is written and entered, the pokes written are those before and then this one.
+  -- If one more lawful poke is written and entered, the pokes written are those before, followed by this one.
   pub poked_more : is_lawful_poke old.config q ≡ true → IsStep m (step.Poke q) o new → IsPoked m q o new → steps2 ≡ entered steps' (step.Poke q) o →
       IsEntered m steps' 1 new steps2 → ArePoked old steps (done ++ q ∷ []) new steps2
   poked_more lawful st w is e =
@@ -147,7 +147,7 @@ module _ (old m new : MachineLists) (steps steps' steps2 : List Step) (done : Li
 
 -- ---- places
 
--- What is entered takes the places that it needs, and leaves the others.
+-- Steps that are entered take the places that they need, and leave the others.
 pub places_kept : (steps steps' : List Step) (capacity capacity' most : ℕ) → length steps' ≤ length steps + most → most ≤ places_of capacity steps →
     capacity' ≡ capacity →
     length steps ≤ min capacity 4194304 → length steps' + places_of capacity' steps' ≡ length steps + places_of capacity steps

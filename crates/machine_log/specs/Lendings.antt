@@ -16,7 +16,7 @@ use Rattle.machine_theory.specs.Loans.{IsOfOthers, turns_of}
 use Rattle.machine_log.specs.Logs.{Log, IsWellFormed}
 use Rattle.machine_log.specs.declared.lent.Lent.{Lent}
 
--- what is known of the core of processor p; None where it is not away
+-- how the core of processor p was lent; None if it is not away
 abbrev pub lent_at : List (Option Lent) → (p : ℕ) → Option Lent
 lent_at lent p = slice_index_or lent p None
 
@@ -32,18 +32,18 @@ all_back [] lent = []
 all_back (port ∷ ports) [] = port ∷ ports
 all_back (port ∷ ports) (l ∷ lent) = with_lent port l ∷ all_back ports lent
 
--- the machine with each core back that is away, as it was lent
+-- the machine with each core that is away put back as it was lent
 abbrev pub whole : MachineLists → List (Option Lent) → MachineLists
 whole m lent = record m { ports = all_back m.ports lent }
 
--- how many steps are promised to the cores that are away
+-- the number of steps promised to the cores that are away
 unfoldable pub promised : List (Option Lent) → ℕ
 promised [] = 0
 promised (None ∷ lent) = promised lent
 promised (Some l ∷ lent) = l.most + promised lent
 
 pub record LendingLog : Type 0 where
-  -- as it is with each core back that is away, as it was lent
+  -- the log as if each core that is away were back as it was lent
   pub log : Log
   pub lent : List (Option Lent)
 
@@ -56,8 +56,8 @@ pub record IsLent (m : MachineLists) (p : ℕ) (l : Lent) : Type 0 where
   pub words : HasWords l.core.state
   pub home : is_away l.core.state ≡ false
 
--- The log is kept, as if no core were away; the cores that are away are those that are known; and there is room for
--- the steps that are promised.
+-- With all cores back, the log is well formed. The cores that are away are those that are known to be, and there is
+-- room for the steps that are promised.
 pub record IsLending (opening m : MachineLists) (steps : List Step) (capacity : ℕ)
     (lent : List (Option Lent)) : Type 0 where
   pub sound : IsMachine m
@@ -69,7 +69,7 @@ pub record IsLending (opening m : MachineLists) (steps : List Step) (capacity : 
 
 -- ---- steps while cores are away
 
--- The step is neither a turn of a processor whose core is away nor, where one is, a write from outside.
+-- The step is neither a turn of a processor whose core is away nor, if any is, a write from outside.
 abbrev pub OfOthers : List (Option Lent) → Step → Type 0
 OfOthers lent s = (p : ℕ) (l : Lent) → lent_at lent p ≡ Some l → IsOfOthers p s
 
@@ -81,15 +81,15 @@ abbrev pub may_lend : LendingLog → (p : ℕ) → Bool
 may_lend l p = nat_lt p (2 ^ l.log.machine.config.k) && (not (is_some (lent_at l.lent p))
     && (is_running (port_at l.log.machine.ports p).core.state.status && not (open_at l.log.machine.ports p)))
 
--- Turns of processor p, one after another after these steps, retire these instructions.
+-- Turns of processor p, one after another, after these steps, retire these instructions.
 abbrev pub AreAnswered : (opening : MachineLists) → (steps : List Step) → (p : ℕ) → List Retired → Type 0
 AreAnswered opening steps p [] = Unit {0}
 AreAnswered opening steps p (retired ∷ later) =
     (answer_after opening steps (step.Turn p) ≡ outcome.Retired retired)
     × AreAnswered opening (steps ++ step.Turn p ∷ []) p later
 
--- The core of processor p has come back, as it is after these local instructions since it was lent: a turn was entered
--- for each, which retires it.
+-- The core of processor p is back, as it is after these local instructions since it was lent. A turn was entered for
+-- each of them, and retires it.
 pub record IsBack (old : LendingLog) (p : ℕ) (core : CoreState) (taken : List Retired) (new : LendingLog) : Type 0 where
   pub opening : new.log.opening ≡ old.log.opening
   pub machine : new.log.machine ≡ with_core_at old.log.machine p core

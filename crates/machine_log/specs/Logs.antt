@@ -27,21 +27,21 @@ pub record Log : Type 0 where
 abbrev pub opened : MachineLists → Log
 opened m = record { opening = m; steps = []; machine = m }
 
--- A log with room for this many steps more: they can be entered without memory, and the log stays within its limit.
+-- A log with room for more steps: it takes as many as it has places left without new memory, within its limit.
 pub record ReservedLogModel : Type 0 where
   pub log : Log
   pub capacity_left : ℕ
 
--- how many steps more a list with this capacity can hold, where a log has 4,194,304 at most
+-- how many more steps a list of this capacity can hold, if a log has at most 4,194,304
 abbrev pub places_of : (capacity : ℕ) → List Step → ℕ
 places_of capacity steps = min capacity 4194304 - length steps
 
--- Each step that was entered has taken one place, and no place was lost otherwise.
+-- Each step that was entered took one place, and no other place was lost.
 abbrev pub KeepsCapacity : (old new : ReservedLogModel) → Type 0
 KeepsCapacity old new = length new.log.steps + new.capacity_left ≡ length old.log.steps + old.capacity_left
 
--- The numbers that a step names are of a machine of this size: a processor, module or wire below 2 ^ k, a stage below
--- k.
+-- whether a machine of this size has the numbers that a step names: a processor, module or wire below 2 ^ k, a stage
+-- below k
 abbrev pub is_named : Config → Step → Bool
 is_named c (step.Turn p) = nat_lt p (2 ^ c.k)
 is_named c (step.Up s w) = nat_lt s c.k && nat_lt w (2 ^ c.k)
@@ -51,12 +51,12 @@ is_named c (step.Poke (poke.Register p register value)) = nat_lt p (2 ^ c.k)
 is_named c (step.Poke (poke.Local p address value)) = nat_lt p (2 ^ c.k)
 is_named c (step.Poke (poke.Shared address value)) = true
 
--- a step that stalled is not entered, each other is
+-- the steps after a step is entered, unless it stalled
 abbrev pub entered : List Step → Step → Outcome → List Step
 entered steps s o = if is_stalled o then steps else steps ++ s ∷ []
 
--- What always holds of a log: no reference is open in its opening and no core is away, and its machine is the replay
--- of the opening over the steps, each of which did something.
+-- What always holds of a log: in its opening no reference is open and no core is away, and its machine is the replay of
+-- the opening over the steps.
 pub record IsWellFormed (l : Log) : Type 0 where
   pub opens : IsMachine l.opening
   pub idle : IsIdle l.opening
@@ -72,14 +72,14 @@ pub record HasTaken (old : Log) (s : Step) (o : Outcome) (new : Log) : Type 0 wh
   pub steps : new.steps ≡ entered old.steps s o
   pub stalled : o ≡ Stalled → (shown : ℕ → List Event) → machine_of new.machine shown ≡ machine_of old.machine shown
 
--- The log has the steps that it had, and then more: this many at most.
+-- The log has the steps that it had, followed by at most this many more.
 pub record IsLonger (old new : Log) (most : ℕ) : Type 0 where
   pub opening : new.opening ≡ old.opening
   pub more : List Step
   pub steps : new.steps ≡ old.steps ++ more
   pub count : length more ≤ most
 
--- Each of these pokes can be written in a machine of this size.
+-- Each of these pokes is lawful for a machine of this size.
 abbrev pub AreLawful : Config → List Poke → Type 0
 AreLawful c pokes = All (λ q. is_lawful_poke c q ≡ true) pokes
 
@@ -93,7 +93,7 @@ pub record HasPoked (old : Log) (pokes : List Poke) (new : Log) : Type 0 where
 
 -- ---- a machine whose steps are entered in a list
 
--- It has taken steps, this many at most, and they came to stand at the end of the list. So what was a replay still is
+-- The machine has taken steps, at most this many, and they are appended to the list. So a replay over the list is still
 -- one.
 pub record IsEntered (machine : MachineLists) (steps : List Step) (most : ℕ) (machine' : MachineLists)
     (steps' : List Step) : Type 0 where
@@ -103,7 +103,7 @@ pub record IsEntered (machine : MachineLists) (steps : List Step) (most : ℕ) (
   pub count : length more ≤ most
   pub replay : (opening : MachineLists) → IsReplay opening steps machine → IsReplay opening steps' machine'
 
--- It has written these pokes, and they came to stand at the end of the list.
+-- The machine has written these pokes, and they are appended to the list.
 pub record ArePoked (machine : MachineLists) (steps : List Step) (pokes : List Poke) (machine' : MachineLists)
     (steps' : List Step) : Type 0 where
   pub is : steps' ≡ steps ++ map step.Poke pokes

@@ -7,8 +7,7 @@ use Rattle.machine_theory.specs.Steps.{outcome_of}
 use Rattle.machine_steps.specs.Machines.{MachineLists, machine_of}
 use Rattle.machine_steps.specs.Runs.{IsReplay}
 
--- The step at this place is the first that stalls: the machine stands after those before it, each of which did
--- something.
+-- The step at this place is the first that stalls. The machine is the one after the steps before it.
 pub record StallsAt (old : MachineLists) (steps : List Step) (place : ℕ) (new : MachineLists) : Type 0 where
   pub inside : place < length steps
   pub before : IsReplay old (take place steps) new

@@ -1,4 +1,4 @@
-//! Steps of a machine, entered in a list as they are taken.
+//! Takes steps of a machine, and enters them in a list.
 
 ghost use Rattle.std.specs.Prelude.{◌≡◌, ◌≤◌, ◌<◌, ◌+◌, ◌*◌, ◌++◌, ℕ, List, [], length};
 ghost use Rattle.std.specs.Vec.{vec_capacity};
@@ -13,7 +13,7 @@ use flat_machine::Poke;
 use machine_steps::{Machine, machine_is_well_formed};
 use steps::{Outcome, Step};
 
-/// Takes a step, and enters it in a list unless it stalls. There is room for it.
+/// Takes a step, and enters it in a list unless it stalls. The list has room for it.
 #[inline(always)]
 pub fn enter(machine: &mut Machine, steps: &mut Vec<Step>, step: Step) -> Outcome
     requires room { length steps.old.items < vec_capacity steps.old }
@@ -34,8 +34,8 @@ pub fn enter(machine: &mut Machine, steps: &mut Vec<Step>, step: Step) -> Outcom
     outcome
 }
 
-/// Takes and enters the steps of one whole instruction of a processor, on a machine in which no
-/// reference is open. There is room for them.
+/// Takes and enters the steps of one whole instruction of a processor, on a machine in which no reference is open. The
+/// list has room for them.
 pub(crate) fn one(machine: &mut Machine, steps: &mut Vec<Step>, p: u8) -> Outcome
     requires idle { IsIdle machine.old }
     requires room { length steps.old.items + (2 * machine.old.config.k + 3) ≤ vec_capacity steps.old }
@@ -49,7 +49,7 @@ pub(crate) fn one(machine: &mut Machine, steps: &mut Vec<Step>, p: u8) -> Outcom
     outcome
 }
 
-/// Takes and enters the steps of a drain, and answers how many. There is room for them.
+/// Takes and enters the steps of a drain, and returns their number. The list has room for them.
 pub(crate) fn drain(machine: &mut Machine, steps: &mut Vec<Step>) -> u32
     requires room { length steps.old.items + drain_bound machine.old.config ≤ vec_capacity steps.old }
     ensures drained { IsDrained machine.old result machine.new }
@@ -63,8 +63,8 @@ pub(crate) fn drain(machine: &mut Machine, steps: &mut Vec<Step>) -> u32
     moves
 }
 
-/// Takes and enters these pokes, each of which can be written, on a machine in which no reference is
-/// open and no core away. There is room for them.
+/// Takes and enters these pokes, all of which are lawful, on a machine in which no reference is open and no core is
+/// away. The list has room for them.
 pub(crate) fn pokes(machine: &mut Machine, steps: &mut Vec<Step>, pokes: &[Poke])
     requires idle { IsIdle machine.old }
     requires home { AreHome machine.old }

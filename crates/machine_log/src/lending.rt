@@ -29,15 +29,15 @@ use std::snapshot::Snapshot;
 use std::sync::Arc;
 use steps::{MAX_STEPS, Outcome, Step};
 
-/// A machine with the log of its steps, some of whose cores may be away. Contracts see the log as it is with
-/// each of these back, as it was lent.
+/// A machine with the log of its steps, some of whose cores may be away. Contracts see the log as if each of these
+/// cores were back as it was lent.
 #[derive(Drop)]
 pub struct Lending {
     machine: Machine,
     steps: Vec<Step>,
     opening: Snapshot<Machine>,
     lent: Vec<Option<Lent>>,
-    /// For each processor, cores of no more use, in whose memory the records of its next loan are written.
+    /// For each processor, cores that are no longer used. Its next loan writes its records into their memory.
     spares: Vec<Option<(Core, Core)>>,
     promises: usize,
 }
@@ -59,7 +59,7 @@ impl Model for Lending {
 }
 
 impl Lending {
-    /// A log none of whose cores is lent. Where there is no memory, the log is handed back as it was.
+    /// Makes a log none of whose cores is lent. If there is no memory, the log comes back unchanged.
     pub fn new(alloc: Global, logged: Logged) -> Result<Self, Logged>
         ensures lending { IfOk result (λ l. l
             ≡ record { log = logged; lent = replicate (2 ^ logged.machine.config.k) None }) }
@@ -89,7 +89,7 @@ impl Lending {
         })
     }
 
-    /// The machine, without the cores that are away. A step of others answers as it would with all cores back.
+    /// The machine, without the cores that are away. A step of others has the same outcome as with all cores back.
     pub fn machine(&self) -> &Machine
         ensures config { result.now.config ≡ self.now.log.machine.config }
         ensures answers { (s : Step) → OfOthers self.now.lent s →
@@ -101,7 +101,7 @@ impl Lending {
         &self.machine
     }
 
-    /// The code that all processors share.
+    /// The code, which all processors share.
     pub fn code(&self) -> &Arc<Code, Global>
         ensures { arc_value result.now ≡ self.now.log.machine.code }
     {
@@ -122,7 +122,7 @@ impl Lending {
         names(self.machine.config(), step)
     }
 
-    /// Whether the log has [`MAX_STEPS`] steps, with those that are promised.
+    /// Whether the log has [`MAX_STEPS`] steps, with those that are promised to loans.
     pub fn is_full(&self) -> bool
         ensures { IsTrue result ↔ (4194304 ≤ length self.now.log.steps + promised self.now.lent) }
     {
@@ -136,13 +136,13 @@ impl Lending {
         self.steps.as_slice()
     }
 
-    /// Takes a step, and enters it unless it stalled. It is neither a turn of a processor whose core is lent nor,
-    /// where one is, a write from outside.
+    /// Takes a step, and enters it unless it stalls. The step must not be a turn of a processor whose core is lent,
+    /// nor, if any core is lent, a write from outside.
     ///
     /// # Errors
     ///
-    /// [`LockRefusal::Full`] where the log would pass [`MAX_STEPS`] steps with this one and those that are
-    /// promised, else [`LockRefusal::Memory`] where there is no memory. Each leaves all as it was.
+    /// [`LockRefusal::Full`] if the log would have more than [`MAX_STEPS`] steps with this one and those that are
+    /// promised; otherwise [`LockRefusal::Memory`] if there is no memory. Either leaves everything unchanged.
     pub fn step(&mut self, step: Step) -> Result<Outcome, LockRefusal>
         requires others { OfOthers self.old.lent step }
         ensures taken { IfOk result (λ o. HasTaken self.old.log step o self.new.log) }
@@ -166,8 +166,8 @@ impl Lending {
 }
 
 impl Lending {
-    /// Whether the core of a processor can be lent: the machine has the processor, which runs and has no
-    /// reference open, and its core is not lent.
+    /// Whether the core of a processor can be lent: the machine has the processor, which runs and has no reference
+    /// open, and its core is not already lent.
     #[inline(always)]
     pub fn may_lend(&self, p: u8) -> bool
         ensures { result ≡ may_lend self.now p }
@@ -175,15 +175,15 @@ impl Lending {
         is_free(&self.machine, p)
     }
 
-    /// Lends the core of a processor for this many instructions at most, and promises as many places in the log.
-    /// The record of the loan comes with it; another one is kept.
+    /// Lends the core of a processor for at most this many instructions, and promises as many places in the log.
+    /// Returns the core with a record of the loan, and keeps a copy of the record.
     ///
     /// # Errors
     ///
-    /// [`LockRefusal::NotFree`] where the machine has no processor of this number, or the processor has a
-    /// reference open, does not run, or its core is lent; else [`LockRefusal::Full`] where the log would pass
-    /// [`MAX_STEPS`] steps with all that are promised; else [`LockRefusal::Memory`] where there is no memory for
-    /// the records or the places. Each leaves all as it was.
+    /// [`LockRefusal::NotFree`] if the machine has no processor of this number, or the processor has a reference open,
+    /// does not run, or its core is already lent; otherwise [`LockRefusal::Full`] if the log would have more than
+    /// [`MAX_STEPS`] steps with all that are promised; otherwise [`LockRefusal::Memory`] if there is no memory for the
+    /// records or the places. Each leaves everything unchanged.
     #[inline(always)]
     pub fn lend(&mut self, p: u8, most: u32) -> Result<(Core, Lent), LockRefusal>
         ensures loan { IfOk result (λ loan. (loan.1
@@ -222,12 +222,12 @@ impl Lending {
         Ok((core, given))
     }
 
-    /// Puts the core of a processor back, which has retired these local instructions since it was lent as the
-    /// record says, and enters a turn of the processor for each of them.
+    /// Puts the core of a processor back, which has retired these local instructions since it was lent as the record
+    /// says, and enters a turn of the processor for each of them.
     ///
     /// # Errors
     ///
-    /// The core and the record, where the core was not lent as it says. Then nothing is changed.
+    /// The core and the record, if the core was not lent as the record says. Then nothing changes.
     #[inline(always)]
     pub fn give_back(
         &mut self,
@@ -271,7 +271,7 @@ impl Lending {
         }
     }
 
-    /// The log, once each core is back that was away, as it was lent.
+    /// The log, with each core that is away put back as it was lent.
     pub fn into_logged(mut self) -> Logged
         ensures { result ≡ self.log }
     {
@@ -301,7 +301,7 @@ impl Lending {
     }
 }
 
-/// Enters this many turns of a processor. There is room for them.
+/// Enters this many turns of a processor. The list has room for them.
 #[inline(always)]
 fn enter_turns(steps: &mut Vec<Step>, p: u8, count: usize)
     requires room { length steps.old.items + count ≤ vec_capacity steps.old }
@@ -322,7 +322,7 @@ fn is_free(machine: &Machine, p: u8) -> bool
     machine.status(p) == Some(Status::Running) && machine.is_open(p) == Some(false)
 }
 
-/// The records of a loan. No memory is taken where there are spare cores.
+/// Two equal records of a loan. If there are spare cores, this takes no memory.
 #[inline(always)]
 fn records(
     machine: &Machine,
@@ -341,7 +341,7 @@ fn records(
     Ok((Lent { core: kept, most }, Lent { core: given, most }))
 }
 
-/// Two copies of a core, in the place of spare ones if there are such.
+/// Two copies of a core, written into spare cores if there are any.
 #[inline(always)]
 fn copies(core: &Core, spare: Option<(Core, Core)>) -> Result<(Core, Core), AllocError>
     ensures { IfOk result (λ both. (both.0 ≡ core.now) × (both.1 ≡ core.now)) }
@@ -356,7 +356,7 @@ fn copies(core: &Core, spare: Option<(Core, Core)>) -> Result<(Core, Core), Allo
     }
 }
 
-/// The spare cores of a processor, which are taken out.
+/// Takes out the spare cores of a processor.
 #[inline(always)]
 fn taken_from(spares: &mut Vec<Option<(Core, Core)>>, p: u8) -> Option<(Core, Core)> {
     match spares.get_mut(usize::from(p)) {
@@ -365,7 +365,7 @@ fn taken_from(spares: &mut Vec<Option<(Core, Core)>>, p: u8) -> Option<(Core, Co
     }
 }
 
-/// Puts the cores of two records by, for the next loan of a processor.
+/// Puts the cores of two records aside, for the next loan of a processor.
 #[inline(always)]
 fn put_by(spares: &mut Vec<Option<(Core, Core)>>, p: u8, kept: Option<Lent>, given: Lent) {
     let Some(kept) = kept else {
@@ -376,7 +376,7 @@ fn put_by(spares: &mut Vec<Option<(Core, Core)>>, p: u8, kept: Option<Lent>, giv
     }
 }
 
-/// Takes a core out that can be.
+/// Takes out a core that is free to be taken.
 #[inline(always)]
 fn taken_out(machine: &mut Machine, p: u8) -> Core
     requires { is_free machine.old p ≡ true }
@@ -389,7 +389,7 @@ fn taken_out(machine: &mut Machine, p: u8) -> Core
     core
 }
 
-/// What holds of every log that lends: each proof about one may cite it, at the cost of nothing.
+/// What holds of every log that lends. A proof about one may cite it at no cost.
 pub fn lending_is_well_formed(lending: &Lending)
     ensures kept { IsWellFormed lending.now.log }
     ensures room { length lending.now.log.steps + promised lending.now.lent ≤ 4194304 }

@@ -2,7 +2,7 @@
 
 use hart::Core;
 
-/// A core that is away, as it was lent, and how many instructions it may take at most.
+/// A core that is away, as it was lent, and the most instructions that it may take.
 #[derive(Drop)]
 pub struct Lent {
     pub core: Core,

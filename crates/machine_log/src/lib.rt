@@ -2,13 +2,13 @@
 //!
 //! The machine of a log is always the replay of its opening over the steps in the log, none of which stalled, and one
 //! serial order of whole instructions explains what it did ([`Logged::machine`]). A log that has made room for steps
-//! ([`Logged::room`]) takes and enters them without a refusal ([`ReservedLog`]). So a caller that has to take many
-//! steps or none asks for room first.
+//! ([`Logged::room`]) takes and enters them without a refusal ([`ReservedLog`]). So a caller that must take either all
+//! of its steps or none asks for room first.
 //!
-//! [`Lending`] is such a log that lends cores. While a core is away the machine goes on without it. What is said of
-//! the log is said as if each core that is away stood in its place, as it was lent: no other step notices which core
-//! stands there. When a core comes back that has taken local instructions by itself, a turn of its processor is
-//! entered for each of them. `specs/Lendings.antt` says what the machine with all cores back is.
+//! [`Lending`] is such a log that lends cores. While a core is away, the machine goes on without it. What is said of
+//! the log is said as if each core that is away were in its place, as it was lent: other steps do not depend on that
+//! core. When a core comes back that has taken local instructions by itself, a turn of its processor is entered for
+//! each of them. `specs/Lendings.antt` defines the machine with all cores back.
 //!
 //! [`replay`] takes the steps of a trace.
 #![tactic(auto)]

@@ -20,7 +20,7 @@ use std::marker::Model;
 use std::snapshot::Snapshot;
 use steps::{Outcome, Step};
 
-/// A machine with the log of its steps: its opening, the steps since, and the machine after them.
+/// A machine with the log of its steps: its opening, the steps since then, and the machine after them.
 #[derive(Drop)]
 pub struct Logged {
     log: ReservedLog,
@@ -35,8 +35,8 @@ impl Model for Logged {
 }
 
 impl Logged {
-    /// The log of a machine in which no reference is open and no core away, and which has taken no step:
-    /// it becomes the opening.
+    /// Makes the log of a machine that has taken no step, and in which no reference is open and no core is away. The
+    /// machine becomes the opening.
     pub fn new(alloc: Global, machine: Machine) -> Self
         requires idle { IsIdle machine }
         requires home { AreHome machine }
@@ -47,7 +47,7 @@ impl Logged {
         }
     }
 
-    /// The log of a machine that stands after these steps since its opening.
+    /// Makes the log of a machine that has taken these steps since its opening.
     pub fn of_parts(machine: Machine, steps: Vec<Step>, opening: Snapshot<Machine>) -> Self
         requires kept { IsWellFormed (record { opening = opening.value; steps = steps.items; machine = machine }) }
         ensures { result ≡ record { opening = opening.value; steps = steps.items; machine = machine } }
@@ -57,7 +57,7 @@ impl Logged {
         }
     }
 
-    /// The machine, the steps that it has taken, and the opening, which proofs know.
+    /// The machine, the steps that it has taken, and the opening, which only proofs can see.
     pub fn into_parts(self) -> (Machine, Vec<Step>, Snapshot<Machine>)
         ensures machine { result.0 ≡ self.machine }
         ensures steps { result.1.items ≡ self.steps }
@@ -67,8 +67,8 @@ impl Logged {
         self.log.into_parts()
     }
 
-    /// The machine. It is the replay of its opening over the steps, and one serial order of whole
-    /// instructions explains what it did. No core is away.
+    /// The machine. It is the replay of its opening over the steps, and one serial order of whole instructions explains
+    /// what it did. No core is away.
     pub fn machine(&self) -> &Machine
         ensures machine { result.now ≡ self.now.machine }
         ensures home { AreHome result.now }
@@ -94,13 +94,13 @@ impl Logged {
         names(self.machine().config(), step)
     }
 
-    /// Takes a step, and enters it unless it stalled.
+    /// Takes a step, and enters it unless it stalls.
     ///
     /// # Errors
     ///
-    /// [`LockRefusal::Unnamed`] where the machine has not each place that the step names, else
-    /// [`LockRefusal::Full`] where the log has [`steps::MAX_STEPS`] steps, else [`LockRefusal::Memory`]
-    /// where there is no memory for a place in the log. Each leaves all as it was.
+    /// [`LockRefusal::Unnamed`] if the machine lacks a place that the step names; otherwise [`LockRefusal::Full`] if
+    /// the log has [`steps::MAX_STEPS`] steps; otherwise [`LockRefusal::Memory`] if there is no memory for a place in
+    /// the log. Each leaves everything unchanged.
     pub fn step(&mut self, step: Step) -> Result<Outcome, LockRefusal>
         ensures taken { IfOk result (λ o. HasTaken self.old step o self.new) }
         ensures answer { IfOk result (λ o. o ≡ answer_after self.old.opening self.old.steps step) }
@@ -123,8 +123,8 @@ impl Logged {
     ///
     /// # Errors
     ///
-    /// [`LockRefusal::Full`] where the log would pass [`steps::MAX_STEPS`] steps with them, else
-    /// [`LockRefusal::Memory`] where there is no memory. Each leaves all as it was.
+    /// [`LockRefusal::Full`] if the log would have more than [`steps::MAX_STEPS`] steps with them; otherwise
+    /// [`LockRefusal::Memory`] if there is no memory. Either leaves everything unchanged.
     pub fn room(&mut self, extra: u32) -> Result<&mut ReservedLog, LockRefusal>
         ensures* lends { sem 𝓛 (LendsRoom self.entry result) }
         ensures capacity_left { IfOk result (λ reserved. extra ≤ reserved.now.capacity_left) }
@@ -137,13 +137,13 @@ impl Logged {
         Ok(&mut self.log)
     }
 
-    /// Takes steps until no reference is open, as [`machine_steps::Machine::drain`] does, enters them, and answers how
-    /// many: `2^k * (2k + 2)` at most, for which it makes room first.
+    /// Takes steps until no reference is open, as [`machine_steps::Machine::drain`] does, enters them, and returns
+    /// their number, at most `2^k * (2k + 2)`. Makes room for as many first.
     ///
     /// # Errors
     ///
-    /// [`LockRefusal::Full`] where the log would pass [`steps::MAX_STEPS`] steps with as many, else
-    /// [`LockRefusal::Memory`] where there is no memory for them. Each leaves all as it was.
+    /// [`LockRefusal::Full`] if the log would have more than [`steps::MAX_STEPS`] steps with as many; otherwise
+    /// [`LockRefusal::Memory`] if there is no memory for them. Either leaves everything unchanged.
     pub fn drain(&mut self) -> Result<u32, LockRefusal>
         ensures drained { IfOk result (λ count. IsDrained self.old.machine count self.new.machine) }
         ensures entered { OnOk result (self.new.steps ≡ self.old.steps ++ drain_steps self.old.machine) }
@@ -159,14 +159,14 @@ impl Logged {
         Ok(self.log.drain())
     }
 
-    /// Takes one whole instruction of a processor, as [`machine_steps::Machine::one`] does, and enters its steps:
-    /// `2k + 3` at most, for which it makes room first.
+    /// Takes one whole instruction of a processor, as [`machine_steps::Machine::one`] does, and enters its steps, at
+    /// most `2k + 3`. Makes room for as many first.
     ///
     /// # Errors
     ///
-    /// [`LockRefusal::Unnamed`] where the machine has no processor of this number, else
-    /// [`LockRefusal::Full`] where the log would pass [`steps::MAX_STEPS`] steps with `2k + 3` more, else
-    /// [`LockRefusal::Memory`] where there is no memory for them. Each leaves all as it was.
+    /// [`LockRefusal::Unnamed`] if the machine has no processor of this number; otherwise [`LockRefusal::Full`] if the
+    /// log would have more than [`steps::MAX_STEPS`] steps with `2k + 3` more; otherwise [`LockRefusal::Memory`] if
+    /// there is no memory for them. Each leaves everything unchanged.
     pub fn one(&mut self, p: u8) -> Result<Outcome, LockRefusal>
         ensures whole { IfOk result (λ o. IsIdle self.old.machine → IsOne self.old.machine p o self.new.machine) }
         ensures busy { IfOk result (λ o. (IsIdle self.old.machine → ⊥) →
@@ -189,13 +189,13 @@ impl Logged {
         Ok(self.log.one(p))
     }
 
-    /// Writes these from outside, one after another, and enters them: for all of them it makes room first.
-    /// No reference is open, and the machine has what each writes ([`Machine::is_lawful`]).
+    /// Writes these pokes from outside, one after another, and enters them. Makes room for all of them first. No
+    /// reference may be open, and each poke must be lawful ([`Machine::is_lawful`]).
     ///
     /// # Errors
     ///
-    /// [`LockRefusal::Full`] where the log would pass [`steps::MAX_STEPS`] steps with them, else
-    /// [`LockRefusal::Memory`] where there is no memory for them. Each leaves all as it was.
+    /// [`LockRefusal::Full`] if the log would have more than [`steps::MAX_STEPS`] steps with them; otherwise
+    /// [`LockRefusal::Memory`] if there is no memory for them. Either leaves everything unchanged.
     pub fn pokes(&mut self, pokes: &[Poke]) -> Result<(), LockRefusal>
         requires idle { IsIdle self.old.machine }
         requires lawful { AreLawful self.old.machine.config pokes.now }
@@ -232,7 +232,7 @@ pub fn names(config: Config, step: &Step) -> bool
     }
 }
 
-/// What holds of every log: each proof about one may cite it, at the cost of nothing.
+/// What holds of every log. A proof about one may cite it at no cost.
 pub fn log_is_well_formed(log: &Logged)
     ensures kept { IsWellFormed log.now }
     ensures home { AreHome log.now.machine }

@@ -1,4 +1,4 @@
-//! Replaying the steps of a trace.
+//! Replays the steps of a trace.
 
 ghost use Rattle.std.specs.Prelude.{IfErr, IfOk, OnOk, length};
 ghost use Rattle.machine_steps.specs.Machines.{IsIdle};
@@ -10,19 +10,19 @@ use machine_steps::{Machine, machine_is_well_formed};
 use steps::{NoObserver, Step, StepObserver};
 use thiserror::Error;
 
-/// A step of a trace stalls, so the trace is none of this machine's.
+/// A step of a trace stalls, so this machine did not take the trace.
 #[derive(Clone, Copy, Debug, PartialEq, Eq, Drop, Error)]
 #[error("X7 step {place}")]
 pub struct StalledStep {
-    /// How many steps stand before it in the trace.
+    /// The number of steps before it in the trace.
     pub place: usize,
 }
 
-/// Takes the steps of a trace, each of which has to do something.
+/// Takes the steps of a trace, none of which may stall.
 ///
 /// # Errors
 ///
-/// [`StalledStep`] at the first step that stalls. The machine stands after the steps before it then.
+/// [`StalledStep`] at the first step that stalls. The machine has taken the steps before it.
 pub fn replay(machine: &mut Machine, steps: &[Step]) -> Result<(), StalledStep>
     ensures replay { OnOk result (IsReplay machine.old steps.now machine.new) }
     ensures stalled { IfErr result (λ e. StallsAt machine.old steps.now e.place machine.new) }
@@ -32,11 +32,11 @@ pub fn replay(machine: &mut Machine, steps: &[Step]) -> Result<(), StalledStep>
     replayed
 }
 
-/// Takes the steps of a trace, as [`replay`] does, and says each to the notes. Answers what `replay` does.
+/// Takes the steps of a trace, as [`replay`] does, and reports each to the observer. Returns what `replay` returns.
 ///
 /// # Errors
 ///
-/// That of the notes, where a step could not be noted. The machine has taken it, and those before.
+/// The observer's own, if it refuses a step. The machine has taken that step, and those before it.
 pub fn replay_observed<N: StepObserver>(
     machine: &mut Machine,
     steps: &[Step],

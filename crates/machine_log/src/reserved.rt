@@ -16,8 +16,8 @@ use std::marker::Model;
 use std::snapshot::Snapshot;
 use steps::{MAX_STEPS, Outcome, Step};
 
-/// A machine with the log of its steps, and room for more: as many as it has places left, it takes and
-/// enters without a refusal.
+/// A machine with the log of its steps, and room for more. It takes and enters as many steps as it has places left
+/// without a refusal.
 #[derive(Drop)]
 pub struct ReservedLog {
     machine: Machine,
@@ -44,7 +44,7 @@ impl Model for ReservedLog {
 }
 
 impl ReservedLog {
-    /// The log of a machine that has taken no step.
+    /// Makes the log of a machine that has taken no step.
     pub(crate) fn new(alloc: Global, machine: Machine) -> Self
         requires idle { IsIdle machine }
         requires home { AreHome machine }
@@ -59,7 +59,7 @@ impl ReservedLog {
         }
     }
 
-    /// The log of a machine that stands after these steps since its opening.
+    /// Makes the log of a machine that has taken these steps since its opening.
     pub(crate) fn of_parts(machine: Machine, steps: Vec<Step>, opening: Snapshot<Machine>) -> Self
         requires kept { IsWellFormed (record { opening = opening.value; steps = steps.items; machine = machine }) }
         ensures { result.log ≡ record { opening = opening.value; steps = steps.items; machine = machine } }
@@ -90,8 +90,8 @@ impl ReservedLog {
     ///
     /// # Errors
     ///
-    /// [`LockRefusal::Full`] where the log would pass [`steps::MAX_STEPS`] steps with them, else
-    /// [`LockRefusal::Memory`] where there is no memory.
+    /// [`LockRefusal::Full`] if the log would have more than [`steps::MAX_STEPS`] steps with them; otherwise
+    /// [`LockRefusal::Memory`] if there is no memory.
     pub(crate) fn make_room(&mut self, extra: u32) -> Result<(), LockRefusal>
         ensures capacity_left { OnOk result (extra ≤ self.new.capacity_left) }
         ensures full { (result ≡ Err LockRefusal.Full) ↔ (4194304 < length self.old.log.steps + extra) }
@@ -108,8 +108,8 @@ impl ReservedLog {
         }
     }
 
-    /// The machine. It is the replay of its opening over the steps, and one serial order of whole
-    /// instructions explains what it did. No core is away.
+    /// The machine. It is the replay of its opening over the steps, and one serial order of whole instructions explains
+    /// what it did. No core is away.
     pub fn machine(&self) -> &Machine
         ensures machine { result.now ≡ self.now.log.machine }
         ensures home { AreHome result.now }
@@ -128,8 +128,7 @@ impl ReservedLog {
         self.steps.as_slice()
     }
 
-    /// Takes a step, and enters it unless it stalled. It stalls where the machine has not each place that
-    /// it names.
+    /// Takes a step, and enters it unless it stalls. It stalls if the machine lacks a place that it names.
     #[inline(always)]
     pub fn step(&mut self, step: Step) -> Outcome
         requires room { 0 < self.old.capacity_left }
@@ -142,8 +141,8 @@ impl ReservedLog {
         entering::enter(&mut self.machine, &mut self.steps, step)
     }
 
-    /// Takes steps until no reference is open, as [`machine_steps::Machine::drain`] does, enters them, and answers how
-    /// many: `2^k * (2k + 2)` at most.
+    /// Takes steps until no reference is open, as [`machine_steps::Machine::drain`] does, enters them, and returns
+    /// their number, at most `2^k * (2k + 2)`.
     pub fn drain(&mut self) -> u32
         requires room { drain_bound self.old.log.machine.config ≤ self.old.capacity_left }
         ensures drained { IsDrained self.old.log.machine result self.new.log.machine }
@@ -154,8 +153,8 @@ impl ReservedLog {
         entering::drain(&mut self.machine, &mut self.steps)
     }
 
-    /// Takes one whole instruction of a processor, as [`machine_steps::Machine::one`] does, and enters its steps: `2k
-    /// + 3` at most.
+    /// Takes one whole instruction of a processor, as [`machine_steps::Machine::one`] does, and enters its steps, at
+    /// most `2k + 3`.
     pub fn one(&mut self, p: u8) -> Outcome
         requires room { 2 * self.old.log.machine.config.k + 3 ≤ self.old.capacity_left }
         ensures whole { IsIdle self.old.log.machine → IsOne self.old.log.machine p result self.new.log.machine }
@@ -171,8 +170,8 @@ impl ReservedLog {
         entering::one(&mut self.machine, &mut self.steps, p)
     }
 
-    /// Writes these from outside, one after another, and enters them. No reference is open, and the machine
-    /// has what each writes ([`Machine::is_lawful`]).
+    /// Writes these pokes from outside, one after another, and enters them. No reference may be open, and each poke
+    /// must be lawful ([`Machine::is_lawful`]).
     pub fn pokes(&mut self, pokes: &[Poke])
         requires idle { IsIdle self.old.log.machine }
         requires lawful { AreLawful self.old.log.machine.config pokes.now }
@@ -184,7 +183,7 @@ impl ReservedLog {
     }
 }
 
-/// What holds of every log with room: each proof about one may cite it, at the cost of nothing.
+/// What holds of every log with room. A proof about one may cite it at no cost.
 pub fn reserved_log_is_well_formed(reserved: &ReservedLog)
     ensures kept { IsWellFormed reserved.now.log }
     ensures home { AreHome reserved.now.log.machine }
