@@ -1,4 +1,4 @@
--- The faults that are found line by line are those of all lines.
+-- The faults found line by line are those of all lines.
 use Rattle.std.proofs.Common.{◌≡◌, ℕ, zero, suc, ◌+◌, ◌-◌, ◌<◌, ◌≤◌, List, [], ◌∷◌, ◌++◌, length, get_or}
 use Rattle.std.proofs.Common.{take, drop, Option, Some, None, Result, Ok, Err, Bor, refl, sym, ap, subst}
 use Rattle.std.proofs.Common.{◌∙◌, append_assoc, append-nil, arith, add-one, drop-cons}
@@ -26,12 +26,12 @@ pub at_item : (lines : List (Bor (List ℕ))) (i : ℕ) (d : Bor (List ℕ)) →
     nows (drop i lines) ≡ (get_or lines i d).now ∷ nows (drop (i + 1) lines)
 at_item lines i d lt = rw (add-one, drop-cons lines i d lt) refl
 
--- what is found so far, and what is in the rest, are all
+-- The faults found so far and those of the lines that are left are all faults.
 pub record FoundSoFar (ls : Labels) (lines : List (Bor (List ℕ))) (i : ℕ) (faults : List TextFault) (cursor : Cursor) : Type 0 where
   -- the faults found, followed by those of the lines that are left, are those of all lines
   pub errors :
       map error_of faults ++ errors_from (i + 1) (pieces_from ls (place_of cursor) (nows (drop i lines))) ≡ errors_from 1 (pieces_from ls start (nows lines))
-  -- each fault found names the word at which it lies
+  -- each fault found names its word at fault
   pub placed : All (IsInPlace ls (nows lines)) faults
   -- the cursor is at the place after the first i lines
   pub place : place_of cursor ≡ place_behind (nows lines) i
@@ -61,7 +61,7 @@ all_placed ls lines i d faults at (Some t) lt place is before =
     }
     )
 
--- the place after one line more
+-- The place after one more line is the place after that line, from the place before it.
 place_more : (lines : List (Bor (List ℕ))) (i : ℕ) (d : Bor (List ℕ)) → i < length lines
     → place_behind (nows lines) (i + 1) ≡ after (place_behind (nows lines) i) (get_or lines i d).now
 place_more lines i d lt =
@@ -75,7 +75,7 @@ place_more lines i d lt =
     take-map (suc n) [] = refl
     take-map (suc n) (p ∷ ps) = ap (λ (xs : List (List ℕ)). p.now ∷ xs) (take-map n ps)
 
--- With the next line's fault, if it has one, what was found so far is what is found up to that line.
+-- With the next line's fault, if it has one, the faults found so far are those up to that line.
 pub found_more : (ls : Labels) (lines : List (Bor (List ℕ))) (i : ℕ) (d : Bor (List ℕ)) (faults new : List TextFault) (cursor cursor' : Cursor) (found :
     Option TextFault) → i < length lines → FoundSoFar ls lines i faults cursor
     → option_map error_of found ≡ error_at (i + 1) (line_piece ls (place_of cursor) (get_or lines i d).now)
@@ -107,7 +107,7 @@ found_all ls lines i faults cursor le before =
     sym (append-nil (map error_of faults)) ∙ ap (λ rest. map error_of faults ++ errors_from (i + 1) (pieces_from ls (place_of cursor) rest)) (sym ended)
     ∙ before.errors
 
--- where the word stands, from where its piece does
+-- The word is in the line at its column if its piece is in the line.
 pub at_of : (line : List ℕ) (s : Span) (column : ℕ) (word : List ℕ) → StandsIn line s → column ≡ s.start + 1 → word ≡ s.bytes → IsAt line column word
 at_of line s column word stands is_column is_word =
     let from : column - 1 ≡ s.start = omega (arith, is_column) in
@@ -117,7 +117,7 @@ at_of line s column word stands is_column is_word =
       reads = rw from stands.reads;
     })
 
--- the word at fault, from the piece that is named
+-- The column and the word are those at fault if the piece is.
 pub named_of : (labels : Labels) (at : Place) (line : List ℕ) (fault : AsmFault) (s : Span) (t : TextFault) → t.fault ≡ fault
     → s ≡ word_at_fault labels (address at) line fault → t.column ≡ s.start + 1 → t.word.now ≡ s.bytes
     → (h : Hint) → t.hint ≡ h → IsAdvised labels at line fault (advice_of h) → IsNamed labels at line t
@@ -131,7 +131,7 @@ named_of labels at line fault s t same named is_column is_word h is_hint advised
           (subst (λ f. IsAdvised labels at line f (advice_of h)) (sym same) advised);
     }
 
--- the places of lines, one after another
+-- After one more line, the cursor is at the place after it.
 pub passed_more : (lines : List (Bor (List ℕ))) (i : ℕ) (d : Bor (List ℕ)) (cursor cursor' : Cursor) → i < length lines →
     fold after (place_of cursor) (nows (drop i lines)) ≡ fold after start (nows lines) → place_of cursor' ≡ after (place_of cursor) (get_or lines i d).now
     → fold after (place_of cursor') (nows (drop (i + 1) lines)) ≡ fold after start (nows lines)
@@ -144,7 +144,7 @@ pub passed_all : (lines : List (Bor (List ℕ))) (i : ℕ) (cursor : Cursor) →
 passed_all lines i cursor le before =
     let ended : nows (drop i lines) ≡ [] = rw (drop_of_length-le lines le) refl in sym (ap (fold after (place_of cursor)) ended) ∙ before
 
--- the faults of the lines of a text, with the labels of these, are the text's
+-- The faults of the lines of a text, with the labels of these lines, are the faults of the text.
 pub all_of_text : (text : List ℕ) (lines : List (List ℕ)) (ls : Labels) (faults : List TextFault) → lines ≡ lines_of text → ls ≡ labels_of (lines_of text)
     → AreFaultsOf ls (pieces_from ls start lines) lines faults → AreTheFaults text faults
 unfolding pieces_of

@@ -1,4 +1,4 @@
--- The lines of the faults before one, and its own, are those of all up to it.
+-- The lines of the faults before one, followed by its own, are those of all faults up to it.
 use Rattle.std.proofs.Common.{◌≡◌, ℕ, ◌+◌, ◌<◌, ◌≤◌, List, [], ◌∷◌, ◌++◌, length, get_or, take, sym, ap, ◌∙◌, append-nil}
 use Rattle.std.specs.List.{flat_map}
 use Rattle.std.proofs.lemmas.List.{take_all, take_more}
@@ -17,7 +17,7 @@ more_printed faults i d old new lt before is_new =
     ∙ ap (λ xs. flat_map fault_line (take i faults) ++ xs) (append-nil line)
     )
 
--- If the lines of all faults are there, and then the line that counts them, the text is their list.
+-- If the lines of all faults are there, followed by the line that counts them, the text is their list.
 pub all_printed : (faults : List TextFault) (i : ℕ) (before text : List ℕ) → length faults ≤ i → before ≡ flat_map fault_line (take i faults)
     → text ≡ before ++ count_line (length faults) → IsList faults text
 all_printed faults i before text le so_far behind =

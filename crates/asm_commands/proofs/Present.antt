@@ -1,4 +1,4 @@
--- What is listed is what is present.
+-- The listed faults are those that are present.
 use Rattle.std.proofs.Common.{◌≡◌, ◌<◌, ◌≤◌, ℕ, zero, suc, ◌+◌, ◌-◌, List, [], ◌∷◌, length, Option}
 use Rattle.std.proofs.Common.{Some, Result, Ok, Err, refl, sym, ap, ◌∙◌, arith}
 use Rattle.std.specs.Prelude.{All, Contains, slice_get, slice_index_or, IsOk}
@@ -8,7 +8,7 @@ use Rattle.assembler.specs.declared.fault.AsmError.{AsmError}
 use Rattle.assembler.specs.Meaning.{Piece}
 use Rattle.asm_commands.specs.Faults.{errors_from}
 
--- a fault of the line with this place is listed
+-- If the line at a place has a fault, the fault is listed.
 pub present_listed : (n : ℕ) (pieces : List (Result Piece AsmFault)) (i : ℕ) (e : AsmError) → e.line ≡ n + i → slice_get pieces i ≡ Some (Err e.fault)
     → Contains (errors_from n pieces) e
 present_listed n [] i e at bad = cc
@@ -23,7 +23,7 @@ present_listed n (Err f ∷ ps) zero e at bad = (0, omega arith, same_error (rec
 present_listed n (Err f ∷ ps) (suc i) e at bad =
     let behind = present_listed (n + 1) ps i e (omega (arith, at)) bad in (suc behind.0, omega (arith, behind.1), behind.2)
 
--- what is listed is the fault of its line
+-- A listed fault is the fault of its line.
 pub listed_present : (n : ℕ) (pieces : List (Result Piece AsmFault)) (e : AsmError) (k : ℕ) → k < length (errors_from n pieces)
     → slice_index_or (errors_from n pieces) k e ≡ e → (n ≤ e.line) × (slice_get pieces (e.line - n) ≡ Some (Err e.fault))
 listed_present n [] e k lt is_e = absurd (omega (arith, lt))
@@ -40,7 +40,7 @@ listed_present n (Err f ∷ ps) e (suc k) lt is_e =
     let h = listed_present (n + 1) ps e k (omega (arith, lt)) is_e in
     let one : e.line - n ≡ suc (e.line - (n + 1)) = omega (arith, h.0) in (omega (arith, h.0), rw one h.1)
 
--- no fault is listed exactly if each line places something
+-- If each line places something, no fault is listed.
 pub none_listed : (n : ℕ) (pieces : List (Result Piece AsmFault)) → All IsOk pieces → errors_from n pieces ≡ []
 none_listed n [] each = refl
 none_listed n (Ok x ∷ ps) each = none_listed (n + 1) ps (λ k d lt. each (suc k) d (omega (arith, lt)))

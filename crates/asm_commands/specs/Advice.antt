@@ -1,4 +1,4 @@
--- What would be right, in words.
+-- What would be right instead of a fault, in words.
 use Rattle.std.specs.Prelude.{ℕ, ℤ, ◌%◌, ◌^◌, List, ◌++◌, codes}
 use Rattle.std.specs.Fmt.{decimal, signed_decimal}
 use Rattle.command_io.specs.Digits.{hex_of_word}
@@ -20,7 +20,7 @@ use Rattle.asm_commands.specs.Words.{shown}
 abbrev pub from_to : ℤ × ℤ → List ℕ
 from_to range = codes " from " ++ signed_decimal range.0 ++ codes " to " ++ signed_decimal range.1
 
--- what stands in place of an operand
+-- what an operand should be
 abbrev pub wanted_text : Wanted → List ℕ
 wanted_text Register = codes "there is no such register; registers are x0 to x31 and names such as a0"
 wanted_text Lower = codes "a number" ++ from_to (range_of Lower) ++ codes " or %lo(label) stands here"
@@ -57,7 +57,7 @@ label_text other = codes "there is no such label"
 unfoldable pub upper_front : List ℕ
 upper_front = codes "20 bits stand here, 0 to 1048575; the upper ones of this word are "
 
--- what is wrong with a word's upper bits, or with a statement's place
+-- what is wrong with a word's upper bits, or with the place of a statement
 abbrev pub place_text : Hint → List ℕ
 place_text (UpperBits upper) = upper_front ++ decimal upper
 place_text OutsideCode = codes "instructions stand in .code alone"

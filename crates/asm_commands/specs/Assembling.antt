@@ -11,7 +11,7 @@ use Rattle.command_io.specs.declared.fault.Fault.TheVariants as fault
 use Rattle.command_io.specs.Files.{IsWhole}
 use Rattle.command_io.specs.Printing.{PrintsPrefix}
 
--- The bytes are the image, in its one spelling, of what the file's text means.
+-- The bytes are the image of what the file's text means, in the image's one spelling.
 pub record IsAssembly (known : Option (List ℕ)) (bytes : List ℕ) : Type 0 where
   pub text : List ℕ
   pub whole : IsWhole known text
@@ -19,21 +19,21 @@ pub record IsAssembly (known : Option (List ℕ)) (bytes : List ℕ) : Type 0 wh
   pub meant : IsMeaning text layout
   pub spelled : bytes ≡ spelling layout
 
--- why a text is refused: it is not UTF-8, or its line has the fault
+-- The text is refused for this fault: it is not UTF-8, or the fault's line has it.
 abbrev pub IsTextRefusal : List ℕ → Fault → Type 0
 IsTextRefusal text (fault.Text e) = IsPresent text e × (e.fault ≢ line_fault.Memory)
 IsTextRefusal text fault.NotUtf8 = ¬ (IsUtf8 text)
 IsTextRefusal text fault.Memory = Unit {0}
 IsTextRefusal text other = ⊥
 
--- the text was not read
+-- The text was not read.
 abbrev pub IsUnread : Fault → Type 0
 IsUnread fault.Link = Unit {0}
 IsUnread fault.Memory = Unit {0}
 IsUnread other = ⊥
 
--- Why no image is written, or not all of it, and what is written then. A failed read and out of memory say nothing of
--- the file.
+-- No image is written, or not all of it, because of this fault, which also says what is written then. A failed read and
+-- out of memory say nothing of the file.
 abbrev pub AssemblyFails : (known old new : Option (List ℕ)) → Fault → Type 0
 AssemblyFails known old new (fault.Text e) = (text : List ℕ) × IsWhole known text × IsTextRefusal text (fault.Text e)
 AssemblyFails known old new fault.NotUtf8 = (text : List ℕ) × IsWhole known text × IsTextRefusal text fault.NotUtf8

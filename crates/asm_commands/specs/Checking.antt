@@ -9,7 +9,7 @@ use Rattle.asm_commands.specs.declared.text_fault.TextFault.{TextFault}
 use Rattle.asm_commands.specs.Faults.{AreTheFaults}
 use Rattle.asm_commands.specs.Lines.{IsList}
 
--- the exit status where the list is printed
+-- the exit status if the list is printed
 abbrev pub status_of : List TextFault → ℕ
 status_of [] = 0
 status_of (t ∷ ts) = 1
@@ -21,24 +21,25 @@ pub record IsCheckOf (text : List ℕ) (status : ℕ) (printed : List ℕ) : Typ
   pub list : IsList faults printed
   pub fact : status ≡ status_of faults
 
--- So of the text that a file has.
+-- The same, of the text that a file has.
 pub record IsCheck (known : Option (List ℕ)) (status : ℕ) (printed : List ℕ) : Type 0 where
   pub text : List ℕ
   pub whole : IsWhole known text
   pub check : IsCheckOf text status printed
 
--- Some list of the faults.
+-- The printed bytes list all faults of the text.
 pub record IsSomeCheckOf (text printed : List ℕ) : Type 0 where
   pub status : ℕ
   pub check : IsCheckOf text status printed
 
--- why the faults of a text are not printed, or not all: the list cannot be written. out of memory says nothing.
+-- The faults of a text are not printed, or not all of them, because the list cannot be written. Out of memory says
+-- nothing.
 abbrev pub CheckOfTextFails : (text : List ℕ) → (old new : Option (List ℕ)) → Fault → Type 0
 CheckOfTextFails text old new fault.Link = PrintsPrefix (IsSomeCheckOf text) old new
 CheckOfTextFails text old new fault.Memory = Unit {0}
 CheckOfTextFails text old new other = ⊥
 
--- so of a file, which may also be no UTF-8, or fail to be read
+-- The same, of a file, which may also not be UTF-8, or fail to be read.
 abbrev pub CheckFails : (known old new : Option (List ℕ)) → Fault → Type 0
 CheckFails known old new fault.Link = (new ≡ old)
     ⊎ ((text : List ℕ) × IsWhole known text × CheckOfTextFails text old new fault.Link)

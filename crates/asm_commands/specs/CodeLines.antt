@@ -18,12 +18,12 @@ text_of_word word = option_map_or text_of (insn_of word) (codes "-")
 abbrev pub line_of : (address word : ℕ) → List ℕ
 line_of address word = hex_of_word address ++ codes " " ++ hex_of_word word ++ codes " " ++ text_of_word word ++ 10 ∷ []
 
--- the lines of this many words of code, the first of which stands at 0x00010000
+-- the lines of this many words of code, the first of which is at 0x00010000
 abbrev pub lines_of : (code : List ℕ) → (count : ℕ) → List ℕ
 lines_of code zero = []
 lines_of code (suc index) = lines_of code index ++ line_of (0x0001_0000 + 4 * index) (word_at code index)
 
--- A line for each word of code up to the last that is not zero.
+-- The text has a line for each word of code up to the last that is not zero.
 pub record IsListing (code text : List ℕ) : Type 0 where
   pub count : ℕ
   pub within : count ≤ 2 ^ 14

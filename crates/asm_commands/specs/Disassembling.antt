@@ -15,8 +15,8 @@ pub record IsDisassembly (shared_words : ℕ) (known : Option (List ℕ)) (text 
   pub read : IsImageOf shared_words known image
   pub listing : IsListing (region_of_bytes image.layout.code) text
 
--- Why no code is printed, or not all of it: the image is refused, or the lines cannot be written. out of memory says
--- nothing.
+-- No code is printed, or not all of it, because of this fault: the image is refused, or the lines cannot be written.
+-- Out of memory says nothing.
 abbrev pub DisassemblyFails : (shared_words : ℕ) → (known old new : Option (List ℕ)) → Fault → Type 0
 DisassemblyFails shared_words known old new (fault.Image e) = IsImageRefusal shared_words known e
 DisassemblyFails shared_words known old new fault.Link = PrintsPrefix (IsDisassembly shared_words known) old new

@@ -35,6 +35,6 @@ count_line (suc (suc n)) = decimal (suc (suc n)) ++ codes " faults" ++ line_feed
 abbrev pub fault_line : TextFault → List ℕ
 fault_line t = line_of t (advice_text t.hint)
 
--- The text has a line for each fault, in their order, and then how many there are.
+-- The text has a line for each fault, in their order, followed by their number.
 abbrev pub IsList : (faults : List TextFault) → (text : List ℕ) → Type 0
 IsList faults text = text ≡ flat_map fault_line faults ++ count_line (length faults)

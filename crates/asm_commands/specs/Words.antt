@@ -3,11 +3,11 @@ use Rattle.std.specs.Prelude.{ℕ, List, [], ◌∷◌, ◌++◌, length, take, 
 use Rattle.std.specs.List.{flat_map}
 use Rattle.command_io.specs.Digits.{hex_of_bytes}
 
--- a byte of ASCII that can be seen, or a blank, as it is, and any other by two hex digits
+-- a byte as it is printed: printable ASCII, blanks included, as it is, and any other as two hex digits
 abbrev pub shown_byte : ℕ → List ℕ
 shown_byte byte = if nat_le 32 byte && nat_le byte 126 then byte ∷ [] else codes "\\x" ++ hex_of_bytes (byte ∷ [])
 
--- the first 64 bytes of a word, with two dots where there are more
+-- the first 64 bytes of a word, with two dots if there are more
 abbrev pub shown : List ℕ → List ℕ
 shown word = if nat_le (length word) 64 then flat_map shown_byte word else flat_map shown_byte (take 64 word)
     ++ codes ".."

@@ -1,4 +1,4 @@
-//! What would be right, in words.
+//! What would be right instead of a fault, in words.
 
 ghost use Rattle.std.specs.Prelude.{◌≡◌, ◌++◌, IfOk, OnOk, codes, string_bytes};
 ghost use Rattle.std.specs.Fmt.{decimal, signed_decimal};
@@ -15,7 +15,7 @@ use line_faults::{Hint, Wanted};
 use std::alloc::{AllocError, Global};
 use std::fmt::Write;
 
-/// What would be right in place of a word at fault.
+/// The text of what would be right in place of a word at fault.
 pub fn advice_of(alloc: Global, hint: &Hint<'_>) -> Result<String, AllocError>
     ensures { IfOk result (λ text. string_bytes text ≡ advice_text hint.now) }
 {
@@ -24,7 +24,7 @@ pub fn advice_of(alloc: Global, hint: &Hint<'_>) -> Result<String, AllocError>
     Ok(text)
 }
 
-/// Appends what would be right.
+/// Appends the text of what would be right.
 fn push_advice(alloc: Global, text: &mut String, hint: &Hint<'_>) -> Result<(), AllocError>
     ensures { OnOk result (string_bytes text.new ≡ string_bytes text.old ++ advice_text hint.now) }
 {
@@ -53,7 +53,7 @@ fn push_advice(alloc: Global, text: &mut String, hint: &Hint<'_>) -> Result<(), 
     }
 }
 
-/// Appends what is wrong with a word's upper bits, or with a statement's place.
+/// Appends what is wrong with a word's upper bits, or with the place of a statement.
 fn push_place(alloc: Global, text: &mut String, hint: &Hint<'_>) -> Result<(), AllocError>
     ensures { OnOk result (string_bytes text.new ≡ string_bytes text.old ++ place_text hint.now) }
 {
@@ -83,14 +83,14 @@ fn push_label(alloc: Global, text: &mut String, hint: &Hint<'_>) -> Result<(), A
     }
 }
 
-/// Appends the upper bits of a word that stands in place of these.
+/// Appends the upper bits of a word that was given instead of 20 bits.
 fn push_upper(text: &mut String, upper: u64) -> Result<(), AllocError>
     ensures { OnOk result (string_bytes text.new ≡ string_bytes text.old ++ place_text (UpperBits upper)) }
 {
     push_behind(text, upper_front(), upper)
 }
 
-/// What stands before these bits.
+/// The text before these bits.
 #[tactic(auto, unfolding(crate::specs::Advice::upper_front))]
 fn upper_front() -> &'static str
     ensures { result.now ≡ upper_front }
@@ -112,14 +112,14 @@ fn push_distance(text: &mut String, distance: u64, wanted: Wanted) -> Result<(),
     )
 }
 
-/// Appends on which line a label stands.
+/// Appends the line of a label that exists already.
 fn push_line_of(text: &mut String, line: usize) -> Result<(), AllocError>
     ensures { OnOk result (string_bytes text.new ≡ string_bytes text.old ++ label_text (StandsOn line)) }
 {
     push_count_between(text, "the label stands on line ", line, " already")
 }
 
-/// Appends a label that is near.
+/// Appends a label with a similar name.
 fn push_near(alloc: Global, text: &mut String, name: &[u8]) -> Result<(), AllocError>
     ensures { OnOk result (string_bytes text.new ≡ string_bytes text.old
         ++ (codes "there is no such label; there is " ++ shown name.now)) }
@@ -164,7 +164,7 @@ fn push_count(text: &mut String, count: usize) -> Result<(), AllocError>
     write!(text, "{count}")
 }
 
-/// Appends what stands in place of an operand.
+/// Appends what an operand should be.
 fn push_wanted(text: &mut String, wanted: Wanted) -> Result<(), AllocError>
     ensures { OnOk result (string_bytes text.new ≡ string_bytes text.old ++ wanted_text wanted) }
 {
@@ -186,7 +186,7 @@ fn push_wanted(text: &mut String, wanted: Wanted) -> Result<(), AllocError>
     }
 }
 
-/// Appends the least and the most that a number may be, between two texts.
+/// Appends the least and the greatest value of a number, between two texts.
 fn push_range(
     text: &mut String,
     front: &str,
@@ -201,7 +201,7 @@ fn push_range(
     text.push_str(behind)
 }
 
-/// Appends the least and the most that a number may be.
+/// Appends the least and the greatest value of a number.
 fn push_from_to(text: &mut String, wanted: Wanted) -> Result<(), AllocError>
     ensures { OnOk result (string_bytes text.new ≡ string_bytes text.old ++ from_to (range_of wanted)) }
 {
@@ -262,7 +262,7 @@ fn push_between(text: &mut String, front: &str, number: u64, behind: &str) -> Re
     text.push_str(behind)
 }
 
-/// Appends a distance, and the least and the most that it may be, between three texts.
+/// Appends a distance, and its least and greatest value, between three texts.
 fn push_far(
     text: &mut String,
     front: &str,

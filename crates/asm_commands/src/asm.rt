@@ -17,9 +17,9 @@ use link::{LinkRead, LinkWrite};
 use std::alloc::Global;
 use std::io::Write;
 
-/// Assembles the text that a file has, and writes the image of what it means. Answers the exit status: 0
-/// where the whole image is written, else that of the fault that is reported on standard error. Nothing is
-/// written to the image before the whole text is assembled.
+/// Assembles the text of a file, and writes the image of what it means. Returns the exit status: 0 if the whole image
+/// is written, otherwise that of the fault that is reported on standard error. Nothing of the image is written before
+/// the whole text is assembled.
 pub fn asm_command<R: LinkRead, W: LinkWrite, E: Write>(
     alloc: Global,
     file: &mut R,
@@ -44,7 +44,7 @@ pub fn asm_command<R: LinkRead, W: LinkWrite, E: Write>(
     }
 }
 
-/// Carries the command out.
+/// Executes the command.
 fn execute<R: LinkRead, W: LinkWrite>(alloc: Global, file: &mut R, out: &mut W) -> Result<(), Fault>
     requires reads { R.has_failed file.old ≡ false }
     requires works { W.has_failed out.old ≡ false }

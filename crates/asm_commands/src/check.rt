@@ -14,12 +14,12 @@ use link::{LinkRead, LinkWrite};
 use std::alloc::Global;
 use std::io::Write;
 
-/// The exit status where the list is printed and has a fault.
+/// The exit status if the list is printed and has a fault.
 const FAULTY: u8 = 1;
 
-/// Reads a text and prints all its faults: a line for each, and a last line with how many there are. Answers the exit
-/// status: 0 where there is none, 1 where there is one, else that of the fault that is reported on standard error. The
-/// list is made whole before its first byte is printed.
+/// Reads a text and prints all its faults: a line for each, and a last line with their number. Returns the exit status:
+/// 0 if there is no fault, 1 if there is one, otherwise that of the fault that is reported on standard error. The whole
+/// list is made before its first byte is printed.
 pub fn check_command<R: LinkRead, W: LinkWrite, E: Write>(
     alloc: Global,
     file: &mut R,
@@ -44,7 +44,7 @@ pub fn check_command<R: LinkRead, W: LinkWrite, E: Write>(
     }
 }
 
-/// Carries the command out.
+/// Executes the command.
 fn execute<R: LinkRead, W: LinkWrite>(alloc: Global, file: &mut R, out: &mut W) -> Result<u8, Fault>
     requires reads { R.has_failed file.old ≡ false }
     requires works { W.has_failed out.old ≡ false }
@@ -62,7 +62,7 @@ fn execute<R: LinkRead, W: LinkWrite>(alloc: Global, file: &mut R, out: &mut W) 
     check_text(alloc, text, out)
 }
 
-/// Prints the faults of a text, and answers the exit status.
+/// Prints the faults of a text, and returns the exit status.
 fn check_text<W: LinkWrite>(alloc: Global, text: &str, out: &mut W) -> Result<u8, Fault>
     requires works { W.has_failed out.old ≡ false }
     ensures checked { IfOk result (λ status. Prints (IsCheckOf text.now status) (W.contents out.old)

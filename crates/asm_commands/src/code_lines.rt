@@ -11,11 +11,11 @@ use flat_machine::{CODE_START, Size};
 use local_memory::Code;
 use std::alloc::{AllocError, Global};
 
-/// How many words code has.
+/// The number of words of code.
 const CODE_WORDS: u32 = 0x4000;
 
-/// A line for each word of code up to the last that is not zero: its address and the word in eight hex
-/// digits each, and the text of the instruction that the word spells, or `-` where it spells none.
+/// A line for each word of code up to the last that is not zero: its address and the word, in eight hex digits each,
+/// and the text of the instruction that the word spells, or `-` if it spells none.
 pub fn listing(alloc: Global, code: &Code) -> Result<String, AllocError>
     ensures { IfOk result (λ text. IsListing code.now (string_bytes text)) }
 {
@@ -31,7 +31,7 @@ pub fn listing(alloc: Global, code: &Code) -> Result<String, AllocError>
     Ok(text)
 }
 
-/// How many words of code there are up to the last that is not zero.
+/// The number of words of code up to the last that is not zero.
 fn word_count(code: &Code) -> u32
     ensures few { result ≤ 2 ^ 14 }
     ensures behind { (index : ℕ) → result ≤ index → index < 2 ^ 14 → word_at code.now index ≡ 0 }

@@ -16,9 +16,9 @@ use local_memory::Code;
 use std::alloc::{AllocError, Global};
 use std::io::Write;
 
-/// Reads an image for machines with this many shared words, and prints its code: a line for each word up to
-/// the last that is not zero. Answers the exit status: 0 where all lines are printed, else that of the fault
-/// that is reported on standard error. The lines are made whole before the first is printed.
+/// Reads an image for machines with this many shared words, and prints its code: a line for each word up to the last
+/// that is not zero. Returns the exit status: 0 if all lines are printed, otherwise that of the fault that is reported
+/// on standard error. All lines are made before the first is printed.
 pub fn dis_command<R: LinkRead, W: LinkWrite, E: Write>(
     alloc: Global,
     file: &mut R,
@@ -45,7 +45,7 @@ pub fn dis_command<R: LinkRead, W: LinkWrite, E: Write>(
     }
 }
 
-/// Carries the command out.
+/// Executes the command.
 fn execute<R: LinkRead, W: LinkWrite>(
     alloc: Global,
     file: &mut R,

@@ -10,7 +10,7 @@ use assembler::AsmFault;
 use std::alloc::{AllocError, Global};
 use std::fmt::Write;
 
-/// A line for each fault, and one with how many there are.
+/// A line for each fault, and one with their number.
 pub fn list_of(alloc: Global, faults: &[TextFault<'_>]) -> Result<String, AllocError>
     ensures { IfOk result (λ text. IsList faults.now (string_bytes text)) }
 {
@@ -65,7 +65,7 @@ fn code_of(fault: AsmFault) -> &'static str
     }
 }
 
-/// Appends the line with how many faults there are.
+/// Appends the line with the number of faults.
 fn push_count(text: &mut String, count: usize) -> Result<(), AllocError>
     ensures { OnOk result (string_bytes text.new ≡ string_bytes text.old ++ count_line count) }
 {

@@ -15,13 +15,12 @@ use line_faults::{Around, Cursor, Label, Piece, Search, Spot, spot_of};
 use std::alloc::{AllocError, Global};
 use std::collections::BTreeMap;
 
-/// All faults of a text, in the order of its lines: each line that has one, with its fault, and no other. So the list
-/// is empty exactly if the text has a meaning
-/// ([`none_where_there_is_a_meaning`](crate::none_where_there_is_a_meaning)).
+/// All faults of a text, in the order of its lines: one for each line that has a fault. So the list is empty exactly if
+/// the text has a meaning ([`none_where_there_is_a_meaning`](crate::none_where_there_is_a_meaning)).
 ///
 /// # Errors
 ///
-/// [`AllocError`] where memory is short, or where a text has more than 2^62 bytes for a section.
+/// [`AllocError`] if there is no memory, or if a text has more than 2^62 bytes for a section.
 pub fn text_faults<'a>(alloc: Global, text: &'a str) -> Result<Vec<TextFault<'a>>, AllocError>
     ensures { IfOk result (λ faults. AreTheFaults text.now faults.items) }
 {
@@ -41,7 +40,7 @@ fn labels_of<'a>(alloc: Global, lines: &[&'a [u8]]) -> Result<BTreeMap<&'a [u8],
     Ok(cursor.labels)
 }
 
-/// Goes after a line, which has this number.
+/// Moves the cursor past the line with this number.
 fn pass_line<'a>(
     alloc: Global,
     cursor: &mut Cursor<'a>,
@@ -77,7 +76,7 @@ fn faults_of<'a>(
     Ok(faults)
 }
 
-/// Puts a fault after the others, if there is one.
+/// Appends a fault, if there is one.
 fn keep<'a>(faults: &mut Vec<TextFault<'a>>, found: Option<TextFault<'a>>) -> Result<(), AllocError>
     ensures { OnOk result (faults.new.items ≡ faults.old.items ++ option_to_list found.entry) }
 {
@@ -87,7 +86,7 @@ fn keep<'a>(faults: &mut Vec<TextFault<'a>>, found: Option<TextFault<'a>>) -> Re
     Ok(())
 }
 
-/// The fault of the next line, which has this number; then goes after it.
+/// The fault of the line with this number, which is the next one. Then moves the cursor past the line.
 fn take_line<'a>(
     alloc: Global,
     labels: &BTreeMap<&'a [u8], Label>,
@@ -123,7 +122,7 @@ fn take_line<'a>(
     Ok(found)
 }
 
-/// The fault of the line with this number, with the word at which it lies.
+/// The fault of the line with this number, and the word at fault.
 fn found_at<'a>(
     alloc: Global,
     around: &Around<'_, 'a>,
@@ -158,7 +157,7 @@ fn fault_at<'a>(number: usize, fault: AsmFault, spot: &Spot<'a>) -> TextFault<'a
     }
 }
 
-/// Where a piece begins in its line, counted in bytes from 1.
+/// The column at which a piece begins in its line, counted in bytes from 1.
 fn column_of(piece: Piece<'_>) -> usize
     ensures { result ≡ piece.entry.start + 1 }
 {

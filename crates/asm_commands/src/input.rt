@@ -9,15 +9,15 @@ use command_io::Fault;
 use link::{LinkRead, ReadError, read_within};
 use std::alloc::Global;
 
-/// How many bytes a text may have. A text that fills every section of an image needs less than half of
-/// them; the limit is so that an input without an end does not take all memory.
+/// The most bytes of a text. A text that fills every section of an image needs less than half of them. The limit keeps
+/// an endless input from taking all memory.
 pub const MAX_TEXT_BYTES: usize = 16_777_216;
 
 /// The bytes of a file.
 ///
 /// # Errors
 ///
-/// [`Fault::Link`] exactly if a read fails, and [`Fault::Memory`] where memory is short or the file has more than
+/// [`Fault::Link`] exactly if a read fails, and [`Fault::Memory`] if there is no memory or the file has more than
 /// [`MAX_TEXT_BYTES`].
 pub fn read_text<R: LinkRead>(alloc: Global, file: &mut R) -> Result<Vec<u8>, Fault>
     requires works { R.has_failed file.old ≡ false }
@@ -32,11 +32,11 @@ pub fn read_text<R: LinkRead>(alloc: Global, file: &mut R) -> Result<Vec<u8>, Fa
     }
 }
 
-/// The text that bytes are.
+/// The text that bytes spell.
 ///
 /// # Errors
 ///
-/// [`Fault::NotUtf8`] where they are none.
+/// [`Fault::NotUtf8`] if the bytes are not UTF-8.
 pub fn text_of(bytes: &[u8]) -> Result<&str, Fault>
     ensures text { IfOk result (λ text. text.now ≡ bytes.now) }
     ensures refused { IfErr result (λ fault. (fault ≡ Fault.NotUtf8) × (¬ (IsUtf8 bytes.now))) }

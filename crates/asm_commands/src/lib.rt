@@ -2,17 +2,16 @@
 //!
 //! [`asm_command`] goes from the bytes of a text to the bytes of an image. [`dis_command`] goes from the bytes of an
 //! image to the lines of its code. [`check_command`] goes from the bytes of a text to a list of all its faults: for
-//! each line that has one its number, the word at fault with its column, the fault as `assemble` knows it, and what
+//! each line with a fault, its number, the word at fault with its column, the fault as `assemble` knows it, and what
 //! would be right.
 //!
-//! A line has one fault at most, as `specs/Meaning.antt` of `assembler` says. Each line is read at its place, after
-//! all lines before it, those that have a fault too, and labels have their values from the whole text. So a line that
-//! is not listed may have a fault once another line is mended, and the other way round. A line that cannot be read
-//! takes no bytes and has no label; any other line takes its bytes and has its label, whether it has a fault or not.
-//! Of a label that stands on two lines the later one counts. Where a section has too many bytes, no statement after
-//! that has room.
+//! A line has at most one fault, as `specs/Meaning.antt` of `assembler` says. Each line is read at its place, after all
+//! lines before it, also those with a fault, and labels have their values from the whole text. So a line that is not
+//! listed may have a fault after another line is mended, and the other way round. A line that cannot be read takes no
+//! bytes and has no label. Any other line takes its bytes and has its label, even if it has a fault. If two lines have
+//! the same label, the later one counts. If a section has too many bytes, no statement after that has room.
 //!
-//! `specs/Faults.antt` says what is listed ([`text_faults`]), and which word of the line is named; `specs/Advice.antt`
+//! `specs/Faults.antt` says what is listed ([`text_faults`]), and which word of the line is named. `specs/Advice.antt`
 //! has the texts of what would be right.
 #![tactic(auto)]
 

@@ -8,11 +8,11 @@ use line_faults::Hint;
 pub struct TextFault<'a> {
     /// The line, counted from 1.
     pub line: usize,
-    /// Where the word begins in the line, counted in bytes from 1.
+    /// The column at which the word begins, counted in bytes from 1.
     pub column: usize,
-    /// The word at fault, a piece of the line. It is empty where something is missing.
+    /// The word at fault, a piece of the line. It is empty if something is missing.
     pub word: &'a [u8],
-    /// What is wrong with the line: all but [`AsmFault::Memory`].
+    /// What is wrong with the line. It is never [`AsmFault::Memory`].
     pub fault: AsmFault,
     /// What would be right.
     pub hint: Hint<'a>,

@@ -7,7 +7,7 @@ ghost use Rattle.asm_commands.specs.Words.{behind_code, shown_byte, shown};
 use command_io::push_bytes;
 use std::alloc::{AllocError, Global};
 
-/// How many bytes of a word are printed.
+/// The most bytes of a word that are printed.
 const MAX_SHOWN: usize = 64;
 
 /// Appends a blank and the word, if there is one.
@@ -21,7 +21,7 @@ pub fn push_behind_code(alloc: Global, text: &mut String, word: &[u8]) -> Result
     push_word(alloc, text, word)
 }
 
-/// Appends a word: its first bytes, and two dots where there are more.
+/// Appends a word: its first bytes, and two dots if there are more.
 pub fn push_word(alloc: Global, text: &mut String, word: &[u8]) -> Result<(), AllocError>
     ensures { OnOk result (string_bytes text.new ≡ string_bytes text.old ++ shown word.now) }
 {
@@ -42,7 +42,7 @@ fn push_shown(alloc: Global, text: &mut String, word: &[u8]) -> Result<(), Alloc
     Ok(())
 }
 
-/// Appends a byte of ASCII that can be seen, or a blank, as it is, and any other as `\xHH`.
+/// Appends a byte: printable ASCII, blanks included, as it is, and any other as `\xHH`.
 fn push_byte(alloc: Global, text: &mut String, byte: u8) -> Result<(), AllocError>
     ensures { OnOk result (string_bytes text.new ≡ string_bytes text.old ++ shown_byte byte) }
 {

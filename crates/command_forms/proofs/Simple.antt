@@ -1,4 +1,4 @@
--- The program's command is one of which `clap` gives its matches as a function of the words.
+-- The matches of the program's command are a function of the words.
 use Rattle.std.proofs.Common.{◌≡◌, true, refl}
 use Rattle.std.specs.Prelude.{⊤}
 use Rattle.clap.specs.Faults.{is_simple_and_free}
@@ -8,18 +8,18 @@ use Rattle.command_forms.specs.Commands.{run_command, hunt_command, explore_comm
 use Rattle.command_forms.specs.Commands.{story_command, stats_command, picture_command, debug_command}
 use Rattle.command_forms.specs.Commands.{explain_command}
 
--- what a proof unfolds to compute with the program's command
+-- the definitions that a proof unfolds to compute with the program's command
 unfoldable pub commands : ⊤
 unfolding ultra_command words_command check_command asm_command dis_command run_command hunt_command explore_command replay_command order_command
     story_command stats_command picture_command debug_command explain_command
 commands = tt
 
--- clap gives its matches as a function of the words
+-- The matches of the program's command are a function of the words.
 pub is_simple_ultra : is_simple ultra_command ≡ true
 unfolding commands
 is_simple_ultra = refl
 
--- and the kinds of its errors too
+-- So are the kinds of its errors.
 pub is_free_ultra : is_simple_and_free ultra_command ≡ true
 unfolding commands
 is_free_ultra = refl

@@ -7,80 +7,80 @@ use Rattle.clap.specs.declared.builder.value_parser.ValueParser.TheVariants as v
 
 -- ---- the options with a number
 
--- its name, and the least and the most that it takes
+-- the name of an option, and the least and the greatest number that it takes
 pub record Bounds : Type 0 where
   pub name : Text
   pub low : ℕ
   pub high : ℕ
 
--- with the number that stands where the option is not given
+-- an option with the number that it has if it is not given
 pub record Ranged : Type 0 where
   pub bounds : Bounds
   pub default : ℕ
 
--- how many stages of switches the machine has
+-- the number of stages of switches
 abbrev pub stages : Ranged
 stages = record { bounds = record { name = codes "k"; low = 0; high = 6 }; default = 2 }
 
--- how many messages a queue of a switch holds
+-- the number of messages that a queue of a switch holds
 abbrev pub queue : Ranged
 queue = record { bounds = record { name = codes "c"; low = 2; high = 16 }; default = 4 }
 
--- how many records a wait buffer of a switch holds
+-- the number of records that a wait buffer of a switch holds
 abbrev pub records : Ranged
 records = record { bounds = record { name = codes "b"; low = 0; high = 16 }; default = 4 }
 
--- how often an entry of a queue is combined
+-- how often an entry of a queue may be combined
 abbrev pub combinations : Ranged
 combinations = record { bounds = record { name = codes "r"; low = 1; high = 3 }; default = 1 }
 
--- how many shared words the machine has
+-- the number of shared words
 abbrev pub shared_words : Ranged
 shared_words = record { bounds = record { name = codes "words"; low = 1; high = 262144 }; default = 1024 }
 
--- how long a run may take
+-- the most rounds of each thread, or steps of the sweep, in a run
 abbrev pub budget : Ranged
 budget = record { bounds = record { name = codes "budget"; low = 1; high = 4294967295 }; default = 10000000 }
 
--- how many steps one command of a debugger may take, or one run of a hunt
+-- the most steps of one command of a debugger, or of one run of a hunt
 abbrev pub steps : Ranged
 steps = record { bounds = record { name = codes "budget"; low = 1; high = 4000000 }; default = 100000 }
 
--- the port at which a debugger is awaited
+-- the port at which the program waits for a debugger
 abbrev pub port : Ranged
 port = record { bounds = record { name = codes "port"; low = 1; high = 65535 }; default = 3333 }
 
--- with how many states an exploration is given up
+-- the number of states at which an exploration gives up
 abbrev pub states : Ranged
 states = record { bounds = record { name = codes "states"; low = 1; high = 4294967295 }; default = 1000000 }
 
--- how many runs a hunt takes
+-- the number of runs of a hunt
 abbrev pub runs : Ranged
 runs = record { bounds = record { name = codes "runs"; low = 1; high = 1000000 }; default = 1000 }
 
--- where the choices of a run's schedule begin
+-- the start of the choices of a run's schedule
 abbrev pub start : Ranged
 start = record { bounds = record { name = codes "start"; low = 0; high = 4294967295 }; default = 1 }
 
--- the processor whose entries are asked for
+-- the processor whose lines are printed
 abbrev pub processor : Bounds
 processor = record { name = codes "processor"; low = 0; high = 63 }
 
--- the shared word on which the entries act that are asked for
+-- the shared word of which lines are printed
 abbrev pub shared_word : Bounds
 shared_word = record { name = codes "word"; low = 0; high = 262143 }
 
--- the result that a witness ends in
+-- the result with which a witness ends
 abbrev pub witness : Bounds
 witness = record { name = codes "witness"; low = 0; high = 4294967295 }
 
--- how many steps the machine has taken that is drawn
+-- the number of steps after which the machine is drawn
 abbrev pub step : Bounds
 step = record { name = codes "step"; low = 0; high = 4294967295 }
 
 -- ---- the command
 
--- a file, which has to be given
+-- a file, which is required
 abbrev pub path : Text → Rule
 path id = record (new_rule id) { required = true }
 
@@ -88,7 +88,7 @@ path id = record (new_rule id) { required = true }
 abbrev pub option : Text → Rule
 option name = record (new_rule name) { long = Some name; value_names = 1 }
 
--- `--NAME NUMBER`, in its range
+-- `--NAME NUMBER`, within bounds
 abbrev pub number : Bounds → Rule
 number o = record (option o.name) { parser = Some (vp.Signed (pos o.low) (pos o.high)) }
 
@@ -114,7 +114,7 @@ asm_command = with_rule (with_file (new_app (codes "asm"))) (path (codes "OUT"))
 unfoldable pub dis_command : App
 dis_command = with_number shared_words (with_file (new_app (codes "dis")))
 
--- a machine's sizes
+-- the options for a machine's sizes
 abbrev pub with_sizes : App → App
 with_sizes a = with_number shared_words (with_number combinations
     (with_number records (with_number queue (with_number stages a))))
@@ -125,7 +125,7 @@ run_command =
     (with_rule (with_rule (with_rule (with_file (new_app (codes "run"))) (option (codes "trace")))
     (flag (codes "sweep"))) (flag (codes "quiet")))))
 
--- a trace and the image of its run
+-- a trace, the image of its run, and the number of shared words
 abbrev pub replaying : Text → App
 replaying name = with_number shared_words (with_file (with_rule (new_app name) (path (codes "TRACE"))))
 
@@ -164,7 +164,7 @@ hunt_command =
     (flag (codes "overwrite")))
     (flag (codes "quiet"))))))
 
--- the program, which has a version and is reported what to do
+-- the program, which has a version and requires a subcommand
 abbrev pub program : App
 program = on_top (λ s. record s { has_version = true; subcommand_required = true }) (new_app (codes "ultra"))
 
@@ -172,7 +172,7 @@ abbrev pub with_subcommands : List Shape → App → App
 with_subcommands [] a = a
 with_subcommands (s ∷ ss) a = with_subcommands ss (with_subcommand a s)
 
--- each subcommand is a leaf of its own
+-- the program with all its subcommands, none of which has subcommands of its own
 unfoldable pub ultra_command : App
 ultra_command = with_subcommands (
     words_command.top

@@ -1,4 +1,4 @@
--- The commands as the code has them: what their forms are to the parser of the command line.
+-- The commands of the code as the parser of the command line sees them, without their help.
 use Rattle.std.specs.Prelude.{ℕ, List, [], ◌∷◌}
 use Rattle.clap.specs.Words.{App, Rule, Text, new_app, new_rule, with_rule, with_subcommand}
 use Rattle.command_forms.specs.Commands.{Bounds, Ranged, flag, number, option, path}
@@ -14,7 +14,7 @@ bounds_as name low high = record { name = name; low = low; high = high }
 abbrev pub ranged_as : Text → (default low high : ℕ) → Ranged
 ranged_as name default low high = record { bounds = bounds_as name low high; default = default }
 
--- what its help says is left out
+-- the option, without its help
 abbrev pub ranged : NumberOption → Ranged
 ranged o = ranged_as o.name.now o.default o.low o.high
 

@@ -8,7 +8,7 @@ use crate::forms::Argument;
 use clap::{Arg, ArgAction};
 use std::alloc::Global;
 
-/// The argument that stands in a form.
+/// The argument of `clap` for an argument of a form.
 pub(crate) fn arg_of<'a>(alloc: Global, argument: Argument) -> Arg<'a>
     ensures rule { rule_of result ≡ rule_of_argument argument }
     ensures global { result.global ≡ false }

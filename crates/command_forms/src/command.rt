@@ -31,7 +31,7 @@ fn above<'a>(program: Command<'a>, command: Command<'a>) -> Result<Command<'a>, 
     program.subcommand(command)
 }
 
-/// The program, as yet with no command.
+/// The program, without commands so far.
 fn program_shape<'a>(alloc: Global) -> Command<'a>
     ensures shape { app_of result ≡ program }
     ensures globals { (out-Command result).has_globals ≡ false }

@@ -1,4 +1,4 @@
-//! The commands of the program, each with its arguments and with what its help says.
+//! The commands of the program, each with its arguments and its help.
 
 ghost use Rattle.std.specs.Prelude.{◌≡◌};
 ghost use Rattle.command_forms.specs.Forms.{app_of_form, with_forms};
@@ -20,22 +20,22 @@ use crate::ranges::{
 #[derive(Clone, Copy, Drop)]
 pub(crate) struct CommandForm {
     pub(crate) name: &'static str,
-    /// What its help says first.
+    /// The first line of its help.
     pub(crate) about: &'static str,
     pub(crate) arguments: &'static [Argument],
-    /// What its help says last.
+    /// The end of its help.
     pub(crate) ends: &'static str,
 }
 
 /// An argument of a command.
 #[derive(Clone, Copy, Drop)]
 pub(crate) enum Argument {
-    /// A file that has to be given.
+    /// A file, which is required.
     Path {
         id: &'static str,
         help: &'static str,
     },
-    /// A word that need not be given.
+    /// A word, which is optional.
     Word {
         id: &'static str,
         help: &'static str,
@@ -57,31 +57,31 @@ pub(crate) enum Argument {
     Choice(ChoiceOption),
 }
 
-/// An image, where it is read.
+/// An image to read.
 const IMAGE: Argument = Argument::Path {
     id: "FILE",
     help: "An image, as `ultra asm` writes it",
 };
 
-/// A text, where it is read.
+/// A text to read.
 const TEXT: Argument = Argument::Path {
     id: "FILE",
     help: "Assembler text in UTF-8, one statement a line, as `amoadd.w a0, a1, (a2)`",
 };
 
-/// A trace, where it is read.
+/// A trace to read.
 const TRACE: Argument = Argument::Path {
     id: "TRACE",
     help: "A trace, as `ultra run --trace` writes it",
 };
 
-/// The image that goes with a trace.
+/// The image of a trace's run.
 const TRACED_IMAGE: Argument = Argument::Path {
     id: "FILE",
     help: "The image of that run, as `ultra asm` writes it",
 };
 
-/// What a trace is taken on.
+/// The arguments of a command that replays a trace.
 const REPLAYED: &[Argument] = &[TRACE, TRACED_IMAGE, Argument::Number(SHARED_WORDS)];
 
 const WORDS: CommandForm = CommandForm {
@@ -290,7 +290,7 @@ const EXPLAIN: CommandForm = CommandForm {
     ends: EXPLAIN_ENDS,
 };
 
-// A function for each command, so that no proof but its own has the texts.
+// Each command has a function, so that only that function's proof has the command's texts.
 
 #[tactic(auto, unfolding(crate::specs::Commands::words_command))]
 fn words() -> CommandForm

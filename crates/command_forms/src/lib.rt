@@ -1,5 +1,4 @@
-//! The commands of the program with their arguments and their help, and what `clap` makes of the words of a command
-//! line.
+//! The commands of the program with their arguments and their help, and how `clap` parses the words of a command line.
 #![tactic(auto)]
 
 mod args;

@@ -7,11 +7,11 @@ use crate::command::ultra_shape;
 use clap::{ArgMatches, Error};
 use std::alloc::Global;
 
-/// What `clap` makes of the words, of which the first is the program's name.
+/// Parses the words of a command line, the first of which is the program's name.
 ///
 /// # Errors
 ///
-/// A mistake in the words, a request for help or the version, or a lack of memory.
+/// [`Error`] for a mistake in the words, a request for help or for the version, or if out of memory.
 pub fn matches_of<'a>(alloc: Global, words: &'a [&'a str]) -> Result<ArgMatches<'a>, Error>
     ensures rows { IfOk result (λ m. subcommand_rows_of m
         ≡ subcommand_of ultra_command (map (λ w. w.now) words.entry.now)) }

@@ -4,7 +4,7 @@
 #[derive(Clone, Copy, Drop)]
 pub struct NumberOption {
     pub name: &'static str,
-    /// The number where the option is not given.
+    /// The number if the option is not given.
     pub default: u32,
     /// The least number that it takes.
     pub low: u32,
@@ -13,7 +13,7 @@ pub struct NumberOption {
     pub help: &'static str,
 }
 
-/// How many stages of switches the machine has.
+/// The number of stages of switches.
 pub const STAGES: NumberOption = NumberOption {
     name: "k",
     default: 2,
@@ -22,7 +22,7 @@ pub const STAGES: NumberOption = NumberOption {
     help: "Stages of the network, 0 to 6; the machine has 2^k processors and 2^k memory modules [default: 2]",
 };
 
-/// How many messages a queue of a switch holds.
+/// The number of messages that a queue of a switch holds.
 pub const QUEUE: NumberOption = NumberOption {
     name: "c",
     default: 4,
@@ -31,7 +31,7 @@ pub const QUEUE: NumberOption = NumberOption {
     help: "Messages that a queue of a switch holds, 2 to 16 [default: 4]",
 };
 
-/// How many records a wait buffer of a switch holds.
+/// The number of records that a wait buffer of a switch holds.
 pub const RECORDS: NumberOption = NumberOption {
     name: "b",
     default: 4,
@@ -40,7 +40,7 @@ pub const RECORDS: NumberOption = NumberOption {
     help: "Records of combined requests that an output of a switch holds, 0 to 16; with 0 nothing is combined [default: 4]",
 };
 
-/// How often an entry of a queue is combined.
+/// How often an entry of a queue may be combined.
 pub const COMBINATIONS: NumberOption = NumberOption {
     name: "r",
     default: 1,
@@ -49,7 +49,7 @@ pub const COMBINATIONS: NumberOption = NumberOption {
     help: "Times that a request in a queue of a switch is combined, 1 to 3, and fewer than --c [default: 1]",
 };
 
-/// How many shared words the machine has.
+/// The number of shared words.
 pub const SHARED_WORDS: NumberOption = NumberOption {
     name: "words",
     default: 1024,
@@ -58,7 +58,7 @@ pub const SHARED_WORDS: NumberOption = NumberOption {
     help: "Shared words of four bytes that the machine has, 1 to 262144 [default: 1024]",
 };
 
-/// How long a run may take.
+/// The most rounds of each thread, or steps of the sweep, in a run.
 pub const BUDGET: NumberOption = NumberOption {
     name: "budget",
     default: 10_000_000,
@@ -67,7 +67,7 @@ pub const BUDGET: NumberOption = NumberOption {
     help: "Rounds that each thread may go through, or steps that the sweep may take, 1 to 4294967295 [default: 10000000]",
 };
 
-/// How many steps one command of a debugger may take.
+/// The most steps of one command of a debugger.
 pub const STEPS: NumberOption = NumberOption {
     name: "budget",
     default: 100_000,
@@ -76,7 +76,7 @@ pub const STEPS: NumberOption = NumberOption {
     help: "Steps that one `cont` may take, 1 to 4000000 [default: 100000]",
 };
 
-/// The port at which a debugger is awaited.
+/// The port at which the program waits for a debugger.
 pub const PORT: NumberOption = NumberOption {
     name: "port",
     default: 3333,
@@ -85,7 +85,7 @@ pub const PORT: NumberOption = NumberOption {
     help: "Port of 127.0.0.1 for the debugger, 1 to 65535 [default: 3333]",
 };
 
-/// How many steps each run of a hunt may take.
+/// The most steps of each run of a hunt.
 pub const RUN_STEPS: NumberOption = NumberOption {
     name: "budget",
     default: 100_000,
@@ -94,7 +94,7 @@ pub const RUN_STEPS: NumberOption = NumberOption {
     help: "Steps that each run may take, 1 to 4000000 [default: 100000]",
 };
 
-/// How many runs a hunt takes.
+/// The number of runs of a hunt.
 pub const RUNS: NumberOption = NumberOption {
     name: "runs",
     default: 1000,
@@ -103,7 +103,7 @@ pub const RUNS: NumberOption = NumberOption {
     help: "Runs to take, 1 to 1000000 [default: 1000]",
 };
 
-/// With how many states an exploration is given up.
+/// The number of states at which an exploration gives up.
 pub const STATES: NumberOption = NumberOption {
     name: "states",
     default: 1_000_000,
@@ -112,7 +112,7 @@ pub const STATES: NumberOption = NumberOption {
     help: "Give up when this many states are found, 1 to 4294967295 [default: 1000000]",
 };
 
-/// Where the choices of the threads begin.
+/// The start of the threads' choices.
 pub const START: NumberOption = NumberOption {
     name: "start",
     default: 1,
@@ -121,7 +121,7 @@ pub const START: NumberOption = NumberOption {
     help: "Number from which the choices of the threads start, 0 to 4294967295; the sweep makes none [default: 1]",
 };
 
-/// Where the choices of a hunt's first run begin.
+/// The start of the choices in the first run of a hunt.
 pub const FIRST_START: NumberOption = NumberOption {
     name: "start",
     default: 1,
@@ -130,7 +130,7 @@ pub const FIRST_START: NumberOption = NumberOption {
     help: "Number of the first run, which decides its choices, 0 to 4294967295; the next run has the next number [default: 1]",
 };
 
-/// An option that takes a number, and has no default.
+/// An option that takes a number and has no default.
 #[derive(Clone, Copy, Drop)]
 pub struct ChoiceOption {
     pub name: &'static str,
@@ -141,7 +141,7 @@ pub struct ChoiceOption {
     pub help: &'static str,
 }
 
-/// The processor whose entries are asked for.
+/// The processor whose lines are printed.
 pub const PROCESSOR: ChoiceOption = ChoiceOption {
     name: "processor",
     low: 0,
@@ -149,7 +149,7 @@ pub const PROCESSOR: ChoiceOption = ChoiceOption {
     help: "Print the lines of this processor alone, 0 to 63",
 };
 
-/// The result that a witness ends in.
+/// The result with which a witness ends.
 pub const WITNESS: ChoiceOption = ChoiceOption {
     name: "witness",
     low: 0,
@@ -157,7 +157,7 @@ pub const WITNESS: ChoiceOption = ChoiceOption {
     help: "Write the trace of a way to the result of this number, or with 0 to the first state without a way to an end; goes with --trace",
 };
 
-/// How many steps the machine has taken that is drawn.
+/// The number of steps after which the machine is drawn.
 pub const STEP: ChoiceOption = ChoiceOption {
     name: "step",
     low: 0,
@@ -165,7 +165,7 @@ pub const STEP: ChoiceOption = ChoiceOption {
     help: "Draw the machine after this many steps, 0 to 4294967295 [default: after all]",
 };
 
-/// The shared word on which the entries act that are asked for.
+/// The shared word of which lines are printed.
 pub const SHARED_WORD: ChoiceOption = ChoiceOption {
     name: "word",
     low: 0,

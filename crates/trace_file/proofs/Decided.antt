@@ -129,7 +129,7 @@ range_holds h t =
 abbrev IsHeaded : List ℕ → Type 0
 IsHeaded bytes = ((h : Header) × IsHeader h × (bytes ≡ header_bytes h)) ⊎ ((h : Header) → IsHeader h → bytes ≢ header_bytes h)
 
--- the numbers that stand there are in range, and their header has these bytes
+-- whether the numbers in these bytes are in range, and their header has these bytes
 abbrev is_headed : List ℕ → Bool
 is_headed bytes = in_range (header_in bytes) && pointwise nat_eq (header_bytes (header_in bytes)) bytes
 
@@ -190,7 +190,7 @@ body_of k (suc n) bytes small =
       ]
     ]
 
--- ---- all
+-- ---- the whole trace
 
 module _ (bytes : List ℕ) (h : Header) (is : IsHeader h) (steps : List Step) (records : HaveRecords h.k steps) where
   ended : (rest : List ℕ) → length steps ≡ h.count → bytes ≡ header_bytes h ++ (records_bytes steps ++ rest) →

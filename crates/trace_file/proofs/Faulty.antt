@@ -1,4 +1,4 @@
--- Bytes have one fault at most, and none where they spell a trace; what follows a fault does not mend it.
+-- Bytes have at most one fault, and none if they spell a trace. Bytes that follow do not mend a fault.
 use Rattle.std.proofs.Common.{◌≡◌, ◌≢◌, ◌⊎◌, ℕ, ◌+◌, ◌*◌, ◌<◌, ◌≤◌, List, [], ◌∷◌, ◌++◌, length, take, sym, ap}
 use Rattle.std.proofs.Common.{subst, refl, ◌∙◌, arith, inl, inr, append_assoc, append-nil, length-append}
 use Rattle.std.proofs.lemmas.List.{take_at, take-append-le}
@@ -47,7 +47,7 @@ record_once k rest f g p q = elim (record_kind k rest f p) [
   | inr a ↦ elim (record_kind k rest g q) [ inl b ↦ absurd (omega (arith, a.1, b.1)) | inr b ↦ a.0 ∙ sym b.0 ]
 ]
 
--- no record stands where one is wrong
+-- If a record is wrong, the bytes begin with no record.
 no_first : (k : ℕ) (rest behind : List ℕ) (step : Step) (f : TraceError) → HasRecord k step → rest ≡ record_bytes step ++ behind → RecordFault k rest f → ⊥
 no_first k rest behind step error.Truncated has e h =
     let size = length-field_bytes (fields_of step) in
@@ -58,7 +58,7 @@ no_first k rest behind step error.Trailing has e h = h
 no_first k rest behind step error.Link has e h = h
 no_first k rest behind step error.Memory has e h = h
 
--- no steps go past a record that is wrong
+-- The records of steps do not go past a record that is wrong.
 no_more : (k : ℕ) (ss ts : List Step) (us vs : List ℕ) (f : TraceError) → HaveRecords k ss → HaveRecords k ts →
     records_bytes ss ++ us ≡ records_bytes ts ++ vs → RecordFault k us f → length ts ≤ length ss
 no_more k [] [] us vs f p q e h = omega arith

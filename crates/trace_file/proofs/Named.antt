@@ -17,7 +17,7 @@ named_step-fields_of k (Poke (Register p r value)) h = refl
 named_step-fields_of k (Poke (Local p address value)) h = let small : nat_lt value 256 ≡ true = grind (arith, nat_tests, h) in rw small refl
 named_step-fields_of k (Poke (Shared address value)) h = let small : nat_lt value 256 ≡ true = grind (arith, nat_tests, h) in rw small refl
 
--- the fields of a record are numbers of four bytes
+-- The address and value of a record are numbers of four bytes.
 pub fields_fit : (k : ℕ) (step : Step) → HasRecord k step → ((fields_of step).address < 2 ^ 32) × ((fields_of step).value < 2 ^ 32)
 fields_fit k (Turn p) h = (omega arith, omega arith)
 fields_fit k (Up s w) h = (omega arith, omega arith)
@@ -27,6 +27,6 @@ fields_fit k (Poke (Register p r value)) h = (omega arith, grind (arith, nat_tes
 fields_fit k (Poke (Local p address value)) h = (grind (arith, nat_tests, h), grind (arith, nat_tests, h))
 fields_fit k (Poke (Shared address value)) h = (grind (arith, nat_tests, h), grind (arith, nat_tests, h))
 
--- the named step of some fields is each step whose fields they are
+-- The step that some fields name is the only one that can have them.
 pub only_named : (k : ℕ) (f : Fields) (named : Option Step) (step : Step) → named ≡ named_step f → HasRecord k step → fields_of step ≡ f → named ≡ Some step
 only_named k f named step e h same = e ∙ ap named_step (sym same) ∙ named_step-fields_of k step h

@@ -1,4 +1,4 @@
--- Twelve bytes and the fields that they hold, there and back; a header, and how many bytes it has.
+-- Twelve bytes and the fields in them, in both directions; a header, and its number of bytes.
 use Rattle.std.proofs.Common.{◌≡◌, ℕ, Bool, true, false, nat_eq, ◌&&◌, zero, suc, ◌<◌, ◌≤◌, ◌^◌}
 use Rattle.std.proofs.Common.{List, [], ◌∷◌, ◌++◌, length, refl, sym, ap, ◌∙◌, arith, eqb-true}
 use Rattle.std.specs.Prelude.{slice_index, ◌==◌, if◌then◌else◌}
@@ -37,7 +37,7 @@ below a b c d p q r s (suc (suc zero)) = r
 below a b c d p q r s (suc (suc (suc zero))) = s
 below a b c d p q r s (suc (suc (suc (suc i)))) = omega arith
 
--- its bytes are these
+-- The bytes of the number in four bytes are these four.
 word_back : (xs : List ℕ) (i j k l n : ℕ) → ((p : ℕ) → slice_index xs p < 256) → n ≡ word_in xs i j k l →
     to_le_bytes w32 n ≡ slice_index xs i ∷ slice_index xs j ∷ slice_index xs k ∷ slice_index xs l ∷ []
 word_back xs i j k l n h e =
@@ -69,7 +69,7 @@ fields_in-field_bytes f p q =
 
 -- ---- a header
 
--- its bytes, by its format
+-- If r is 1, a header has the bytes of format 1.
 short_is : (h : Header) → (h.r == 1) ≡ true → header_bytes h ≡ short_header h
 unfolding header_bytes
 short_is h e = ap (λ (b : Bool). if b then short_header h else long_header h) e
@@ -121,7 +121,7 @@ length-header_bytes h = go (h.r == 1) refl
     go true e = ap length (short_is h e) ∙ sym (short_length h e)
     go false e = ap length (long_is h e) ∙ sym (long_length h e)
 
--- the number of its format says how long it is
+-- The number of its format gives a header's number of bytes.
 pub size_is : (h : Header) (rest : List ℕ) → header_size (header_bytes h ++ rest) ≡ header_length h
 size_is h rest = go (h.r == 1) refl
   where
@@ -141,7 +141,7 @@ by_format : (byte : ℕ) (b : Bool) → (byte == 2) ≡ b → (12 ≤ (if byte =
 by_format byte true e = rw e (omega arith, omega arith)
 by_format byte false e = rw e (omega arith, omega arith)
 
--- The number of the format, whatever it is, gives a header 12 to 16 bytes.
+-- Any number of a format gives a header 12 to 16 bytes.
 pub size_within : (bytes : List ℕ) → (12 ≤ header_size bytes) × (header_size bytes ≤ 16)
 unfolding header_size
 size_within bytes = by_format (slice_index bytes 4) (slice_index bytes 4 == 2) refl
@@ -151,7 +151,7 @@ pub long_format : (bytes : List ℕ) → slice_index bytes 4 ≡ 2 → header_si
 unfolding header_size
 long_format bytes two = ap (λ (x : ℕ). if x == 2 then 16 else 12) two
 
--- bytes with the same format
+-- Bytes with the same number of the format have headers of the same size.
 pub same_size : (xs ys : List ℕ) → slice_index xs 4 ≡ slice_index ys 4 → header_size xs ≡ header_size ys
 unfolding header_size
 same_size xs ys same = ap (λ (x : ℕ). if x == 2 then 16 else 12) same
@@ -160,7 +160,7 @@ same_size xs ys same = ap (λ (x : ℕ). if x == 2 then 16 else 12) same
 pub size_stays : (bytes more : List ℕ) → 4 < length bytes → header_size (bytes ++ more) ≡ header_size bytes
 size_stays bytes more long = same_size (bytes ++ more) bytes (get_or_append_left bytes more 0 4 long)
 
--- equal fields pass the test for equality
+-- Equal fields pass the test for equality.
 pub same_fields : (f g : Fields) → f ≡ g →
     (nat_eq f.kind g.kind && (nat_eq f.a g.a && (nat_eq f.b g.b && (nat_eq f.unused g.unused && (nat_eq f.address g.address && nat_eq f.value g.value)))))
     ≡ true

@@ -29,7 +29,7 @@ adds_more k old new more piece rest bytes behind step before parts same has grow
       ∙ sym (records_bytes-more before.added step behind);
 }
 
--- bytes whose fields are no step's are no step's record
+-- Bytes that are the fields of no step are the record of no step.
 pub no_record : (k : ℕ) (bytes : List ℕ) → ((step : Step) → HasRecord k step → fields_of step ≢ fields_in bytes) → (step : Step) → HasRecord k step →
     bytes ≢ record_bytes step
 no_record k bytes none step has same =
@@ -76,7 +76,7 @@ piece_wrong k a b bytes n error.Link size whole fits wrong consumed = absurd wro
 
 -- ---- pieces in a row
 
--- how many records a piece has room for
+-- The number of records for which a piece has room.
 pub piece_count : (piece : List ℕ) (count : ℕ) → length piece ≡ 4092 → count ≤ 341 → length (take (12 * count) piece) / 12 ≡ count
 piece_count piece count size few =
     let long : length (take (12 * count) piece) ≡ 12 * count = length-take-le (12 * count) piece (omega arith) in
@@ -93,7 +93,7 @@ read_more k m n count old mid new a b c sum p q = record {
   consumed = subst (Consumes a c) (sym (records_bytes-append p.added q.added)) (Consumes-trans a b c _ _ p.consumed q.consumed);
 }
 
--- records that were read, and then the rest after more of them
+-- Records that were read, and then more records with a rest, are all of them with that rest.
 joined : (k m : ℕ) (old mid : List Step) (a b c : Option (List ℕ)) (steps : List Step) (rest : List ℕ) → (p : AddsRead k m old mid a b) →
     Consumes b c (records_bytes steps ++ rest) → Consumes a c (records_bytes (p.added ++ steps) ++ rest)
 joined k m old mid a b c steps rest p consumed =
@@ -110,7 +110,7 @@ behind k m n count old mid a b steps rest fault sum p stops = record {
   wrong = stops.wrong;
 }
 
--- records that were read, and then a part of more of them
+-- After records were read, reading part of n more reads part of all of them.
 further : (k m n count : ℕ) (old mid : List Step) (a b c : Option (List ℕ)) → m + n ≤ count → AddsRead k m old mid a b → ConsumesAtMost (12 * n) b c →
     ConsumesAtMost (12 * count) a c
 further k m n count old mid a b c sum p (bytes, few, consumed) =

@@ -21,7 +21,7 @@ length-records_bytes (step ∷ steps) =
 pub records_bytes-append : (xs ys : List Step) → records_bytes (xs ++ ys) ≡ records_bytes xs ++ records_bytes ys
 records_bytes-append xs ys = flat_map-append record_bytes xs ys
 
--- a record that stands after others
+-- The bytes of records with one more are those of the records, followed by those of the one.
 pub records_bytes-more : (xs : List Step) (step : Step) (rest : List ℕ) →
     records_bytes (xs ++ step ∷ []) ++ rest ≡ records_bytes xs ++ (record_bytes step ++ rest)
 records_bytes-more xs step rest =

@@ -27,11 +27,12 @@ header_wrong a b bytes size consumed none =
     let wrong : (h : Header) → IsHeader h → take (header_size bytes) bytes ≢ header_bytes h = λ h is same. none h is (sym all ∙ same) in
     (bytes, 0, consumed, inl (refl, (omega arith, wrong)), omega (arith, (size_within bytes).1))
 
--- the bytes end before the number of the format
+-- If the bytes end before the number of the format, the trace is refused because they are cut short.
 pub header_cut : (a b : Option (List ℕ)) (bytes : List ℕ) → length bytes < 5 → Consumes a b bytes → IsAtEnd b → IsRefused a b error.Truncated
 header_cut a b bytes short consumed end = (bytes, 0, (consumed, end), inl (refl, omega (arith, (size_within bytes).0)))
 
--- they end after it
+-- If the bytes end after the number of the format but within the header, the trace is refused because they are cut
+-- short.
 pub header_cut_later : (a b c : Option (List ℕ)) (front rest : List ℕ) (size : ℕ) → length front ≡ 5 → length rest < size - 5 → size ≡ header_size front →
     Consumes a b front → Consumes b c rest → IsAtEnd c → IsRefused a c error.Truncated
 header_cut_later a b c front rest size five short is first second end = (
@@ -41,20 +42,20 @@ header_cut_later a b c front rest size five short is first second end = (
   inl (refl, omega (arith, length-append front rest, size_stays front rest (omega arith))),
 )
 
--- the number of the format, read off the buffer
+-- The number of the format is read from the start of the buffer.
 pub format_read : (front behind : List ℕ) (size : ℕ) → length front ≡ 5 → size ≡ (if slice_index (front ++ behind) 4 == 2 then 16 else 12) →
     size ≡ header_size front
 unfolding header_size
 format_read front behind size five is = is ∙ ap (λ (x : ℕ). if x == 2 then 16 else 12) (get_or_append_left front behind 0 4 (omega arith))
 
--- the buffer after both readings
+-- After both parts are read, the buffer begins with both.
 pub header_filled : (front behind rest : List ℕ) (size : ℕ) → length front ≡ 5 → length rest ≡ size - 5 → 5 ≤ size →
     take size (put_mid 5 (size - 5) (front ++ behind) rest) ≡ front ++ rest
 header_filled front behind rest size five lengths least =
     take-put_mid 5 (size - 5) (front ++ behind) rest size (omega arith) (omega (arith, length-append front behind))
     ∙ ap (λ (x : List ℕ). x ++ rest) (take_at front behind 5 five)
 
--- the link failed after it
+-- If the link fails after the number of the format, the trace is refused for that.
 pub header_failed : (a b c : Option (List ℕ)) (front : List ℕ) (size : ℕ) → length front ≤ 16 → Consumes a b front → size ≤ 16 → ConsumesLess size b c →
     IsRefused a c error.Link
 header_failed a b c front size few first most (rest, less, second) =
@@ -76,7 +77,8 @@ module _ (h : Header) (header : IsHeader h) where
         length-records_bytes steps,
       )
 
-  -- the header, and fewer bytes after it than its records have
+  -- If a header was read, and then at most the bytes of its records, then at most the bytes of the longest trace were
+  -- read.
   body_stopped : (a b c : Option (List ℕ)) → Consumes a b (header_bytes h) → ConsumesAtMost (12 * h.count) b c → ConsumesAtMost most_trace_bytes a c
   body_stopped a b c before (bytes, few, consumed) = (
     header_bytes h ++ bytes,

@@ -1,4 +1,4 @@
--- Bytes spell one trace at most.
+-- Bytes spell at most one trace.
 use Rattle.std.proofs.Common.{◌≡◌, ℕ, List, [], ◌∷◌, ◌++◌, length, take, drop, Some, sym, ap, subst, refl, ◌∙◌, arith, append_assoc}
 use Rattle.std.proofs.lemmas.List.{take_at, drop_at}
 use Rattle.std.proofs.lemmas.List.Elements.{All-head, All-tail}
@@ -12,12 +12,12 @@ use Rattle.trace_file.proofs.Numbers.{fields_in-field_bytes, header_in-header_by
 use Rattle.trace_file.proofs.Named.{named_step-fields_of, fields_fit}
 use Rattle.trace_file.proofs.Records.{length-field_bytes}
 
--- two lists that are cut at one place
+-- If two lists are equal, so are their parts, if both are cut at the same place.
 pub same_parts : (n : ℕ) (xs us ys vs : List ℕ) → length xs ≡ n → length ys ≡ n → xs ++ us ≡ ys ++ vs → (xs ≡ ys) × (us ≡ vs)
 same_parts n xs us ys vs p q e =
     (sym (take_at xs us n p) ∙ ap (take n) e ∙ take_at ys vs n q, sym (drop_at xs us n p) ∙ ap (drop n) e ∙ drop_at ys vs n q)
 
--- steps with the same record are the same
+-- Steps with the same record are the same.
 pub same_step : (k : ℕ) (s t : Step) → HasRecord k s → HasRecord k t → record_bytes s ≡ record_bytes t → s ≡ t
 same_step k s t p q e =
     let u = fields_fit k s p in
@@ -32,7 +32,7 @@ same_header h g p q e =
     let fewer = q.count in
     sym (header_in-header_bytes h (omega arith)) ∙ ap header_in e ∙ header_in-header_bytes g (omega arith)
 
--- one step more of two lists
+-- If two lists of steps begin the same bytes, their first steps are the same, and what follows these.
 pub same_first : (k : ℕ) (s t : Step) (ss ts : List Step) (us vs : List ℕ) → HaveRecords k (s ∷ ss) → HaveRecords k (t ∷ ts) →
     records_bytes (s ∷ ss) ++ us ≡ records_bytes (t ∷ ts) ++ vs →
     (s ≡ t) × (records_bytes ss ++ us ≡ records_bytes ts ++ vs)
@@ -42,7 +42,7 @@ same_first k s t ss ts us vs p q e =
     (length-field_bytes (fields_of t)) whole in
     (same_step k s t (All-head (HasRecord k) s ss p) (All-head (HasRecord k) t ts q) parts.0, parts.1)
 
--- as many records are the same, if what begins with them is the same
+-- If two lists of equally many steps begin the same bytes, they are the same, and what follows them.
 pub same_steps : (k : ℕ) (ss ts : List Step) (us vs : List ℕ) → HaveRecords k ss → HaveRecords k ts → length ss ≡ length ts →
     records_bytes ss ++ us ≡ records_bytes ts ++ vs → (ss ≡ ts) × (us ≡ vs)
 same_steps k [] [] us vs p q n e = (refl, e)
@@ -53,7 +53,7 @@ same_steps k (s ∷ ss) (t ∷ ts) us vs p q n e =
     let others = same_steps k ss ts us vs (All-tail (HasRecord k) s ss p) (All-tail (HasRecord k) t ts q) (omega arith) first.1 in
     (ap (λ (x : Step). x ∷ ss) first.0 ∙ ap (λ (xs : List Step). t ∷ xs) others.0, others.1)
 
--- two beginnings of the same bytes that are headers, and what follows them
+-- If two headers begin the same bytes, they are the same, and what follows them.
 pub same_headers : (h g : Header) (us vs : List ℕ) → IsHeader h → IsHeader g → header_bytes h ++ us ≡ header_bytes g ++ vs → (h ≡ g) × (us ≡ vs)
 same_headers h g us vs p q e =
     let lengths = sym (size_is h us) ∙ ap header_size e ∙ size_is g vs in

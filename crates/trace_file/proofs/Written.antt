@@ -1,4 +1,4 @@
--- What is written in parts.
+-- Bytes that are written in parts.
 use Rattle.std.proofs.Common.{◌≡◌, ℕ, List, ◌++◌, take, drop, Option, Some, None, Result, Ok, Err, append_assoc, length-append, ap, sym, subst, ◌∙◌, arith}
 use Rattle.std.specs.Prelude.{OnErr, IfErr, IsErrAnd, IfNone}
 use Rattle.std.proofs.lemmas.List.{take-append-drop}
@@ -6,22 +6,22 @@ use Rattle.steps.specs.declared.step.Step.{Step}
 use Rattle.trace_file.specs.Traces.{records_bytes}
 use Rattle.trace_file.proofs.Records.{records_bytes-append}
 
--- What holds in any case holds in that of an error.
+-- A fact holds of any result, so it holds if the result is an error.
 pub on_err : {T E : Type 0} (r : Result T E) (P : Type 0) → P → OnErr r P
 on_err (Ok x) P p = tt
 on_err (Err e) P p = p
 
--- an error that is known
+-- What holds of an error holds if the result is that error.
 pub if_err : {T E : Type 0} (r : Result T E) (e : E) (P : E → Type 0) → IsErrAnd r (λ x. x ≡ e) → P e → IfErr r P
 if_err (Ok x) e P h p = tt
 if_err (Err x) e P h p = subst P (sym h) p
 
--- a value that is not there
+-- A fact holds of any option, so it holds if the option is `None`.
 pub on_none : {T : Type 0} (r : Option T) (P : Type 0) → P → IfNone r P
 on_none None P p = p
 on_none (Some x) P p = tt
 
--- a piece of the steps whose records were written, and what is left
+-- The records written, those of the next n steps and those of the steps after them are the records of all steps.
 pub written_parts : (steps written rest : List Step) (n : ℕ) → steps ≡ written ++ rest →
     (records_bytes written ++ records_bytes (take n rest)) ++ records_bytes (drop n rest) ≡ records_bytes steps
 written_parts steps written rest n whole =

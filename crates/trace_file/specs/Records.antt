@@ -1,4 +1,4 @@
--- The record of a step: 12 bytes, namely kind, A, B, zero, and then address and value, four bytes each, the lowest
+-- The record of a step has 12 bytes: kind, A, B and zero, followed by address and value, four bytes each, the lowest
 -- first.
 --
 -- Kind  Step            A    B        Address                   Value
@@ -41,7 +41,7 @@ field_bytes f = f.kind ∷ f.a ∷ f.b ∷ f.unused ∷ (to_le_bytes w32 f.addre
 abbrev pub record_bytes : Step → List ℕ
 record_bytes step = field_bytes (fields_of step)
 
--- the entries of a poke's record are in range, for this many processors
+-- whether the entries of a poke's record are in range, for this many processors
 abbrev pub has_poke_record : (processors : ℕ) → Poke → Bool
 has_poke_record n (Register p r value) = nat_lt p n && is_in_range 1 32 r && (nat_lt r 32 || value % 4 == 0)
     && nat_lt value (2 ^ 32)
@@ -49,7 +49,7 @@ has_poke_record n (Local p address value) = nat_lt p n && is_in_range 0x00020000
     && is_in_range 0 255 value
 has_poke_record n (Shared address value) = is_in_range 0x80000000 0x800FFFFF address && is_in_range 0 255 value
 
--- the entries of a step's record are in range, for a machine with k stages
+-- whether the entries of a step's record are in range, for a machine with k stages
 abbrev pub has_record : (k : ℕ) → Step → Bool
 has_record k (step.Turn p) = nat_lt p (2 ^ k)
 has_record k (step.Up s w) = nat_lt s k && nat_lt w (2 ^ k)
@@ -62,7 +62,7 @@ HasRecord k step = has_record k step ≡ true
 
 -- ---- how a record is read
 
--- The step that kind, A, B, address and value name. Whether the record is that step's is another matter.
+-- the step that kind, A, B, address and value name; the record need not be that step's
 unfoldable pub named_step : Fields → Option Step
 named_step f =
     if f.kind == 1 then Some (step.Turn f.a) else

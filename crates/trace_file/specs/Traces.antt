@@ -1,4 +1,4 @@
--- Traces, and their one spelling: a header of 12 or 16 bytes, and then the record of each step.
+-- Traces, and their one spelling: a header of 12 or 16 bytes, followed by the record of each step.
 use Rattle.std.specs.Prelude.{ℕ, ◌≤◌, ◌<◌, ◌==◌, All, List, ◌∷◌, ◌++◌, length, if◌then◌else◌}
 use Rattle.std.specs.Int.{w32, to_le_bytes}
 use Rattle.std.specs.List.{flat_map}
@@ -15,29 +15,29 @@ pub record TraceContents : Type 0 where
   pub r : ℕ
   pub steps : List Step
 
--- the trace of a machine of this size
+-- the trace of these steps on a machine of this size
 abbrev pub trace_of : Config → List Step → TraceContents
 trace_of config steps = record { k = config.k; c = config.c; b = config.b; r = config.r; steps = steps }
 
--- the size of a machine with a trace's network and this many shared words
+-- the configuration of a machine with a trace's network and this many shared words
 abbrev pub config_of : TraceContents → (shared_words : ℕ) → Config
 config_of t shared_words = record { k = t.k; c = t.c; b = t.b; r = t.r; shared_words = shared_words }
 
 abbrev pub header_of : TraceContents → Header
 header_of t = record { k = t.k; c = t.c; b = t.b; r = t.r; count = length t.steps }
 
--- Where r is 1, format 1: "ULTR"; 1; k, c and b; how many records there are, four bytes, the lowest first.
+-- format 1, if r is 1: "ULTR"; 1; k, c and b; the number of records, in four bytes, the lowest first
 abbrev pub short_header : Header → List ℕ
 short_header h = 0x55 ∷ 0x4C ∷ 0x54 ∷ 0x52 ∷ 1 ∷ h.k ∷ h.c ∷ h.b ∷ to_le_bytes w32 h.count
 
--- Else format 2: "ULTR"; 2; k, c, b and r; three zeros; how many records there are.
+-- format 2, otherwise: "ULTR"; 2; k, c, b and r; three zeros; the number of records
 abbrev pub long_header : Header → List ℕ
 long_header h = 0x55 ∷ 0x4C ∷ 0x54 ∷ 0x52 ∷ 2 ∷ h.k ∷ h.c ∷ h.b ∷ h.r ∷ 0 ∷ 0 ∷ 0 ∷ to_le_bytes w32 h.count
 
 unfoldable pub header_bytes : Header → List ℕ
 header_bytes h = if h.r == 1 then short_header h else long_header h
 
--- how many bytes that are
+-- the number of bytes of a header
 unfoldable pub header_length : Header → ℕ
 header_length h = if h.r == 1 then 12 else 16
 
@@ -49,7 +49,7 @@ records_bytes steps = flat_map record_bytes steps
 abbrev pub trace_bytes : TraceContents → List ℕ
 trace_bytes t = header_bytes (header_of t) ++ records_bytes t.steps
 
--- the numbers of the header are in range
+-- The numbers of the header are in range.
 pub record IsHeader (h : Header) : Type 0 where
   pub stages : h.k ≤ 6
   pub some_capacity : 2 ≤ h.c
@@ -60,11 +60,11 @@ pub record IsHeader (h : Header) : Type 0 where
   pub answers : h.r < h.c
   pub count : h.count ≤ 4194304
 
--- Each step is one that a machine of this size may be asked for.
+-- Each step has a record on a machine with k stages.
 abbrev pub HaveRecords : (k : ℕ) → List Step → Type 0
 HaveRecords k steps = All (HasRecord k) steps
 
--- a trace that has a spelling
+-- The trace has a spelling.
 pub record IsTrace (t : TraceContents) : Type 0 where
   pub header : IsHeader (header_of t)
   pub records : HaveRecords t.k t.steps

@@ -7,17 +7,17 @@ use link::Failed;
 use std::alloc::AllocFailed;
 use thiserror::Error;
 
-/// Why a trace was not read or not written. The variants stand in the order of their numbers.
+/// Why a trace was not read or not written. The variants are in the order of their numbers.
 #[derive(Clone, Copy, Debug, PartialEq, Eq, Drop, Error)]
 pub enum TraceError {
-    /// The bytes end within the header or within a record, whatever these have before the end.
+    /// The bytes end within the header or within a record, whatever comes before the end.
     #[error("X1")]
     Truncated,
-    /// The header is no trace's: its first five bytes, a size out of its range, an unused byte that is
-    /// not 0, or a number of records over 4,194,304.
+    /// The bytes are no header of a trace: the first five bytes, a size out of its range, an unused byte that is not 0,
+    /// or a number of records over 4,194,304.
     #[error("X2")]
     Header,
-    /// A record is no step's: its kind, a number out of its range, or an unused byte that is not 0.
+    /// The bytes are no record of a step: the kind, a number out of its range, or an unused byte that is not 0.
     #[error("X3")]
     Record,
     /// There are bytes after the last record.

@@ -10,7 +10,7 @@ use byteorder::{ByteOrder, LittleEndian};
 use flat_machine::{LOCAL_START, MAX_SHARED_WORDS, PC, Poke, REGION_BYTES, SHARED_START};
 use steps::Step;
 
-/// How many bytes a record has.
+/// The number of bytes of a record.
 pub const RECORD_BYTES: usize = 12;
 
 const TURN: u8 = 1;
@@ -30,7 +30,7 @@ const POKE_SHARED: u8 = 7;
 /// The last address of local memory.
 const LAST_LOCAL: u32 = LOCAL_START + (REGION_BYTES - 1);
 
-/// The last address of shared memory, where that is largest.
+/// The last address of shared memory at its largest.
 const LAST_SHARED: u32 = SHARED_START + (4 * MAX_SHARED_WORDS - 1);
 
 /// The fields of a record, in the order of its bytes.
@@ -124,7 +124,7 @@ impl Fields {
         }
     }
 
-    /// The step whose record this is, for a machine with `k` stages, where there is one.
+    /// The step whose record this is, for a machine with `k` stages. `None` if there is no such step.
     pub fn step(&self, k: u8) -> Option<Step>
         requires { k ≤ 6 }
         ensures some { IfSome result (λ step. HasRecord k step × (fields_of step ≡ self.now)) }
@@ -138,7 +138,7 @@ impl Fields {
         }
     }
 
-    /// The step that kind, A, B, address and value name, for any other fields are.
+    /// The step that kind, A, B, address and value name, whatever the other fields are.
     #[tactic(auto, unfolding(crate::specs::Records::named_step))]
     fn named_step(&self) -> Option<Step>
         ensures { result ≡ named_step self.now }

@@ -12,16 +12,16 @@ use flat_machine::{
 };
 use steps::{MAX_STEPS, Step};
 
-/// How many bytes the longest header has.
+/// The number of bytes of the longest header.
 pub const MAX_HEADER_BYTES: usize = 16;
 
 /// The bytes of a header.
 pub type HeaderBytes = ArrayVec<u8, MAX_HEADER_BYTES>;
 
-/// The first bytes of a trace. The number of its format follows.
+/// The first bytes of a trace. The number of its format comes next.
 const MAGIC: [u8; 4] = [b'U', b'L', b'T', b'R'];
 
-/// The sizes of the network, and how many records follow.
+/// The sizes of the network, and the number of records.
 #[derive(Clone, Copy, Debug, PartialEq, Eq, Drop)]
 pub struct Header {
     pub k: u8,
@@ -31,7 +31,7 @@ pub struct Header {
     pub count: u32,
 }
 
-/// How many bytes a header has whose format has this number.
+/// The number of bytes of a header in the format with this number.
 pub fn header_size(format: u8) -> usize
     ensures exact { result ≡ (if format == 2 then 16 else 12) }
     ensures least { 12 ≤ result }
@@ -55,7 +55,7 @@ impl Header {
         }
     }
 
-    /// The bytes of the header: those of format 1 where an entry of a queue is combined once, else those of format 2.
+    /// The bytes of the header: in format 1 if an entry of a queue is combined at most once, otherwise in format 2.
     #[tactic(auto, unfolding(crate::specs::Traces::header_bytes))]
     pub fn bytes(&self) -> HeaderBytes
         ensures { result.items ≡ header_bytes self.now }
@@ -67,7 +67,7 @@ impl Header {
         }
     }
 
-    /// The bytes of format 1.
+    /// The bytes of the header in format 1.
     fn short_bytes(&self) -> HeaderBytes
         ensures { result.items ≡ short_header self.now }
     {
@@ -82,7 +82,7 @@ impl Header {
         bytes
     }
 
-    /// The bytes of format 2.
+    /// The bytes of the header in format 2.
     fn long_bytes(&self) -> HeaderBytes
         ensures { result.items ≡ long_header self.now }
     {
@@ -97,7 +97,7 @@ impl Header {
         bytes
     }
 
-    /// The header in range with these bytes, where there is one.
+    /// The header in range with these bytes. `None` if there is no such header.
     pub fn of(bytes: &[u8]) -> Option<Self>
         requires { length bytes.now ≡ header_size bytes.now }
         ensures some { IfSome result (λ header. IsHeader header × (header_bytes header ≡ bytes.now)) }
@@ -111,7 +111,7 @@ impl Header {
         }
     }
 
-    /// The numbers that stand where a header has its own.
+    /// The numbers in these bytes at the places of a header's.
     #[tactic(auto, unfolding(crate::specs::Reading::header_in))]
     fn in_bytes(bytes: &[u8]) -> Self
         requires short { 12 ≤ length bytes.now }

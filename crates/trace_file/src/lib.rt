@@ -1,11 +1,10 @@
 //! Traces: the steps that a machine has taken, as a file.
 //!
-//! A trace has one spelling: a header with the sizes of the network and the number of steps, and
-//! then a record of 12 bytes for each step. [`write_trace`] writes it, [`read_trace`] reads it and
-//! refuses all else, with the first fault in the order of the bytes. Which bytes spell a trace, and
-//! which fault stands where, is defined in `specs/`, by the bytes that are written: there is no
-//! second definition for reading. The laws say that bytes spell one trace at most, that what spells
-//! none has a fault, and that it has one fault only.
+//! A trace has one spelling: a header with the sizes of the network and the number of steps, followed by a record of 12
+//! bytes for each step. [`write_trace`] writes it. [`read_trace`] reads it and refuses everything else, with the first
+//! fault in the order of the bytes. `specs/` defines which bytes spell a trace, and which fault is where, by the bytes
+//! that are written: there is no second definition for reading. The laws say that bytes spell at most one trace, that
+//! bytes which spell none have a fault, and that they have only one.
 //!
 //! The format is this project's own.
 #![tactic(auto)]

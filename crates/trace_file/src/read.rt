@@ -17,22 +17,21 @@ use link::{LinkRead, fill};
 use std::alloc::Global;
 use steps::Step;
 
-/// How many bytes end with the number of the format.
+/// The number of bytes up to and including the number of the format.
 const FORMAT_BYTES: usize = 5;
 
-/// Reads a trace: all that the reader has.
+/// Reads a trace, up to the end of the reader's bytes.
 ///
-/// Room is made for the records that were read, and not for the number that the header says. After
-/// the last record one byte is asked for, which shows that the trace ends.
+/// Takes memory for the records that were read, not for the number in the header. After the last record, asks for one
+/// more byte to see that the trace ends.
 ///
 /// # Errors
 ///
 /// The first fault in the order of the bytes, of [`TraceError::Truncated`], [`TraceError::Header`],
-/// [`TraceError::Record`] and [`TraceError::Trailing`]: all before it is as it must be. Where a
-/// record is wrong, at most 4,092 bytes were taken from its place on.
-/// [`TraceError::Link`] exactly if the link failed in this call, and [`TraceError::Memory`] where
-/// there was no memory for the steps. With these the reader has given a beginning of its bytes, of no
-/// more than a trace has.
+/// [`TraceError::Record`] and [`TraceError::Trailing`]: all bytes before it are right. If a record is wrong, at most
+/// 4,092 bytes were taken from its place on. [`TraceError::Link`] exactly if the link failed in this call, and
+/// [`TraceError::Memory`] if there was no memory for the steps. With these two, the reader has given some of its first
+/// bytes, no more than a trace has.
 pub fn read_trace<R: LinkRead>(alloc: Global, reader: &mut R) -> Result<Trace, TraceError>
     requires { R.has_failed reader.old ≡ false }
     ensures trace { IfOk result IsTrace }
@@ -62,7 +61,7 @@ fn read_header<R: LinkRead>(reader: &mut R) -> Result<Header, TraceError>
     Ok(header)
 }
 
-/// Reads as many bytes as a header of the format has whose number it reads: how many these are.
+/// Reads a header of the size that the number of its format gives, and returns its number of bytes.
 fn fill_header<R: LinkRead>(
     reader: &mut R,
     bytes: &mut [u8; MAX_HEADER_BYTES],
@@ -83,7 +82,7 @@ fn fill_header<R: LinkRead>(
     Ok(size)
 }
 
-/// Reads the records that the header says of.
+/// Reads as many records as the header says.
 fn read_records<R: LinkRead>(
     alloc: Global,
     reader: &mut R,
@@ -134,7 +133,7 @@ fn read_piece<R: LinkRead>(
     Ok(())
 }
 
-/// Adds the steps whose records stand in a piece. A record that is cut short at its end is left out.
+/// Appends the steps whose records are in a piece. A record that is cut short at its end is left out.
 fn add_steps(piece: &[u8], k: u8, steps: &mut Vec<Step>) -> Result<(), TraceError>
     requires { k ≤ 6 }
     ensures ok { OnOk result ((rest : List ℕ) × (length rest < 12)
@@ -153,7 +152,7 @@ fn add_steps(piece: &[u8], k: u8, steps: &mut Vec<Step>) -> Result<(), TraceErro
     Ok(())
 }
 
-/// Reads that there is nothing more.
+/// Reads the end: there is no byte more.
 fn read_end<R: LinkRead>(reader: &mut R) -> Result<(), TraceError>
     requires { R.has_failed reader.old ≡ false }
     ensures failed { R.has_failed reader.new ≡ is_link_fault result }

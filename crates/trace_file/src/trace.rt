@@ -41,8 +41,8 @@ impl Trace {
         }
     }
 
-    /// The size of a machine with the trace's network, and with this many shared words, of which a
-    /// trace says nothing.
+    /// The configuration of a machine with the trace's network and this many shared words. A trace does not have their
+    /// number.
     pub fn config(&self, shared_words: u32) -> Config
         ensures { result ≡ config_of self.now shared_words }
     {

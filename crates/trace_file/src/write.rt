@@ -15,24 +15,24 @@ use flat_machine::Config;
 use link::{Failed, LinkWrite, parts_make_a_beginning, write_whole};
 use steps::{MAX_STEPS, Step};
 
-/// How many records go to the writer at once.
+/// The number of records written at once.
 pub const RECORDS_IN_PIECE: usize = 341;
 
-/// How many bytes go to the writer, or are asked of the reader, at once.
+/// The number of bytes written or read at once.
 pub const PIECE_BYTES: usize = 4092;
 
-/// What goes to the writer at once.
+/// The bytes written at once.
 type Piece = ArrayVec<u8, PIECE_BYTES>;
 
 const _: () = prove!(PIECE_BYTES == RECORD_BYTES * RECORDS_IN_PIECE);
 
-/// Writes the trace of these steps, each of which has a record, on a machine of this size, which is
-/// in range. There are at most 4,194,304 steps.
+/// Writes the trace of these steps on a machine of this size. The size must be in range, each step must have a record,
+/// and there may be at most 4,194,304 steps.
 ///
 /// # Errors
 ///
-/// [`TraceError::Link`] exactly if the link failed in this call. A beginning of the trace's
-/// bytes, and not all of them, was written then.
+/// [`TraceError::Link`] exactly if the link failed in this call. Then some of the trace's first bytes were written, but
+/// not all.
 pub fn write_trace<W: LinkWrite>(
     writer: &mut W,
     config: &Config,
@@ -47,15 +47,15 @@ pub fn write_trace<W: LinkWrite>(
     ensures err { OnErr result (AppendsPart (W.contents writer.old) (W.contents writer.new)
         (trace_bytes (trace_of config.now steps.now))) }
 {
-    // A law of what is written in parts, for the proof alone.
+    // A law about what is written in parts, for the proof alone.
     parts_make_a_beginning();
     write_whole(writer, Header::new(config, steps).bytes().as_slice())?;
     write_records(writer, steps)?;
     Ok(())
 }
 
-/// Whether the steps have a trace on a machine of this size: its `k`, `c`, `b` and `r` are in range, each
-/// step has a record, and there are at most 4,194,304.
+/// Whether the steps have a trace on a machine of this size: `k`, `c`, `b` and `r` are in range, each step has a
+/// record, and there are at most 4,194,304 steps.
 pub fn is_trace(config: &Config, steps: &[Step]) -> bool
     ensures { IsTrue result ↔ IsTrace (trace_of config.now steps.now) }
 {
@@ -73,7 +73,7 @@ pub fn is_trace(config: &Config, steps: &[Step]) -> bool
     true
 }
 
-/// Writes the records of the steps, a piece at once.
+/// Writes the records of the steps, one piece at a time.
 fn write_records<W: LinkWrite>(writer: &mut W, steps: &[Step]) -> Result<(), Failed>
     requires { W.has_failed writer.old ≡ false }
     ensures failed { W.has_failed writer.new ≡ is_err result }
@@ -91,7 +91,7 @@ fn write_records<W: LinkWrite>(writer: &mut W, steps: &[Step]) -> Result<(), Fai
     Ok(())
 }
 
-/// The records of at most a piece of steps.
+/// The records of at most as many steps as a piece holds.
 fn records_of(steps: &[Step]) -> Piece
     requires { length steps.now ≤ 341 }
     ensures { result.items ≡ records_bytes steps.now }
@@ -103,7 +103,7 @@ fn records_of(steps: &[Step]) -> Piece
     records
 }
 
-/// Adds a record.
+/// Appends a record.
 fn put(records: &mut Piece, bytes: &[u8; RECORD_BYTES])
     requires { array_vec_len records.old + 12 ≤ 4092 }
     ensures items { records.new.items ≡ records.old.items ++ bytes.now }

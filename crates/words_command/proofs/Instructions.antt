@@ -1,4 +1,4 @@
--- Runs in turns of processor 0, one instruction more.
+-- Runs in turns of processor 0, with one more instruction.
 use Rattle.std.proofs.Common.{◌≡◌, ℕ, zero, suc, ◌+◌, ◌^◌, ◌<◌, Bool, true, false, cond, List, [], ◌∷◌, ◌++◌, length}
 use Rattle.std.proofs.Common.{Option, Some, None, refl, sym, ap, subst, ◌∙◌, arith, append_assoc, get_or-set_same}
 use Rattle.std.specs.Prelude.{count_by, slice_get, slice_index_or, if◌then◌else◌}
@@ -24,7 +24,7 @@ use Rattle.machine_steps.proofs.Lemmas.{count_is, state_at}
 use Rattle.words_command.specs.Command.{HasProcessor}
 use Rattle.words_command.specs.Running.{HasRunAlone, is_retirement, is_retired, retirements, turns_of_zero, processor_of}
 
--- ---- one turn more
+-- ---- one more turn
 
 count_append : (p : ℕ × Event → Bool) (xs ys : List (ℕ × Event)) → count_by p (xs ++ ys) ≡ count_by p xs + count_by p ys
 count_append p xs ys = sum_by-append (λ x. cond (p x) 1 0) xs ys
@@ -44,7 +44,7 @@ events_more m (suc n) =
     ∙ sym (append_assoc first (flat_events after (turns_of_zero n))
     (with_processor_number (entry.Processor 0) (flat_event (flat_run after (turns_of_zero n)) (entry.Processor 0))))
 
--- 1 for a retirement
+-- 1 for a retirement, and otherwise 0
 abbrev pub worth : Option Event → ℕ
 worth None = 0
 worth (Some event) = cond (is_retirement event) 1 0
@@ -92,14 +92,14 @@ worth_else (outcome.Answered to) e = refl
 worth_else outcome.Poked e = refl
 worth_else outcome.Stalled e = refl
 
--- A run of processor 0 alone, after one turn more that retires an instruction, has retired one more.
+-- If a run of processor 0 alone takes one more turn that retires an instruction, it has retired one more.
 pub run_retired : (a : FlatState) (old new : MachineLists) (o : Outcome) (retired : ℕ) → HasRunAlone a (flat_state old) retired → IsOne old 0 o new →
     is_retired o ≡ true → HasRunAlone a (flat_state new) (retired + 1)
 run_retired a old new o retired run one e =
     subst (λ n. HasRunAlone a (flat_state new) (retired + n)) (worth_retired o e)
     (run_more a (flat_state old) (flat_state new) retired (event_of o) run one.flat one.event)
 
--- A run of processor 0 alone, after one turn more that retires no instruction, has retired as many as before.
+-- If a run of processor 0 alone takes one more turn that retires no instruction, it has retired as many as before.
 pub run_stopped : (a : FlatState) (old new : MachineLists) (o : Outcome) (retired : ℕ) → HasRunAlone a (flat_state old) retired → IsOne old 0 o new →
     is_retired o ≡ false → HasRunAlone a (flat_state new) retired
 run_stopped a old new o retired run one e =
@@ -120,7 +120,7 @@ taken_stops p shared (Retires after retired) why e = absurd (cc)
 taken_stops p shared (Reaches word change after) why e = absurd (cc)
 taken_stops p shared (Stops c) why e = stopped_is c
 
--- a stop is that of a processor, which does not run then
+-- After a turn that shows a stop, the processor does not run.
 turn_stops : (F : FlatState) (o : Option Processor) → slice_get F.processors 0 ≡ o → (why : Cause) → turn_event F 0 o ≡ Some (Stopped why) →
     is_running (first (turned F 0 o)).status ≡ false
 turn_stops F None at why e = absurd (cc)
@@ -135,7 +135,7 @@ turn_stops F (Some p) at why e = by (is_running p.status) refl e
         ap (λ (s : Processor). is_running s.status) (get_or-set_same F.processors 0 (step_of F 0 p).0 no_processor there)
         ∙ taken_stops p F.shared (turn_of (record { number = 0; processors = length F.processors; shared_words = length F.shared }) F.code p) why same
 
--- one that runs takes an instruction
+-- A processor that runs shows an event in its turn.
 turn_shows : (F : FlatState) (o : Option Processor) → slice_get F.processors 0 ≡ o → is_running (first F).status ≡ true → turn_event F 0 o ≡ None → ⊥
 turn_shows F None at runs e = none F.processors at runs
   where
@@ -160,7 +160,7 @@ module _ (old new : MachineLists) (is : IsMachine old) (is' : IsMachine new) (ru
   shows : flat_event (flat_state old) (entry.Processor 0) ≡ None → ⊥
   shows = step_shows (flat_state old) (ap (λ (s : Processor). is_running s.status) (state_at old is 0) ∙ runs)
 
-  -- what did not retire has stopped
+  -- After an instruction that did not retire, the processor does not run.
   pub one_stops : (o : Outcome) → IsOne old 0 o new → is_retired o ≡ false → is_running (processor_of new).status ≡ false
   one_stops (outcome.Retired r) one e = absurd (true≢false e)
   one_stops (outcome.Stopped why) one e =

@@ -51,17 +51,17 @@ no_lf text e = by_place (nat_lt place (length text)) refl e
 pub line_last : (text : List ℕ) → position is_lf text ≡ None → 0 < length text → lines_of text ≡ text ∷ []
 line_last text e some = lines_whole text (no_lf text e) some
 
--- what slicing leaves after a line
+-- The rest of a text after a line, as slicing gives it.
 pub rest_of : (text : List ℕ) (i : ℕ) → drop (suc i) text ≡ take (length text - (i + 1)) (drop (i + 1) text)
 rest_of text i = grind (arith, common_steps)
 
--- After a whole text nothing is left of it.
+-- After the whole text, nothing is left.
 pub nothing_left : (text : List ℕ) → take (length text - length text) (drop (length text) text) ≡ []
 nothing_left text = grind (arith, common_steps)
 
 -- ---- words
 
--- words that were read, before what the rest gives
+-- words that were read, before the words of the rest
 abbrev pub prepended : List ℕ → Result (List ℕ) ℕ → Result (List ℕ) ℕ
 prepended front (Ok words) = Ok (front ++ words)
 prepended front (Err bad) = Err bad

@@ -1,4 +1,4 @@
--- Words as code: their layout fits, the file of it is short, and a machine that opens on it is that of the words.
+-- Words as code: their layout fits, their file is short, and the machine that opens on it is that of the words.
 use Rattle.std.proofs.Common.{◌≡◌, ℕ, zero, suc, ◌+◌, ◌*◌, ◌^◌, ◌<◌, ◌≤◌, List, [], ◌∷◌, ◌++◌}
 use Rattle.std.proofs.Common.{length, take, get_or, map, refl, sym, ap, ap₂, ◌∙◌, Option, Some}
 use Rattle.std.proofs.Common.{None, subst, arith, append_assoc, append-nil, length-append}
@@ -29,7 +29,7 @@ bytes_append [] ys = refl
 bytes_append (x ∷ xs) ys =
     ap (λ rest. to_le_bytes w32 x ++ rest) (bytes_append xs ys) ∙ sym (append_assoc (to_le_bytes w32 x) (bytes_of_words xs) (bytes_of_words ys))
 
--- The bytes of the first i + 1 words are those of the first i, and then the next word's.
+-- The bytes of the first i + 1 words are those of the first i, followed by those of the next word.
 pub one_word_more : (words : List ℕ) (i : ℕ) → i < length words →
     bytes_of_words (take (i + 1) words) ≡ bytes_of_words (take i words) ++ to_le_bytes w32 (get_or words i 0)
 one_word_more words i inside =
@@ -142,12 +142,12 @@ made_for layout image read = (
 
 -- ---- the file that is read back
 
--- all that a known reader had
+-- A reader whose bytes are known gave all of them.
 whole : (file bytes : List ℕ) (new : Option (List ℕ)) → ConsumesAll (Some file) new bytes → bytes ≡ file
 whole file bytes None all = absurd all.0
 whole file bytes (Some rest) all = sym (all.0 ∙ ap (λ r. bytes ++ r) all.1 ∙ append-nil bytes)
 
--- An image is read back from the spelling of a layout as it was.
+-- The image that is read back from the spelling of a layout has that layout.
 pub read_back : (layout : Layout) (new : Option (List ℕ)) (image : ImageContents) →
     ((one other : Layout) → IsMeant 1024 (spelling layout) one → IsMeant 1024 (spelling layout) other → one ≡ other) →
     IsMeant 1024 (spelling layout) layout → IsGiven 1024 (Some (spelling layout)) new image → image ≡ record { layout = layout; shared_words = 1024 }
@@ -157,7 +157,7 @@ read_back layout new image one_layout spelled given =
     let same = one_layout image.layout layout meant spelled in
     λ i. record { layout = same i; shared_words = given.4 i }
 
--- what is not refused is not refused for a cause
+-- A file that is not refused is not refused for any cause.
 unlike : (file : List ℕ) (new : Option (List ℕ)) (error : ImageError) → refusal_of 1024 file ≡ None →
     (bytes : List ℕ) × ConsumesAll (Some file) new bytes × (refusal_of 1024 bytes ≡ Some error) → ⊥
 unlike file new error none refused =
@@ -166,7 +166,7 @@ unlike file new error none refused =
     let clash : None ≡ Some error = sym none ∙ there in
     cc
 
--- the file that is accepted is refused for no other cause than out of memory
+-- A file that is accepted can only be refused because there is no memory.
 pub none_refused : (file : List ℕ) (new : Option (List ℕ)) (error : ImageError) → length file ≤ 1048576 → refusal_of 1024 file ≡ None →
     IsRefused 1024 (Some file) new error →
     IsWantOfMemory error

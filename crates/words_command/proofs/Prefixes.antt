@@ -1,5 +1,5 @@
--- The bytes that are read of a file say what all of it spells: a line that spells a word has eight bytes and its LF, and
--- the line after the 16,384th is refused whatever it is.
+-- The bytes that are read of a file tell what all of it spells: a line that spells a word has eight bytes and its LF,
+-- and the line after the 16,384th is refused whatever it is.
 use Rattle.std.proofs.Common.{◌≡◌, ℕ, zero, suc, ◌+◌, ◌-◌, ◌*◌, ◌<◌, ◌≤◌, Bool, true, false, eqb, List, [], ◌∷◌}
 use Rattle.std.proofs.Common.{length, take, drop, get_or, get_or-take, take_all, take-take, length-take-le, Option}
 use Rattle.std.proofs.Common.{Some, None, Err, ◌⊎◌, inl, inr, refl, sym, ap, ap₂, ◌∙◌, subst, arith}
@@ -25,7 +25,7 @@ long_is_bad line long = by_parity (eqb (length line % 2) 1) refl
 bad_first : (n : ℕ) (line : List ℕ) (lines : List (List ℕ)) → (n ≡ 16384 → ⊥) → word_of_line line ≡ None → words_of_lines n (line ∷ lines) ≡ Err (n + 1)
 bad_first n line lines room bad = let test : eqb n 16384 ≡ false = ne_eqb n 16384 room in rw (test, bad) refl
 
--- a text whose first line has more than eight bytes
+-- A text whose first line has more than eight bytes is bad in that line.
 long_text_is_bad : (n : ℕ) (text : List ℕ) → (n ≡ 16384 → ⊥) → 8 < length text → ((k : ℕ) → k < 9 → is_lf (get_or text k 0) ≡ false) →
     words_of_lines n (lines_of text) ≡ Err (n + 1)
 long_text_is_bad n text room long none = by_end (position is_lf text) refl
@@ -43,9 +43,9 @@ long_text_is_bad n text room long none = by_end (position is_lf text) refl
         let nine : 8 < length (take i text) = subst (λ n. 8 < n) (sym (length-take-le i text (omega arith))) (omega arith) in
         ap (words_of_lines n) (line_found text i e) ∙ bad_first n (take i text) (lines_of (drop (suc i) text)) room (long_is_bad (take i text) nine)
 
--- ---- lines that are
+-- ---- lines that are read to their end
 
--- after 16,384 lines any byte is too many
+-- After 16,384 lines, any byte is too many.
 past_all : (n : ℕ) (text : List ℕ) → n ≡ 16384 → 0 < length text → words_of_lines n (lines_of text) ≡ Err 16385
 past_all n [] full some = absurd (omega arith)
 past_all n (byte ∷ text) full some = by_byte (is_lf byte) refl
@@ -65,7 +65,7 @@ same_front : (n : ℕ) (line : List ℕ) (lines lines' : List (List ℕ)) → wo
     words_of_lines n (line ∷ lines) ≡ words_of_lines n (line ∷ lines')
 same_front n line lines lines' e = ap (λ rest. if n == 16384 then Err 16385 else in_front (word_of_line line) (n + 1) rest) e
 
--- what the lines after the first are reported by, where `m` more may follow
+-- With m more lines to come, the first `size` bytes tell what all lines spell.
 abbrev pub Tells : ℕ → Type 0
 Tells m = (n size : ℕ) (text : List ℕ) → n + m ≡ 16384 → 9 * m < size → words_of_lines n (lines_of (take size text)) ≡ words_of_lines n (lines_of text)
 
@@ -120,11 +120,11 @@ tells_one_more m further n size text sum enough = by_length (cases_lt size (leng
     by_length (inr all) = ap (λ t. words_of_lines n (lines_of t)) (take_all size text all)
     by_length (inl more) = by_end more (position is_lf text) refl
 
--- The beginning of a text that has nine bytes for each line that may follow, and one more, says what the text spells.
+-- The first bytes of a text, nine for each line that may come and one more, tell what the text spells.
 beginning_tells : (m : ℕ) → Tells m
 beginning_tells zero = tells_nothing_more
 beginning_tells (suc m) = tells_one_more m (beginning_tells m)
 
--- So do the 147,457 bytes that are read of a file.
+-- The first 147,457 bytes of a file tell what the file spells.
 pub bytes_read_tell : (text : List ℕ) → words_of_text (take 147457 text) ≡ words_of_text text
 bytes_read_tell text = beginning_tells 16384 0 147457 text refl (omega arith)

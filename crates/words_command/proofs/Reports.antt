@@ -1,4 +1,4 @@
--- What the command reads.
+-- What the bytes that the command reads spell.
 use Rattle.std.proofs.Common.{◌≡◌, ℕ, List, take, Option, Some, None, IfSome, ap, ◌∙◌}
 use Rattle.std.specs.Option.{option_map}
 use Rattle.words_command.specs.HexText.{words_of_text}

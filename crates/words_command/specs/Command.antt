@@ -11,13 +11,13 @@ use Rattle.words_command.specs.Loading.{flat_of_words}
 use Rattle.words_command.specs.Report.{report_of}
 use Rattle.words_command.specs.Running.{HasRunAlone}
 
--- The text spells what the file does, where the file's bytes are known. (It is their beginning: not all bytes need be
--- read.)
+-- If the file's bytes are known, the text spells what the file does. (The text is their beginning: not all bytes need
+-- be read.)
 abbrev pub IsRead : Option (List ℕ) → List ℕ → Type 0
 IsRead None text = Unit {0}
 IsRead (Some bytes) text = words_of_text text ≡ words_of_text bytes
 
--- a flat machine of one processor, which stands like this
+-- The flat machine has one processor, which is this one.
 abbrev pub HasProcessor : FlatState → Processor → Type 0
 HasProcessor m p = m.processors ≡ p ∷ []
 
@@ -26,8 +26,8 @@ exit_status_of Running = 0
 exit_status_of (Halted byte) = 0
 exit_status_of (Faulted fault) = 1
 
--- The program that a text spells has run on the flat machine until its processor stopped; this is the report of that
--- processor, and this the exit status.
+-- The program that a text spells has run on the flat machine until its processor stopped. This is the report of that
+-- processor, and this is the exit status.
 pub record IsProcessorReport (text : List ℕ) (status : ℕ) (report : List ℕ) : Type 0 where
   pub words : List ℕ
   pub spelled : words_of_text text ≡ Ok words
@@ -41,13 +41,13 @@ pub record IsProcessorReport (text : List ℕ) (status : ℕ) (report : List ℕ
   pub exit : status ≡ exit_status_of processor.status
   pub is : report ≡ report_of processor
 
--- This is the report of the program that a file spells, and this the exit status.
+-- This is the report of the program that a file spells, and this is the exit status.
 pub record IsWordsReport (known : Option (List ℕ)) (status : ℕ) (report : List ℕ) : Type 0 where
   pub text : List ℕ
   pub read : IsRead known text
   pub is : IsProcessorReport text status report
 
--- the report of a program, with whatever exit status
+-- This is the report of the program that a text spells, with some exit status.
 abbrev pub IsSomeReport : (text report : List ℕ) → Type 0
 IsSomeReport text report = (status : ℕ) × IsProcessorReport text status report
 
@@ -58,7 +58,8 @@ pub record IsOverBudget (text : List ℕ) : Type 0 where
   pub last : FlatState
   pub run : HasRunAlone (flat_of_words words) last 1000000
 
--- why a text's program is not reported, or not all of it: what each fault says of the text, and of what is printed
+-- A text's program is not reported, or not all of it, because of this fault. Each fault says something of the text, and
+-- of what is printed.
 abbrev pub ReportOfFails : Fault → List ℕ → (old new : Option (List ℕ)) → Type 0
 ReportOfFails (fault.Line number) text old new = words_of_text text ≡ Err number
 ReportOfFails fault.Budget text old new = IsOverBudget text
@@ -66,8 +67,8 @@ ReportOfFails fault.Link text old new = PrintsPrefix (IsSomeReport text) old new
 ReportOfFails fault.Memory text old new = Unit {0}
 ReportOfFails other text old new = ⊥
 
--- Why a file's program is not reported, or not all of it. A failed read says nothing of the bytes, and nothing is
--- printed then. out of memory says nothing.
+-- A file's program is not reported, or not all of it, because of this fault. A failed read says nothing of the bytes,
+-- and then nothing is printed. Out of memory says nothing at all.
 abbrev pub WordsReportFails : Option (List ℕ) → (old new : Option (List ℕ)) → Fault → Type 0
 WordsReportFails bytes old new (fault.Line number) = (text : List ℕ) × IsRead bytes text
     × ReportOfFails (fault.Line number) text old new

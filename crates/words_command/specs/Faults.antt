@@ -1,4 +1,4 @@
--- The faults of a command, by what went wrong.
+-- The faults of the command, by what went wrong.
 use Rattle.command_io.specs.declared.fault.Fault.{Fault}
 use Rattle.command_io.specs.declared.fault.Fault.TheVariants as fault
 use Rattle.words_command.specs.declared.read.WordsError.{WordsError}

@@ -4,12 +4,12 @@ use Rattle.std.specs.Int.{w32, from_be_bytes}
 use Rattle.hex.specs.declared.error.FromHexError.{FromHexError}
 use Rattle.hex.specs.Hex.{decode_sized}
 
--- a byte before the lines that follow it: it begins the first of them
+-- the lines after a byte is put before them: it begins the first of them
 abbrev pub before_lines : ℕ → List (List ℕ) → List (List ℕ)
 before_lines byte [] = (byte ∷ []) ∷ []
 before_lines byte (line ∷ lines) = (byte ∷ line) ∷ lines
 
--- The lines of a text, without the LF (10) that ends each. The last LF may be missing.
+-- the lines of a text, without the LF (10) that ends each; the last LF may be missing
 abbrev pub lines_of : List ℕ → List (List ℕ)
 lines_of [] = []
 lines_of (byte ∷ text) = if byte == 10 then [] ∷ lines_of text else before_lines byte (lines_of text)
@@ -18,18 +18,18 @@ abbrev pub word_of_bytes : Result (List ℕ) FromHexError → Option ℕ
 word_of_bytes (Ok bytes) = Some (from_be_bytes w32 bytes)
 word_of_bytes (Err error) = None
 
--- the word that eight hex digits of either case spell, the highest first
+-- the word that eight hex digits of either case spell, the highest digit first
 abbrev pub word_of_line : List ℕ → Option ℕ
 word_of_line line = word_of_bytes (decode_sized line 4)
 
--- a word before the words of the lines that follow it
+-- the words after the word of a line, or the number of that line, is put before them
 abbrev pub in_front : Option ℕ → ℕ → Result (List ℕ) ℕ → Result (List ℕ) ℕ
 in_front None number rest = Err number
 in_front (Some word) number (Ok words) = Ok (word ∷ words)
 in_front (Some word) number (Err bad) = Err bad
 
--- The words of lines, of which `before` stand before them, or the number (from 1) of the first bad line. It is the
--- first that does not spell a word, or the one after the 16,384th.
+-- the words of lines, with `before` other lines before them, or the number (from 1) of the first bad line: the first
+-- that does not spell a word, or the one after the 16,384th
 abbrev pub words_of_lines : (before : ℕ) → List (List ℕ) → Result (List ℕ) ℕ
 words_of_lines before [] = Ok []
 words_of_lines before (line ∷ lines) =

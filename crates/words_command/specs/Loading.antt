@@ -1,4 +1,4 @@
--- How a machine opens on words.
+-- The machine that opens on words.
 use Rattle.std.specs.Int.{w32, to_le_bytes}
 use Rattle.std.specs.Prelude.{ℕ, ◌^◌, List, [], ◌∷◌, ◌++◌, replicate}
 use Rattle.flat_machine.specs.declared.event.Status.TheVariants.{Running}
@@ -13,7 +13,8 @@ abbrev pub bytes_of_words : List ℕ → List ℕ
 bytes_of_words [] = []
 bytes_of_words (w ∷ ws) = to_le_bytes w32 w ++ bytes_of_words ws
 
--- One processor at the first address of code, which begins with the words; 1,024 shared words. All else is zero.
+-- the flat machine that opens on words: one processor at the first address of code, which begins with the words, and
+-- 1,024 shared words; everything else is zero
 abbrev pub flat_of_words : List ℕ → FlatState
 flat_of_words words = record {
   processors = record { pc = 2 ^ 16; registers = replicate 32 0; local = region_of_bytes []; status = Running } ∷ [];
@@ -25,7 +26,7 @@ flat_of_words words = record {
 abbrev pub layout_of_words : List ℕ → Layout
 layout_of_words words = record { entry = 2 ^ 16; code = bytes_of_words words; local = []; shared = [] }
 
--- An image was not written to memory, or not read back, if out of memory: nothing else can be wrong with it.
+-- The image was not written to memory, or not read back, because there was no memory. Nothing else can go wrong.
 abbrev pub IsWantOfMemory : ImageError → Type 0
 IsWantOfMemory error.Link = Unit {0}
 IsWantOfMemory error.Memory = Unit {0}

@@ -4,7 +4,7 @@ use Rattle.words_command.specs.declared.read.WordsError.{WordsError}
 use Rattle.words_command.specs.declared.read.WordsError.TheVariants.{Line, Memory}
 use Rattle.words_command.specs.HexText.{words_of_text}
 
--- The line is the first bad one of the text. out of memory says nothing of the text.
+-- The line is the first bad one of the text. Out of memory says nothing of the text.
 abbrev pub IsFirstBad : List ℕ → WordsError → Type 0
 IsFirstBad text (Line number) = words_of_text text ≡ Err number
 IsFirstBad text Memory = Unit {0}

@@ -19,12 +19,12 @@ abbrev pub is_retirement : Event → Bool
 is_retirement (Retired retired) = true
 is_retirement (Stopped cause) = false
 
--- how many instructions a list of events retired
+-- how many of the events are retirements
 abbrev pub retirements : List (ℕ × Event) → ℕ
 retirements events = count_by (λ e. is_retirement e.1) events
 
--- The flat machine has gone from one state to another in turns of processor 0 alone, which retired this many
--- instructions.
+-- In turns of processor 0 alone, which retired this many instructions, the flat machine has gone from one state to
+-- another.
 pub record HasRunAlone (old new : FlatState) (retired : ℕ) : Type 0 where
   pub turns : ℕ
   pub state : new ≡ flat_run old (turns_of_zero turns)

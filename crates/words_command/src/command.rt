@@ -19,8 +19,8 @@ use machine_log::Logged;
 use std::alloc::Global;
 use std::io::{Read, Write};
 
-/// How many bytes of a file are read: with one byte more than the lines of all words have, the
-/// first bad line is known.
+/// The number of bytes that are read of a file. The lines of all words have one byte less, so the first bad line is
+/// known.
 const MAX_TEXT: u64 = 9 * MAX_WORDS as u64 + 1;
 
 impl From<WordsError> for Fault {
@@ -56,9 +56,9 @@ impl From<PrintError> for Fault {
     }
 }
 
-/// Reads a program from a file, runs it, and prints its processor. Answers the exit status: 0 where
-/// the processor halted, 1 where a fault stopped it, else that of the fault that is reported on
-/// standard error. Nothing is printed then, unless it is printing that failed.
+/// Reads a program from a file, runs it, and prints its processor. Returns the exit status: 0 if the processor halted,
+/// 1 if a fault stopped it, otherwise that of the fault that is reported on standard error. After such a fault nothing
+/// is printed, unless printing itself failed.
 pub fn words_command<R: Read + Drop, W: LinkWrite, E: Write>(
     alloc: Global,
     file: R,
@@ -80,7 +80,7 @@ pub fn words_command<R: Read + Drop, W: LinkWrite, E: Write>(
     }
 }
 
-/// Carries the command out.
+/// Executes the command.
 fn execute<R: Read + Drop, W: LinkWrite>(alloc: Global, file: R, out: &mut W) -> Result<u8, Fault>
     requires works { W.has_failed out.old ≡ false }
     ensures reported { IfOk result (λ status. Prints (IsWordsReport (R.remaining file) status) (W.contents out.old)
@@ -101,7 +101,7 @@ fn read_text<R: Read + Drop>(alloc: Global, file: R) -> Result<Vec<u8>, Fault>
     ensures fault { IfErr result (λ fault. (fault ≡ Fault.Memory) ⊎ (fault ≡ Fault.Link)) }
 {
     let mut text = Vec::new(alloc);
-    // Where a read is interrupted, `read_to_end` tries again: a meter that has failed does not call the file then.
+    // If a read is interrupted, `read_to_end` tries again. A meter that has failed does not call the file then.
     let mut reader = Meter::new(file);
     match (&mut reader).take(MAX_TEXT).read_to_end(&mut text) {
         Ok(_) => Ok(text),

@@ -1,4 +1,4 @@
-//! From words to the machine that opens on them: their layout, its image, and the machine.
+//! From words to the machine that opens on them: the words' layout, its image, and the machine.
 
 ghost use Rattle.std.specs.Prelude.{◌≡◌, ◌*◌, ◌≤◌, length, IfOk, IfErr};
 ghost use Rattle.elf_image.specs.Images.{IsPlaced, IsAccepted, IsMeant};
@@ -25,11 +25,11 @@ const SIZE: Config = Config {
     shared_words: 1024,
 };
 
-/// The machine that opens on the image of these words. Its processor stands at the first of them.
+/// Makes the machine that opens on the image of these words. Its processor starts at the first word.
 ///
 /// # Errors
 ///
-/// [`AllocError`] where there is no memory for the image or the machine.
+/// [`AllocError`] if there is no memory for the image or the machine.
 #[tactic(auto, using(crate::proofs::Loading::words_are_placed, crate::proofs::Loading::file_is_short, crate::proofs::Loading::words_open, crate::proofs::Loading::made_for))]
 pub fn words_machine(alloc: Global, words: &[u32]) -> Result<Machine, AllocError>
     requires { length words.now ≤ 16384 }
@@ -49,7 +49,7 @@ pub fn words_machine(alloc: Global, words: &[u32]) -> Result<Machine, AllocError
     }
 }
 
-/// The layout of words: they are code, from its first address on, where the processor starts.
+/// The layout of words: they are code, and the processor starts at the first of them.
 #[tactic(auto, using(crate::proofs::Loading::one_word_more, crate::proofs::Loading::count_of_bytes))]
 fn words_layout(alloc: Global, words: &[u32]) -> Result<Layout, AllocError>
     requires { length words.now ≤ 16384 }
@@ -67,11 +67,11 @@ fn words_layout(alloc: Global, words: &[u32]) -> Result<Layout, AllocError>
     })
 }
 
-/// The image of a layout: its file, which is written to memory and read back.
+/// The image of a layout. Its file is written to memory and read back.
 ///
 /// # Errors
 ///
-/// out of memory: of the file, which is a failed link then, or of the image.
+/// [`ImageError::Link`] if there is no memory for the file, and [`ImageError::Memory`] if there is none for the image.
 fn image_of(alloc: Global, layout: &Layout) -> Result<Image, ImageError>
     requires placed { IsPlaced layout.now 1024 }
     requires short { length (spelling layout.now) ≤ 1048576 }

@@ -15,7 +15,7 @@ use thiserror::Error;
 /// Why a report was not printed.
 #[derive(Clone, Copy, Debug, PartialEq, Eq, Drop, Error)]
 pub enum PrintError {
-    /// The link failed. A beginning of the report is written then, and not all of it.
+    /// The link failed. Some of the report's first bytes are written, but not all.
     #[error("link")]
     Link,
     /// There was no memory for the report. Nothing of it is written.
@@ -23,13 +23,13 @@ pub enum PrintError {
     Memory,
 }
 
-/// Prints registers 0 to 31 of processor 0, its `pc` and its status: 34 lines, which are made whole
-/// before the first is printed.
+/// Prints registers 0 to 31 of processor 0, its `pc` and its status, in 34 lines. All lines are made before the first
+/// is printed.
 ///
 /// # Errors
 ///
-/// [`PrintError::Link`] exactly if the link failed in this call, and [`PrintError::Memory`] where there
-/// was no memory for the report.
+/// [`PrintError::Link`] exactly if the link failed in this call, and [`PrintError::Memory`] if there was no memory for
+/// the report.
 pub fn words_print<W: LinkWrite>(alloc: Global, log: &Logged, out: &mut W) -> Result<(), PrintError>
     requires { W.has_failed out.old ≡ false }
     ensures failed { IsErrOf result PrintError.Link ↔ (W.has_failed out.new ≡ true) }

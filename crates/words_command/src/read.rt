@@ -8,14 +8,14 @@ ghost use Rattle.words_command.specs.Refused.{IsFirstBad};
 use std::alloc::{AllocError, Global};
 use thiserror::Error;
 
-/// The most words that a file has.
+/// The most words of a file.
 pub const MAX_WORDS: usize = 16_384;
 
 /// Why a file of words was refused.
 #[derive(Clone, Copy, Debug, PartialEq, Eq, Drop, Error)]
 pub enum WordsError {
-    /// The first line, from 1, that is not eight hex digits, or that stands after the last word
-    /// that code has room for.
+    /// The first line, counted from 1, that is not eight hex digits, or that comes after the last word for which code
+    /// has room.
     #[error("V1 line {0}")]
     Line(u32),
     /// There was no memory.
@@ -23,7 +23,7 @@ pub enum WordsError {
     Memory,
 }
 
-/// The words of a text of lines, each of eight hex digits of either case, the highest first.
+/// The words of a text of lines. Each line has eight hex digits of either case, the highest first.
 pub fn words_read(alloc: Global, text: &[u8]) -> Result<Vec<u32>, WordsError>
     ensures words { IfOk result (λ words. words_of_text text.now ≡ Ok words.items) }
     ensures few { IfOk result (λ words. vec_len words ≤ 16384) }
@@ -58,7 +58,7 @@ fn split_line(text: &[u8]) -> (&[u8], &[u8])
     }
 }
 
-/// Where the first LF of a text stands.
+/// The place of the first LF of a text.
 fn line_end(text: &[u8]) -> Option<usize>
     ensures { result ≡ position (λ byte. byte == 10) text.now }
 {

@@ -14,10 +14,10 @@ use std::alloc::AllocError;
 use steps::Outcome;
 use thiserror::Error;
 
-/// How many instructions may retire.
+/// The most instructions that may retire.
 pub const BUDGET: u32 = 1_000_000;
 
-/// Why a run did not end with a stop of its processor.
+/// Why a run ended before its processor stopped.
 #[derive(Clone, Copy, Debug, PartialEq, Eq, Drop, Error)]
 pub enum WordsEnd {
     /// [`BUDGET`] instructions have retired, and the processor still runs.
@@ -28,13 +28,13 @@ pub enum WordsEnd {
     Memory,
 }
 
-/// Runs processor 0 of a machine that has one processor, one whole instruction after another, until it
-/// stops. No reference is open before, and none after.
+/// Runs processor 0 of a machine with one processor, one whole instruction after another, until it stops. No reference
+/// is open before, and none after.
 ///
 /// # Errors
 ///
-/// [`WordsEnd::Budget`] where [`BUDGET`] instructions have retired and the processor still runs;
-/// [`WordsEnd::Memory`] where there is no memory for the log, before as many have retired.
+/// [`WordsEnd::Budget`] if [`BUDGET`] instructions have retired and the processor still runs; [`WordsEnd::Memory`] if
+/// there is no memory for the log before as many have retired.
 pub fn words_run(log: &mut Logged) -> Result<(), WordsEnd>
     requires fresh { log.old.steps ≡ [] }
     requires idle { IsIdle log.old.machine }

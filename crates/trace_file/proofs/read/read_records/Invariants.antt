@@ -2,7 +2,7 @@ use Rattle.std.proofs.Common.{◌≡◌, ◌≤◌, ◌-◌, [], length, false}
 use Rattle.trace_file.specs.Reading.{AddsRead}
 use Rattle.trace_file.proofs.read.read_records.Given as goal
 
--- the records so far
+-- The records so far were read.
 abbrev pub invariant-loop-left : goal.invariant-loop-left
 invariant-loop-left g l =
     (g.R.Link.has_failed l.reader ≡ false) × (length l.piece ≡ 4092) × (l.left ≤ l.header.count)

@@ -4,7 +4,7 @@ use Rattle.steps.specs.declared.step.Step.{Step}
 use Rattle.trace_file.specs.Traces.{records_bytes}
 use Rattle.trace_file.proofs.write.write_records.Given as goal
 
--- the steps whose records were written, and those that are left
+-- The steps are those whose records were written, followed by those that are left.
 abbrev pub invariant-loop-rest : goal.invariant-loop-rest
 invariant-loop-rest g l =
     (g.W.Link.has_failed l.writer ≡ false) × ((written : List Step) × (l.steps ≡ written ++ l.rest)

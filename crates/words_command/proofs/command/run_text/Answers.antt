@@ -16,14 +16,14 @@ use Rattle.words_command.specs.Command.{ReportOfFails, IsSomeReport, exit_status
 use Rattle.words_command.specs.Faults.{fault_of_printing, fault_of_running}
 use Rattle.words_command.proofs.command.run_text.Goals as goal
 
--- a run that ends before the processor stops is reported as what ended it
+-- If a run ends before the processor stops, the report fails for the same reason.
 ended : (end : WordsEnd) (text words : List ℕ) (old new : Option (List ℕ)) (first last : FlatState) → words_of_text text ≡ Ok words
     → first ≡ flat_of_words words → (end ≡ running.Budget → HasRunAlone first last 1000000) → ReportOfFails (fault_of_running end) text old new
 ended running.Budget text words old new first last spelled is ran =
     record { words = words; spelled = spelled; last = last; run = subst (λ m. HasRunAlone m last 1000000) is (ran refl) }
 ended running.Memory text words old new first last spelled is ran = tt
 
--- a report that is not printed is reported as what kept it
+-- If the report is not printed, it fails for the same reason.
 unprinted : (error : PrintError) (text : List ℕ) (old new : Option (List ℕ)) → (error ≡ printing.Link → PrintsPrefix (IsSomeReport text) old new) →
     ReportOfFails (fault_of_printing error) text old new
 unprinted printing.Link text old new part = part refl
