@@ -131,7 +131,7 @@ named_of labels at line fault s t same named is_column is_word h is_hint advised
           (subst (λ f. IsAdvised labels at line f (advice_of h)) (sym same) advised);
     }
 
--- After one more line, the cursor is at the place after it.
+-- After one more line is passed, the lines left still lead to the place after all lines.
 pub passed_more : (lines : List (Bor (List ℕ))) (i : ℕ) (d : Bor (List ℕ)) (cursor cursor' : Cursor) → i < length lines →
     fold after (place_of cursor) (nows (drop i lines)) ≡ fold after start (nows lines) → place_of cursor' ≡ after (place_of cursor) (get_or lines i d).now
     → fold after (place_of cursor') (nows (drop (i + 1) lines)) ≡ fold after start (nows lines)

@@ -121,7 +121,8 @@ up_to_turns at code kept classes m consoles s u way t f x h w =
       omega (arith, long, many),
     )
 
--- If processors of one class begin in equal states, some order of turns leads to each exchange of such a state.
+-- If processors of one class begin in equal states, some order of turns leads to each exchange of a state that is
+-- reached.
 pub each_reached : EachExchangeIsReached
 each_reached at code kept classes m consoles s way t x f uniform h w =
     let l = way_led classes at code kept way s t w in

@@ -112,9 +112,9 @@ MovesAreOfAny =
     (gone s k (kept (alone count (at i) code (behind a (after (slice_index s.shared word)))))
     word (change (slice_index s.shared word)))
 
--- Let a set be closed up to exchanges, and have a state to an exchange of which the flat machine settles. For each order
--- of turns after which all processors have stopped, it has a state of which an exchange is what is kept of the flat
--- machine then.
+-- Let a set be closed up to exchanges, and have a state to an exchange of which the flat machine settles. For each
+-- order of turns after which all processors have stopped, it has a state of which an exchange is what is kept of the
+-- flat machine then.
 abbrev pub SetsClosedUpToContainAllFinalStates : Type 0
 SetsClosedUpToContainAllFinalStates =
     (at : ℕ → Setting) (code : List ℕ) (kept : LocalState → LocalState) (classes : List ℕ) (states : List MacroState)
@@ -151,7 +151,8 @@ MovesUpToAreTurns =
     (consoles_after consoles (flat_events m (turns order))) v
     × (length way ≤ turns_taken m order)
 
--- If processors of one class begin in equal states, some order of turns leads to each exchange of such a state.
+-- If processors of one class begin in equal states, some order of turns leads to each exchange of a state that is
+-- reached.
 abbrev pub EachExchangeIsReached : Type 0
 EachExchangeIsReached =
     (at : ℕ → Setting) (code : List ℕ) (kept : LocalState → LocalState) (classes : List ℕ) (m : FlatState)

@@ -32,12 +32,13 @@ pub fn moves_up_to_are_turns()
     ensures turns { MovesUpToAreTurns }
 {}
 
-/// If processors of one class begin in equal states, some order of turns leads to each exchange of such a state.
+/// If processors of one class begin in equal states, some order of turns leads to each exchange of a state that is
+/// reached.
 pub fn each_exchange_is_reached()
     ensures each { EachExchangeIsReached }
 {}
 
-/// If at most this many references follow one another up to exchanges, every schedule ends.
+/// If the number of references that follow one another up to exchanges is bounded, every schedule ends.
 pub fn short_up_to_schedules_end()
     ensures ends { ShortUpToSchedulesEnd }
 {}

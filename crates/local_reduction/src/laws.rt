@@ -38,7 +38,7 @@ pub fn what_comes_back_spins()
     ensures quiet { WhatComesBackNeverAsks }
 {}
 
-/// If at most this many references follow one another, every schedule ends.
+/// If the number of references that follow one another is bounded, every schedule ends.
 pub fn short_schedules_end()
     ensures ends { ShortSchedulesEnd }
 {}

@@ -78,7 +78,7 @@ module _ (Core : Type 0) (M : Machine Core) where
   pub drain_named : (z : Sizes) (st : Step) → drain_step z M ≡ Some st → Named M st
   drain_named z st e = subst (AllNamed M) e (all_named z)
 
--- ---- a turn where no reference is open
+-- ---- a turn when no reference is open
 
 -- The turn stalls, is an advance, or sends a request.
 abbrev pub FirstTurn : {Core : Type 0} → Sizes → Program Core → Machine Core → ℕ → Type 0

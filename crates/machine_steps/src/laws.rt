@@ -5,7 +5,7 @@ ghost use Rattle.machine_steps.specs.Laws.{EventsAreShown, FlatProcessorsAreRead
 ghost use Rattle.machine_steps.specs.Laws.{ReplaysAreJoined, ReplaysBegin, RunsAreJoined, RunsAreSerialized};
 ghost use Rattle.machine_steps.specs.Laws.{StallsAreNotEntered, StepsAreEntered};
 
-/// A replay begins with no step. A step that is taken next comes last in it, unless it stalls.
+/// A replay begins with no step, and a step that is taken next comes last in it, unless it stalls.
 pub fn replays_go_on()
     ensures begins { ReplaysBegin }
     ensures entered { StepsAreEntered }

@@ -96,14 +96,14 @@ unfoldable pub are_home : ℕ → (ℕ → Processor) → Bool
 are_home zero states = true
 are_home (suc n) states = not (is_away (states n)) && are_home n states
 
--- the value is a word or a byte, the processor is there, and so is the register, byte or word to be written
+-- whether the value is a word or a byte, and the processor and the register, byte or word to be written are there
 abbrev pub is_lawful_poke : Config → Poke → Bool
 is_lawful_poke c (poke.Register p register value) = nat_lt value (2 ^ 32)
     && (nat_lt p (2 ^ c.k) && is_lawful_register register value)
 is_lawful_poke c (poke.Local p address value) = nat_lt value 256 && (nat_lt p (2 ^ c.k) && in_local address)
 is_lawful_poke c (poke.Shared address value) = nat_lt value 256 && in_shared c.shared_words address
 
--- a lawful poke is done if no core is away
+-- whether a poke may be done: no core is away, and it is lawful
 abbrev pub may_poke : Config → (ℕ → ObservedCore) → Poke → Bool
 may_poke c core q = are_home (2 ^ c.k) (λ p. (core p).state) && is_lawful_poke c q
 

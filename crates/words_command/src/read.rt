@@ -23,7 +23,7 @@ pub enum WordsError {
     Memory,
 }
 
-/// The words of a text of lines. Each line has eight hex digits of either case, the highest first.
+/// The words of a text, each on a line of eight hex digits of either case, the highest digit first.
 pub fn words_read(alloc: Global, text: &[u8]) -> Result<Vec<u32>, WordsError>
     ensures words { IfOk result (λ words. words_of_text text.now ≡ Ok words.items) }
     ensures few { IfOk result (λ words. vec_len words ≤ 16384) }
