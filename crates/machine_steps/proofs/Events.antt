@@ -63,7 +63,7 @@ put_own : (f : ℕ → List Event) (p : ℕ) → put f p (f p) ≡ f
 put_own f p =
     fun_ext (λ q. elim (cases_eq q p) [ inl same ↦ ap (put f p (f p)) same ∙ put_same f p (f p) ∙ ap f (sym same) | inr other ↦ put_other f p (f p) q other ])
 
--- If a processor shows nothing new, no processor does.
+-- If one processor changes and shows nothing new, the shown events are as before.
 put_silent : (f : ℕ → ObservedCore) (p : ℕ) (g : ObservedCore) → g.events ≡ (f p).events → shown_by (put f p g) ≡ shown_by f
 put_silent f p g e = put_shown f p g ∙ ap (put (shown_by f) p) e ∙ put_own (shown_by f) p
 
@@ -171,7 +171,7 @@ module _ (opening : MachineLists) (steps : List Step) (machine : MachineLists) (
   unserved_same : (p : ℕ) → h.served p ≡ None → events_of_steps opening steps p ≡ shown_in_order opening steps p
   unserved_same p none = events_are_these p ∙ ap (λ (g : ObservedCore). g.events) (explained.unserved p none)
 
-  -- the flat machine has shown of a processor what the outcomes tell, and at most one event more
+  -- The flat machine has shown of processor p what the outcomes tell, and at most one more event.
   abbrev Later : ℕ → Type 0
   Later p = (later : List Event) × (shown_in_order opening steps p ≡ events_of_steps opening steps p ++ later) × (length later ≤ 1)
 

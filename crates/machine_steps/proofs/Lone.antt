@@ -168,7 +168,7 @@ module _ (Core : Type 0) (z : Sizes) (P : Program Core) (p : ℕ) where
     leads_request : (d w : ℕ) (x : Request) → In x (M.net.requests d w) → x.leader ≡ p
     leads_request d w x m = is_p x.leader (Asking d) (lone.steady.placed.requests d w x m).asks (λ c. cc)
 
-    -- After one request is taken, there is none.
+    -- After the one request is taken, none is left.
     none_left : (d w : ℕ) (x : Request) (rest : List Request) → M.net.requests d w ≡ x ∷ rest → (d' w' : ℕ) (b : Request) →
         In b (put2 M.net.requests d w rest d' w') → ⊥
     none_left d w x rest e d' w' b m =

@@ -55,7 +55,7 @@ poked_states (poke.Register p register value) f g same = states_put f g p _ _ sa
 poked_states (poke.Local p address value) f g same = states_put f g p _ _ same (ap (with_poked_byte address value) (same p))
 poked_states (poke.Shared address value) f g same = same
 
--- Machines that differ in shown events alone are the same with the same events.
+-- Machines that differ in shown events alone are the same after they are given the same events.
 retell_cores : (fact : ℕ → List Event) (net : Net) (mem : ℕ → ℕ) (is_open : ℕ → Bool) (f g : ℕ → ObservedCore) → SameStates f g →
     observe_as fact (record { net = net; mem = mem; core = f; is_open = is_open })
     ≡ observe_as fact (record { net = net; mem = mem; core = g; is_open = is_open })

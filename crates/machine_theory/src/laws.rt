@@ -4,8 +4,8 @@ ghost use Rattle.std.specs.Prelude.{ℕ, List};
 ghost use Rattle.machine_ports.specs.flat_machine.declared.config.Config.{Config};
 ghost use Rattle.machine_theory.specs.Explained.{RunsAreExplained};
 
-/// One serial order of whole instructions of the flat machine explains, at every moment, any steps that a machine takes.
-/// Each reference is served once, between its issue and its retirement.
+/// One serial order of whole instructions of the flat machine explains, at every moment, any steps that a machine
+/// takes. Each reference is served once, between its issue and its retirement.
 pub fn one_order_explains_all()
     ensures { (c : Config) (code : List ℕ) → RunsAreExplained c code }
 {}

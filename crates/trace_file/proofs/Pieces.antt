@@ -110,7 +110,7 @@ behind k m n count old mid a b steps rest fault sum p stops = record {
   wrong = stops.wrong;
 }
 
--- After records were read, reading part of n more reads part of all of them.
+-- After m records, reading at most the bytes of n more reads at most the bytes of all of them.
 further : (k m n count : ℕ) (old mid : List Step) (a b c : Option (List ℕ)) → m + n ≤ count → AddsRead k m old mid a b → ConsumesAtMost (12 * n) b c →
     ConsumesAtMost (12 * count) a c
 further k m n count old mid a b c sum p (bytes, few, consumed) =

@@ -22,7 +22,7 @@ word_of_bytes (Err error) = None
 abbrev pub word_of_line : List ℕ → Option ℕ
 word_of_line line = word_of_bytes (decode_sized line 4)
 
--- the words after the word of a line, or the number of that line, is put before them
+-- the words of lines after the word of one more is put before them, or that line's number if it spells no word
 abbrev pub in_front : Option ℕ → ℕ → Result (List ℕ) ℕ → Result (List ℕ) ℕ
 in_front None number rest = Err number
 in_front (Some word) number (Ok words) = Ok (word ∷ words)
