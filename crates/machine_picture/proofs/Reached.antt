@@ -1,9 +1,9 @@
--- Whom replies reach, a stage after another.
+-- The processors that replies reach, stage by stage.
 use Rattle.std.proofs.Common.{◌≡◌, ℕ, zero, suc, ◌-◌, ◌<◌, List, sym, ap, ◌∙◌, arith}
 use Rattle.messages.specs.Network.{Net}
 use Rattle.machine_picture.specs.Groups.{reached, split_at}
 
--- the last of the stages is passed
+-- Replies that have passed the last of the stages still reach the same processors.
 pub reached_one : (net : Net) (wires s : ℕ) (leaders : List ℕ) → 0 < s →
     reached net wires (s - 1) (split_at net wires (s - 1) leaders) ≡ reached net wires s leaders
 unfolding reached

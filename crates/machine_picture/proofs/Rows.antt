@@ -1,4 +1,4 @@
--- Lists of a view that are made one element after another.
+-- Lists of a view that are made element by element.
 use Rattle.std.proofs.Common.{◌≡◌, ℕ, ◌+◌, ◌≤◌, ◌<◌, ◌⊎◌, inl, inr, List, [], ◌∷◌, ◌++◌, length, take, map, Option, Some, None}
 use Rattle.std.proofs.Common.{refl, sym, ap, ◌∙◌, subst, arith}
 use Rattle.std.specs.Prelude.{slice_get}
@@ -8,17 +8,17 @@ use Rattle.std.proofs.lemmas.Option.{slice_get_cases, slice_get-get_or, slice_ge
 use Rattle.std.proofs.Math.ListN.{get_or}
 use Rattle.machine_picture.specs.Places.{each_below}
 
--- one number more is covered
+-- The items below a greater count are those below it, and the item at it.
 pub below_more : {A : Type 0} (item_at : ℕ → A) (n : ℕ) → each_below item_at (n + 1) ≡ each_below item_at n ++ item_at n ∷ []
 below_more item_at n = map-range_with_len_more item_at 0 n n (omega arith)
 
--- an element more is appended
+-- If the next item is appended to the items below a count, they are the items below the next count.
 pub one_more : {A : Type 0} (item_at : ℕ → A) (n : ℕ) (xs xs' : List A) (x : A) → xs ≡ each_below item_at n → x ≡ item_at n → xs' ≡ xs ++ x ∷ [] →
     xs' ≡ each_below item_at (n + 1)
 one_more item_at n xs xs' x before is next =
     next ∙ ap (λ ys. ys ++ x ∷ []) before ∙ ap (λ y. each_below item_at n ++ y ∷ []) is ∙ sym (below_more item_at n)
 
--- These are views of as many of the first elements.
+-- These are views of the first elements, as many as there are views.
 pub record AreViews {X Y : Type 0} (view : X → Y) (xs : List X) (ys : List Y) : Type 0 where
   -- they are views of the first elements, in order
   pub are : ys ≡ map view (take (length ys) xs)
@@ -31,7 +31,7 @@ no_views view xs = record { are = refl; few = omega arith }
 some_inj : {X : Type 0} (x y : X) → Some x ≡ Some y → x ≡ y
 some_inj x y is = cc
 
--- If the view of the next element is appended, they are still views of the first elements.
+-- After the view of the next element is appended, they are still views of the first elements.
 pub views_more : {X Y : Type 0} (view : X → Y) (xs : List X) (ys ys' : List Y) (x : X) → AreViews view xs ys → Some x ≡ slice_get xs (length ys) →
     ys' ≡ ys ++ view x ∷ [] → AreViews view xs ys'
 views_more view xs ys ys' x are is next =

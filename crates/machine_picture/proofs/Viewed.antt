@@ -1,4 +1,4 @@
--- The parts of a machine's view are its view.
+-- The parts of a machine's view make up the view.
 use Rattle.std.proofs.Common.{◌≡◌, ℕ, ◌^◌, List, ap, ◌∙◌}
 use Rattle.flat_machine.specs.declared.config.Config.{Config}
 use Rattle.omega_network.specs.Networks.{NetworkLists, net_of}

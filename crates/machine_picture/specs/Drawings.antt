@@ -1,7 +1,7 @@
--- What is drawn of views.
+-- What may be drawn of a view.
 use Rattle.std.specs.Prelude.{ℕ, List}
 use Rattle.machine_picture.specs.declared.view.MachineView.{MachineView}
 
--- Which texts are drawn of which view.
+-- a relation between a view and the texts that may be drawn of it
 abbrev pub Draws : Type 1
 Draws = MachineView → (text : List ℕ) → Type 0

@@ -1,4 +1,4 @@
--- What stands at the places of a network.
+-- What the places of a network hold.
 use Rattle.std.specs.Prelude.{ℕ, zero, suc, ◌^◌, List, [], Option, map, slice_get}
 use Rattle.std.specs.List.{range_with_len}
 use Rattle.std.specs.Option.{option_and_then}
@@ -11,7 +11,7 @@ use Rattle.machine_picture.specs.declared.view.PlaceView.{PlaceView}
 use Rattle.machine_picture.specs.declared.view.ReplyView.{ReplyView}
 use Rattle.machine_picture.specs.declared.view.RequestView.{RequestView}
 
--- what is said of each number below a count, in their order
+-- an item for each number below a count, in order
 abbrev pub each_below : {A : Type 0} → (item_at : ℕ → A) → (count : ℕ) → List A
 each_below item_at count = map item_at (range_with_len 0 count)
 
@@ -26,7 +26,7 @@ abbrev pub records_before : Net → (depth wire : ℕ) → List Record
 records_before net zero w = []
 records_before net (suc s) w = net.records s w
 
--- all that stands at the place of a depth and a wire
+-- all that the place at a depth and a wire holds
 abbrev pub place_view : Net → (wires depth wire : ℕ) → PlaceView
 place_view net wires d w = record {
   requests = map (request_view net wires d) (net.requests d w);
@@ -42,6 +42,6 @@ places_at net k d = each_below (place_view net (2 ^ k) d) (2 ^ k)
 abbrev pub place_views : Net → (k : ℕ) → List (List PlaceView)
 place_views net k = each_below (places_at net k) (suc k)
 
--- what stands at a place, where there is one of this depth and wire
+-- the view of the place at this depth and wire, if there is one
 abbrev pub place_at : List (List PlaceView) → (depth wire : ℕ) → Option PlaceView
 place_at places d w = option_and_then (λ (wires : List PlaceView). slice_get wires w) (slice_get places d)

@@ -1,4 +1,4 @@
--- The view of a machine: what its processors do, and what stands at each place of its network.
+-- The view of a machine: what its processors do, and what each place of its network holds.
 use Rattle.std.specs.Prelude.{ℕ, ◌^◌, Option, None, if◌then◌else◌}
 use Rattle.std.specs.Option.{option_map}
 use Rattle.flat_machine.specs.Turns.{turn_of}
@@ -17,11 +17,11 @@ use Rattle.machine_picture.specs.declared.view.SharedWord.{SharedWord}
 abbrev pub shared_word : MachineLists → (number : ℕ) → SharedWord
 shared_word m number = record { number = number; value = word_at m.config.k m.modules number }
 
--- the shared word on which the next turn of a processor acts, if on any
+-- the shared word that the next turn of a processor acts on, if any
 abbrev pub next_word : MachineLists → (processor : ℕ) → Option ℕ
 next_word m p = word_of_turn (turn_of (setting_of m.config p) m.code (port_at m.ports p).core.state)
 
--- the shared word to which the reference of a processor goes, where it has one open
+-- the shared word of a processor's open reference, if one is open
 abbrev pub word_referred : MachineLists → (processor : ℕ) → Option SharedWord
 word_referred m p = if open_at m.ports p then option_map (shared_word m) (next_word m p) else None
 

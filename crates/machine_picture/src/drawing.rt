@@ -10,19 +10,19 @@ use flat_machine::Config;
 use std::alloc::{AllocError, Global};
 use std::fmt::Write;
 
-/// Where the boxes of processors begin.
+/// The left side of the processors' boxes.
 const PROCESSORS: u32 = 10;
 
-/// How far down the names of the stages stand.
+/// How far down the names of the stages are written.
 const TITLES: u32 = 36;
 
-/// How the elements look.
+/// The style of the elements.
 const STYLE: &str = "\
 <style>text{font:11px monospace}rect{fill:#fff;stroke:#444}line{stroke:#bbb}.request{text-anchor:end;fill:#1f4e9c}\
 .reply{fill:#a02020}.record{text-anchor:middle;fill:#207020}</style>
 ";
 
-/// What stands where, and what the texts mean.
+/// The legend: what is where, and what the texts mean.
 const LEGEND: [&str; 4] = [
     "at the right: requests, the first to go out at the right",
     "at the left: replies, the first to go out at the left",
@@ -57,7 +57,7 @@ impl Draw for Svg {
     }
 }
 
-/// The beginning, and a line that says what machine it is.
+/// Appends the head, and a line that describes the machine.
 fn push_head(text: &mut String, view: &MachineView) -> Result<(), AllocError> {
     let Config { k, c, b, r, .. } = view.config;
     let steps = view.steps;
@@ -76,7 +76,7 @@ fn push_head(text: &mut String, view: &MachineView) -> Result<(), AllocError> {
     text.push('\n')
 }
 
-/// What stands where, below the rows.
+/// Appends the legend, below the rows.
 fn push_legend(text: &mut String, view: &MachineView) -> Result<(), AllocError> {
     let mut y = top_of(wires_of(view.config.k)) + 18;
     for line in &LEGEND {
@@ -87,7 +87,7 @@ fn push_legend(text: &mut String, view: &MachineView) -> Result<(), AllocError> 
     Ok(())
 }
 
-/// The wires: between the stages they are shuffled, and after the last one they go straight to the modules.
+/// Appends the wires: shuffled before each stage, and straight from the last one to the modules.
 fn push_lines(text: &mut String, view: &MachineView) -> Result<(), AllocError> {
     let wires = wires_of(view.config.k);
     for stage in 0..view.config.k {
@@ -96,7 +96,7 @@ fn push_lines(text: &mut String, view: &MachineView) -> Result<(), AllocError> {
     push_wires(text, view.config.k, wires, false)
 }
 
-/// The wires before a stage, or before the modules.
+/// Appends the wires before a stage, or before the modules.
 fn push_wires(text: &mut String, stage: u8, wires: u8, shuffled: bool) -> Result<(), AllocError> {
     let from = right_before(stage);
     for row in 0..wires {
@@ -122,7 +122,7 @@ fn right_before(stage: u8) -> u32 {
     }
 }
 
-/// A processor: what it does, and the request that it sends.
+/// Appends a processor: what it does, and the request that it sends.
 fn push_processor(
     alloc: Global,
     text: &mut String,
@@ -151,7 +151,7 @@ fn push_processor(
     push_requests(alloc, text, view, (0, processor), at)
 }
 
-/// What a processor does, where it stands, and the word to which it refers.
+/// A processor's number, its status, its `pc`, and the word to which it refers.
 fn processor_text(
     alloc: Global,
     processor: u8,
@@ -168,7 +168,7 @@ fn processor_text(
     Ok(line)
 }
 
-/// The requests at the place of a depth and a wire.
+/// Appends the requests at a depth and a wire.
 fn push_requests(
     alloc: Global,
     text: &mut String,
@@ -185,7 +185,7 @@ fn push_requests(
     }
 }
 
-/// The wait records of the output that goes to the place of a depth and a wire.
+/// Appends the wait records of the output that goes to the place at a depth and a wire.
 fn push_records(
     alloc: Global,
     text: &mut String,
@@ -202,7 +202,7 @@ fn push_records(
     }
 }
 
-/// The replies at the place of a depth and a wire.
+/// Appends the replies at a depth and a wire.
 fn push_replies(
     alloc: Global,
     text: &mut String,
@@ -219,7 +219,7 @@ fn push_replies(
     }
 }
 
-/// The switches of a stage: its name, a box for each two rows, and what stands in each row.
+/// Appends the switches of a stage: its name, a box for each two rows, and what each row holds.
 fn push_stage(
     alloc: Global,
     text: &mut String,
@@ -245,7 +245,7 @@ fn push_stage(
     Ok(())
 }
 
-/// A row of a switch: the replies of its input, and the wait records and the requests of its output.
+/// Appends a row of a switch: the replies of its input, and the wait records and requests of its output.
 fn push_row(
     alloc: Global,
     text: &mut String,
@@ -273,7 +273,7 @@ fn push_row(
     push_requests(alloc, text, view, behind, at)
 }
 
-/// A module: its number, a word of it to which a processor refers, and the reply that it sends.
+/// Appends a module: its number, a word of it to which a processor refers, and the reply that it sends.
 fn push_module(
     alloc: Global,
     text: &mut String,
@@ -300,7 +300,7 @@ fn push_module(
     push_text(text, at, END_WIDTH - 8, "module", line.as_str())
 }
 
-/// A module's number, and the word that the first processor refers to whose reference is to this module.
+/// A module's number, and the word of the first processor that refers to this module, with its value.
 fn module_text(alloc: Global, view: &MachineView, module: u8) -> Result<String, AllocError> {
     let wires = u32::from(wires_of(view.config.k));
     let mut line = String::new(alloc);

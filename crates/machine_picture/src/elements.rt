@@ -1,4 +1,4 @@
-//! The elements of an SVG that are used.
+//! The SVG elements of a picture.
 
 use std::alloc::AllocError;
 use std::fmt::Write;
@@ -10,7 +10,7 @@ pub struct Point {
     pub y: u32,
 }
 
-/// A box with this upper left corner.
+/// Appends a box with this upper left corner.
 pub fn push_box(
     text: &mut String,
     corner: Point,
@@ -25,7 +25,7 @@ pub fn push_box(
     text.push('\n')
 }
 
-/// A line between two points.
+/// Appends a line between two points.
 pub fn push_line(text: &mut String, from: Point, to: Point) -> Result<(), AllocError> {
     let Point { x, y } = from;
     let Point { x: x2, y: y2 } = to;
@@ -36,7 +36,7 @@ pub fn push_line(text: &mut String, from: Point, to: Point) -> Result<(), AllocE
     text.push('\n')
 }
 
-/// A text of this class, unless it is empty. One that is longer than the room is pressed into it.
+/// Appends a text of this class, unless it is empty. A text that is wider than the room is squeezed into it.
 pub fn push_text(
     text: &mut String,
     at: Point,
@@ -60,10 +60,10 @@ pub fn push_text(
     text.push_str("</text>\n")
 }
 
-/// How wide a letter is, and a little more.
+/// A little more than the width of a letter.
 const LETTER_WIDTH: u32 = 7;
 
-/// A text as XML spells it.
+/// Appends a text as XML spells it.
 pub fn push_escaped(text: &mut String, shown: &str) -> Result<(), AllocError> {
     for letter in shown.chars() {
         match letter {

@@ -1,4 +1,4 @@
-//! For whom messages stand.
+//! The processors that messages stand for.
 
 ghost use Rattle.std.specs.Prelude.{◌≡◌, ◌++◌, ◌<◌, ◌≤◌, ◌^◌, IfOk, OnOk};
 ghost use Rattle.omega_network.specs.Networks.{net_of};
@@ -9,8 +9,8 @@ use messages::Record;
 use omega_network::Network;
 use std::alloc::{AllocError, Global};
 
-/// For whom a message of this leader stands at a depth: the leader, and those whose requests were combined into it,
-/// and who get their replies where its own passes their wait records.
+/// The processors that a message of this leader stands for at a depth: the leader, and all for whom its reply is split
+/// on the way down from there, in the order in which they are served.
 pub fn group_of(
     alloc: Global,
     network: &Network,
@@ -29,7 +29,7 @@ pub fn group_of(
     Ok(Row::of(members))
 }
 
-/// What replies to these leaders become at a stage.
+/// The leaders of replies after a stage, given their leaders before it.
 fn split_at(
     alloc: Global,
     network: &Network,

@@ -1,4 +1,4 @@
-//! Where things stand in a picture, in its own units.
+//! Where things are in a picture, in its own units.
 
 ghost use Rattle.std.specs.Prelude.{◌≡◌, ◌<◌, ◌≤◌, ◌^◌};
 
@@ -11,7 +11,7 @@ pub const END_WIDTH: u32 = 180;
 /// How high the row of a wire is.
 pub const ROW_HEIGHT: u32 = 48;
 
-/// How many wires a network of `k` stages has, 0 to 6; as many as one of 6 has, where there are more.
+/// How many wires a network of `k` stages has. More than 6 stages count as 6.
 pub fn wires_of(k: u8) -> u8
     ensures exact { k ≤ 6 → result ≡ 2 ^ k }
     ensures some { 0 < result }
@@ -34,7 +34,7 @@ pub fn wire_into(wires: u8, row: u8) -> u8 {
     (row / 2).saturating_add(half)
 }
 
-/// The left side of the boxes of a stage; of the modules, for the stage after the last.
+/// The left side of the boxes of a stage. For the stage after the last, that of the modules.
 pub fn left_of(stage: u8) -> u32
     ensures { result ≤ 100000 }
 {

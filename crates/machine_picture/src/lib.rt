@@ -1,12 +1,13 @@
 //! The view of a machine, and a picture of it.
 //!
-//! [`view_of`] makes a [`MachineView`] of a machine: what its processors do, and what stands at each place of its
-//! network. Its contract says that this is exactly the machine's (`view_of` of `specs/Views.antt`). For whom a message
-//! stands is read off the wait records after it (`specs/Groups.antt`), in the order in which they are served.
+//! [`view_of`] makes a [`MachineView`] of a machine: what its processors do, and what each place of its network holds.
+//! Its contract says that the view is exact (`view_of` of `specs/Views.antt`). The processors that a message stands for
+//! are read off the wait records between it and the processors (`specs/Groups.antt`), in the order in which they are
+//! served.
 //!
-//! Who draws a machine is a [`Draw`]. It sees the view and nothing else, so all that it can show is the machine's.
-//! [`Svg`] is a picture: from left to right the processors, the stages of switches, and the memory modules. How a view
-//! is laid out is said by no contract, but tested.
+//! A [`Draw`] draws a machine. It sees the view and nothing else, so all that it can show is the machine's. [`Svg`] is
+//! a picture: from left to right the processors, the stages of switches, and the memory modules. Its layout is tested,
+//! but no contract covers it.
 #![tactic(auto)]
 
 mod draw;

@@ -18,11 +18,11 @@ use machine_steps::{Machine, machine_is_well_formed};
 use std::alloc::{AllocError, Global};
 use trace_lines::word_of_instruction;
 
-/// The view of a machine that has taken this many steps. A processor whose core is away is seen halted, with `pc` 0.
+/// The view of a machine that has taken this many steps. A processor whose core is away shows as halted, with `pc` 0.
 ///
 /// # Errors
 ///
-/// [`AllocError`] where there is no memory for the view.
+/// [`AllocError`] if there is no memory for the view.
 pub fn view_of(alloc: Global, machine: &Machine, steps: usize) -> Result<MachineView, AllocError>
     ensures { IfOk result (λ view. view ≡ view_of machine.now steps) }
 {
@@ -66,7 +66,7 @@ fn processor_view(machine: &Machine, processor: u8) -> ProcessorView
     }
 }
 
-/// The shared word to which the reference of a processor goes, where it has one open.
+/// The shared word of a processor's open reference, if one is open.
 fn word_referred(machine: &Machine, processor: u8) -> Option<SharedWord>
     requires { processor < 2 ^ machine.now.config.k }
     ensures { result ≡ word_referred machine.now processor }
@@ -90,7 +90,7 @@ fn shared_word(machine: &Machine, number: u32) -> SharedWord
     }
 }
 
-/// The shared word on which the next turn of a processor acts, if on any.
+/// The shared word that the next turn of a processor acts on, if any.
 #[tactic(auto, unfolding(flat_machine::specs::Turns::fetched))]
 fn next_word(machine: &Machine, processor: u8) -> Option<u32>
     ensures { result ≡ next_word machine.now processor }
@@ -101,7 +101,7 @@ fn next_word(machine: &Machine, processor: u8) -> Option<u32>
     }
 }
 
-/// The shared word on which the next turn of a core acts, in a machine of this many shared words.
+/// The shared word that the next turn of a core acts on, in a machine of this many shared words.
 fn word_of_core(core: &Core, code: &Code, shared_words: u32) -> Option<u32>
     requires { shared_words ≤ 262144 }
     ensures { (s : Setting) → s.shared_words ≡ shared_words →

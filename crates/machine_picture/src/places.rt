@@ -12,7 +12,7 @@ use messages::Record;
 use omega_network::Network;
 use std::alloc::{AllocError, Global};
 
-/// What stands at each place of a network, by depth, and by wire in each.
+/// The views of all places of a network, by depth, and by wire at each depth.
 pub fn place_views(alloc: Global, network: &Network) -> Result<Row<Row<PlaceView>>, AllocError>
     requires { network.now.k ≤ 6 }
     ensures { IfOk result (λ places. places ≡ place_views (net_of network.now) network.now.k) }
@@ -24,7 +24,7 @@ pub fn place_views(alloc: Global, network: &Network) -> Result<Row<Row<PlaceView
     Ok(Row::of(places))
 }
 
-/// What stands at each place of a depth, by wire.
+/// The views of the places at a depth, by wire.
 fn places_at(alloc: Global, network: &Network, depth: u8) -> Result<Row<PlaceView>, AllocError>
     requires { depth ≤ network.now.k }
     ensures { IfOk result (λ places. places ≡ places_at (net_of network.now) network.now.k depth) }
@@ -36,7 +36,7 @@ fn places_at(alloc: Global, network: &Network, depth: u8) -> Result<Row<PlaceVie
     Ok(Row::of(places))
 }
 
-/// What stands at a place.
+/// The view of a place.
 fn place_view(
     alloc: Global,
     network: &Network,

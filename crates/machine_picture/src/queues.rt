@@ -25,7 +25,7 @@ pub fn replies_text(alloc: Global, replies: &[ReplyView]) -> Result<String, Allo
     Ok(text)
 }
 
-/// Records, the oldest at the left: into whose request whose was combined.
+/// Records, the oldest at the left: the leader of each, and its second.
 pub fn records_text(alloc: Global, records: &[Record]) -> Result<String, AllocError> {
     let mut text = String::new(alloc);
     for record in records {
@@ -47,7 +47,7 @@ fn beside(alloc: Global, left: &String, right: &String) -> Result<String, AllocE
     Ok(both)
 }
 
-/// The message of a leader: who leads it, and, where that are more, for whom it stands.
+/// A message: its leader, and its group if that has other members.
 fn message_text(alloc: Global, leader: u8, group: &[u8]) -> Result<String, AllocError> {
     let mut text = String::new(alloc);
     write!(text, "{leader}")?;

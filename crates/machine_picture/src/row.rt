@@ -1,10 +1,10 @@
-//! Lists of a view.
+//! The lists of a view.
 
 ghost use Rattle.std.specs.Prelude.{◌≡◌};
 
 use std::marker::Model;
 
-/// A list of a view, which contracts see as such.
+/// A list of a view. Contracts see it as a mathematical list.
 #[derive(Debug, Drop)]
 pub struct Row<T> {
     items: Vec<T>,
@@ -19,14 +19,14 @@ impl<T> Model for Row<T> {
 }
 
 impl<T> Row<T> {
-    /// The list of these.
+    /// The list of these items.
     pub fn of(items: Vec<T>) -> Self
         ensures { result ≡ items.items }
     {
         Row { items }
     }
 
-    /// What is in it, in its order.
+    /// The items, in order.
     pub fn as_slice(&self) -> &[T]
         ensures { result.now ≡ self.now }
     {

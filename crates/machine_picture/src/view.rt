@@ -8,7 +8,7 @@ use crate::row::Row;
 use flat_machine::{Config, Status};
 use messages::{Record, Reply, Request};
 
-/// All that can be drawn of a machine: what its processors do, and what stands at each place of its network.
+/// All that can be drawn of a machine: what its processors do, and what each place of its network holds.
 #[derive(Debug, Drop)]
 pub struct MachineView {
     /// The machine's size. Its `2^k` processors, wires and modules are numbered from 0, and so are its `k` stages.
@@ -17,8 +17,8 @@ pub struct MachineView {
     pub steps: usize,
     /// The processors, by their numbers.
     pub processors: Row<ProcessorView>,
-    /// The places of the network, by depth from 0 to `k`, and by wire in each. A depth is how many stages lie between
-    /// a place and the processors: at depth 0 stand the processors, and at depth `k` the modules.
+    /// The places of the network, by depth from 0 to `k`, and by wire at each depth. A depth is the number of stages
+    /// between a place and the processors: the processors are at depth 0, and the modules at depth `k`.
     pub places: Row<Row<PlaceView>>,
 }
 
@@ -29,9 +29,9 @@ pub struct ProcessorView {
     pub pc: u32,
     /// Whether it runs, or how it stopped.
     pub status: Status,
-    /// Whether it has sent a request, and has not taken the reply.
+    /// Whether it has sent a request and not yet taken the reply.
     pub is_open: bool,
-    /// The shared word to which its open reference goes. None where it has none open.
+    /// The shared word of its open reference. None if no reference is open.
     pub word: Option<SharedWord>,
 }
 
@@ -40,31 +40,31 @@ pub struct ProcessorView {
 pub struct SharedWord {
     /// Its number, from 0.
     pub number: u32,
-    /// Its value, as its module holds it.
+    /// The value that its module holds.
     pub value: u32,
 }
 
-/// What stands at a place: at a depth, on a wire.
+/// What a place holds, at a depth and on a wire.
 #[derive(Debug, Drop)]
 pub struct PlaceView {
-    /// The requests, the first to go on first. At depth 0 they stand in the slot of the processor of the wire's
-    /// number; at a greater depth in the queue of the output of the switch before, and at depth `k` the module of the
-    /// wire's number serves them.
+    /// The requests, the first to go on first. At depth 0 they are in the slot of the processor with the wire's
+    /// number. At a greater depth they are in the output queue of the switch before, and at depth `k` the module with
+    /// the wire's number serves them.
     pub requests: Row<RequestView>,
     /// The wait buffer of that output, the oldest record first. At depth 0 it is empty.
     pub records: Row<Record>,
-    /// The replies, the first to go on first. At depth `k` they stand in the slot of the module of the wire's number;
-    /// at a smaller depth in the queue of the input of the switch after, and at depth 0 the processor of the wire's
-    /// number takes them.
+    /// The replies, the first to go on first. At depth `k` they are in the slot of the module with the wire's number.
+    /// At a smaller depth they are in the input queue of the switch after, and at depth 0 the processor with the
+    /// wire's number takes them.
     pub replies: Row<ReplyView>,
 }
 
 /// A request on its way.
 #[derive(Debug, Drop)]
 pub struct RequestView {
-    /// The request: its leader, its word, its function, and how often it was combined in the queue where it stands.
+    /// The request: its leader, its word, its function, and how often it was combined in its queue.
     pub request: Request,
-    /// For whom it stands, in the order in which they are served: the leader first.
+    /// The processors that it stands for, in the order in which they are served: the leader first.
     pub group: Row<u8>,
 }
 
@@ -73,12 +73,12 @@ pub struct RequestView {
 pub struct ReplyView {
     /// The reply: its leader, and the value that the leader finds.
     pub reply: Reply,
-    /// For whom it stands, in the order in which they were served: the leader first.
+    /// The processors that it stands for, in the order in which they were served: the leader first.
     pub group: Row<u8>,
 }
 
 impl MachineView {
-    /// What stands at the place of this depth and wire. None where there is no such place.
+    /// The view of the place at this depth and wire. None if there is no such place.
     pub fn place(&self, depth: u8, wire: u8) -> Option<&PlaceView>
         ensures { option_copied result ≡ place_at self.now.places depth wire }
     {

@@ -1,4 +1,4 @@
--- Counts go on with each step.
+-- Each step updates the counts.
 use Rattle.std.proofs.Common.{◌≡◌, ℕ, ◌+◌, ◌<◌, ◌⊎◌, inl, inr, List, [], ◌∷◌, ◌++◌, length, Option, Some, None, refl, sym, ap, ◌∙◌, subst, arith}
 use Rattle.std.specs.Prelude.{slice_set, slice_index, replicate}
 use Rattle.std.proofs.lemmas.List.{get_or-set_same, get_or-set_other, get_or-replicate, length-append, length-replicate, length-set}
@@ -63,7 +63,7 @@ module _ (key : Noted → Option ℕ) (places : ℕ) (xs : List Noted) (counts :
 
 -- ---- all counts
 
--- The counts of no steps are zero, and counts of some steps, after one step more, are those of all of them.
+-- The counts of no step are 0, and the counts of some steps, updated by one more, are those of all of them.
 pub counts_more : CountsGoOn
 counts_more = record {
   none = record {
@@ -101,7 +101,7 @@ noted_more groups [] a = refl
 noted_more groups (x ∷ given_answers) a =
     ap (λ rest. observe x.step x.outcome (size_of groups x.outcome) ∷ rest) (noted_more (groups_after groups x.step x.outcome) given_answers a)
 
--- No answers give no notes, and one answer more gives one note more, after the others.
+-- No answers note no step, and each further answer notes its step, after the others.
 pub notes_more : NotesGoOn
 unfolding noted_of groups_of
 notes_more = record { none = refl; more = λ given_answers a. noted_more no_groups given_answers a }

@@ -1,4 +1,4 @@
--- The rounds that were begun, one step after another, are the fewest.
+-- Rounds counted step by step are the fewest.
 use Rattle.std.proofs.Common.{◌≡◌, ℕ, suc, ◌+◌, ◌≤◌, Bool, true, false, List, [], ◌∷◌, ◌++◌, length, Option, Some, None, refl, sym, ap, ◌∙◌, subst, arith}
 use Rattle.std.specs.Prelude.{filter, if◌then◌else◌}
 use Rattle.std.proofs.lemmas.List.{length-append}
@@ -8,7 +8,7 @@ use Rattle.run_counts.specs.Rounds.{AreOfRounds, IsFewest, IsOfRound, begun_at, 
 
 -- ---- how many are begun by steps that are asked for
 
--- a round more, where the step does not go on with the last one
+-- one round more, unless the step goes on with the last one
 more_by : Bool → ℕ → ℕ
 more_by true n = n
 more_by false n = suc n
@@ -33,7 +33,7 @@ split : Step → List Step → Split
 split s [] = record { first = []; others = [] }
 split s (t ∷ ss) = split_by (comes_before s t) t (split t ss)
 
--- these are rounds, with the steps and this many after the first
+-- The first step and the steps split after it are rounds, and the steps begin as many rounds as the others are.
 record AreSplit (s : Step) (ss : List Step) (t : Split) : Type 0 where
   round : IsOfRound (s ∷ t.first)
   each : AreOfRounds t.others
@@ -62,7 +62,7 @@ are_split s (t ∷ ss) = are_by s t ss (comes_before s t) (split t ss) refl (are
 
 -- ---- and no fewer
 
--- A step that stands in the round of the last one begins none, and any other one.
+-- A step begins one round at most.
 one_at_most : (b : Bool) (n : ℕ) → more_by b n ≤ suc n
 unfolding more_by
 one_at_most true n = omega arith
@@ -101,7 +101,7 @@ fewest_of steps (s ∷ ss) is = (let t = split s ss in let are = are_split s ss 
   least = λ others theirs. subst (λ xs. rounds_from None xs ≤ length others) (theirs.all ∙ is) (least others theirs.each);
 })
 
--- ---- one step after another
+-- ---- step by step
 
 counted_by : (b : Bool) (r : Begun) (s : Step) (ss : List Step) → is_asked s ≡ b →
     ((r' : Begun) → (begun_from r' ss).count ≡ r'.count + rounds_from r'.last (filter is_asked ss)) →
@@ -132,19 +132,19 @@ one_more r s = by (is_asked s) (goes_on r.last s)
     by true false = omega arith
     by false c = omega arith
 
--- These rounds were begun by these steps, no more than there are steps.
+-- These steps began these rounds, at most one round a step.
 pub record AreBegun (steps : List Step) (r : Begun) : Type 0 where
   -- they are those that the steps begin, from none on
   pub is : r ≡ begun_from none_begun steps
   -- they are no more than the steps
   pub few : r.count ≤ length steps
 
--- No steps have begun no rounds.
+-- No steps begin no rounds.
 pub none_are : AreBegun [] none_begun
 unfolding begun_from
 none_are = record { is = refl; few = omega arith }
 
--- If rounds were begun by some steps, those after one step more were begun by these steps and that one.
+-- If some steps began these rounds, they and one more step began the rounds after that step.
 pub more_are : (xs : List Step) (x : Step) (r r' : Begun) → AreBegun xs r → r' ≡ begun_at r x → AreBegun (xs ++ x ∷ []) r'
 more_are xs x r r' are next = record {
   is = next ∙ ap (λ (b : Begun). begun_at b x) are.is ∙ sym (begun_more none_begun xs x);
@@ -152,7 +152,7 @@ more_are xs x r r' are next = record {
       subst (λ (b : Begun). b.count ≤ length (xs ++ x ∷ [])) (sym next) (omega (arith, one, old, all)));
 }
 
--- As many rounds as steps have begun can take these steps, and no fewer.
+-- As many rounds as the steps began can take the steps, and no fewer can.
 pub are_fewest : (steps : List Step) (r : Begun) → AreBegun steps r → IsFewest steps r.count
 are_fewest steps r are =
     subst (IsFewest steps) (sym (ap (λ (b : Begun). b.count) are.is ∙ counted none_begun steps ∙ omega arith))

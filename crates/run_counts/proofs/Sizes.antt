@@ -3,7 +3,7 @@ use Rattle.std.proofs.Common.{◌≡◌, ℕ, suc, ◌+◌, ◌*◌, List, ◌++
 use Rattle.std.specs.Prelude.{slice_index}
 use Rattle.run_counts.specs.Lines.{size_text, sizes_text}
 
--- If the text of the smaller sizes is followed by one size's, it is the text of all sizes up to this one.
+-- The text of the smaller sizes, followed by that of one size, is the text of all sizes up to this one.
 pub sizes_more : (old groups : List ℕ) (m size count : ℕ) (text text2 : List ℕ) → text ≡ old ++ sizes_text groups m size →
     text2 ≡ text ++ size_text size count → count ≡ slice_index groups (m * 65 + size) → text2 ≡ old ++ sizes_text groups m (size + 1)
 unfolding sizes_text

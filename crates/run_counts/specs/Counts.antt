@@ -15,7 +15,7 @@ pub record CountsState : Type 0 where
   pub groups : List ℕ
   pub observed : ℕ
 
--- the most stages, the most processors, and as many modules with groups of 0 to 64 processors
+-- counts of 0 for 5 kinds of step, 6 stages, 64 processors or modules, and groups of 0 to 64 at each module
 abbrev pub no_counts : CountsState
 no_counts = record {
   kinds = replicate 5 0;
@@ -30,7 +30,7 @@ no_counts = record {
   observed = 0;
 }
 
--- one step more
+-- the counts after one more step
 abbrev pub counts_after : CountsState → Noted → CountsState
 counts_after t x = record {
   kinds = bumped t.kinds (key.kind x.step);
@@ -45,7 +45,7 @@ counts_after t x = record {
   observed = t.observed + 1;
 }
 
--- There were this many steps, and each count is of how often what it counts was done.
+-- These are the counts of the steps: how many there were, and how often each key names each of its places.
 pub record AreCounts (observed : List Noted) (t : CountsState) : Type 0 where
   pub all : t.observed ≡ length observed
   pub kinds : AreTimes (λ x. key.kind x.step) 5 observed t.kinds
@@ -60,7 +60,7 @@ pub record AreCounts (observed : List Noted) (t : CountsState) : Type 0 where
 
 -- ---- a law
 
--- Counts of no step are 0, and go on with each step.
+-- The counts of no step are 0, and each further step updates them.
 pub record CountsGoOn : Type 0 where
   pub none : AreCounts [] no_counts
   pub more : (observed : List Noted) (t : CountsState) (x : Noted) → AreCounts observed t →

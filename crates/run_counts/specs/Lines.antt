@@ -27,7 +27,7 @@ total_line t rounds =
     codes "steps " ++ decimal t.observed ++ count_text (codes " turns ") t.kinds 0
     ++ count_text (codes " up ") t.kinds 1 ++ rest_of_total t rounds
 
--- ` requests N records N replies N`: the most that stood at once in one list of the stage
+-- ` requests N records N replies N`: the most that one list of the stage held at once
 unfoldable pub longest_text : Longest → (stage : ℕ) → List ℕ
 longest_text t s =
     codes " requests " ++ decimal (at_stage t Requests s) ++ codes " records " ++ decimal (at_stage t Records s)
@@ -39,11 +39,11 @@ stage_line t longest s =
     codes "stage " ++ decimal s ++ count_text (codes " up ") t.moved s ++ count_text (codes " combined ") t.combined s
     ++ count_text (codes " down ") t.returned s ++ count_text (codes " split ") t.split s ++ longest_text longest s
 
--- ` SIZExCOUNT` where groups of this size were served
+-- ` SIZExCOUNT` if groups of this size were served
 abbrev pub size_text : (size count : ℕ) → List ℕ
 size_text size count = if count == 0 then [] else codes " " ++ decimal size ++ codes "x" ++ decimal count
 
--- the groups at a module of less than this many processors, the smallest first
+-- the groups of fewer than this many processors at a module, the smallest first
 unfoldable pub sizes_text : List ℕ → (at_module sizes : ℕ) → List ℕ
 sizes_text groups m zero = []
 sizes_text groups m (suc size) = sizes_text groups m size ++ size_text size (slice_index groups (m * 65 + size))
@@ -62,12 +62,12 @@ unfoldable pub processor_line : CountsState → (processor : ℕ) → List ℕ
 processor_line t p = codes "processor " ++ decimal p ++ count_text (codes " turns ") t.turns p
     ++ count_text (codes " retired ") t.retired p ++ line_feed
 
--- the lines of the first this many
+-- the lines of all numbers below a count
 abbrev pub first_lines : (line : ℕ → List ℕ) → (count : ℕ) → List ℕ
 first_lines line zero = []
 first_lines line (suc n) = first_lines line n ++ line n
 
--- all lines, of a machine of `2^k` processors
+-- all lines for a machine of `2^k` processors
 unfoldable pub lines_of : (k : ℕ) → CountsState → Longest → (rounds : ℕ) → List ℕ
 lines_of k t longest rounds =
     total_line t rounds ++ first_lines (stage_line t longest) k ++ first_lines (module_line t) (2 ^ k)

@@ -1,4 +1,4 @@
--- The fewest rounds of the sweep in whose order steps stand.
+-- The fewest rounds of the sweep that take steps in their order.
 use Rattle.std.specs.Prelude.{◌≡◌, ℕ, ◌+◌, ◌≤◌, Bool, true, false, ◌==◌, ◌||◌, ◌&&◌, IsTrue}
 use Rattle.std.specs.Prelude.{List, [], ◌∷◌, ◌++◌, Option, Some, None, filter, length, nat_lt, if◌then◌else◌}
 use Rattle.steps.specs.declared.step.Step.{Step}
@@ -7,7 +7,7 @@ use Rattle.run_counts.specs.declared.rounds.Begun.{Begun}
 
 -- ---- the order of a round
 
--- whether a round asks for the step at all: it asks for each but a write from outside
+-- whether a round asks for the step at all: it asks for any but a write from outside
 abbrev pub is_asked : Step → Bool
 is_asked (step.Turn p) = true
 is_asked (step.Up s w) = true
@@ -57,17 +57,17 @@ comes_before (step.Poke q) t = false
 
 -- ---- rounds
 
--- a round asks for the step before the first of these
+-- A round asks for the step before the first of these.
 abbrev pub IsBefore : Step → List Step → Type 0
 IsBefore s [] = Unit {0}
 IsBefore s (t ∷ ss) = IsTrue (comes_before s t)
 
--- One round asks for these steps, one after another.
+-- One round asks for these steps in this order.
 abbrev pub IsOfRound : List Step → Type 0
 IsOfRound [] = Unit {0}
 IsOfRound (s ∷ ss) = IsBefore s ss × IsOfRound ss
 
--- each of these is of one round
+-- Each of these lists is of one round.
 abbrev pub AreOfRounds : List (List Step) → Type 0
 AreOfRounds [] = Unit {0}
 AreOfRounds (round ∷ rounds) = IsOfRound round × AreOfRounds rounds
@@ -77,8 +77,7 @@ abbrev pub steps_of : List (List Step) → List Step
 steps_of [] = []
 steps_of (round ∷ rounds) = round ++ steps_of rounds
 
--- Each of the steps, but for the writes from outside, is taken in one of these rounds, and they stand in the rounds'
--- order.
+-- These rounds, one after another, take the steps in their order, except the writes from outside.
 pub record AreRounds (steps : List Step) (rounds : List (List Step)) : Type 0 where
   pub each : AreOfRounds rounds
   pub all : steps_of rounds ≡ filter is_asked steps
@@ -90,17 +89,17 @@ pub record IsFewest (steps : List Step) (count : ℕ) : Type 0 where
   pub many : length rounds ≡ count
   pub least : (others : List (List Step)) → AreRounds steps others → count ≤ length others
 
--- ---- rounds that are begun, one step after another
+-- ---- rounds, counted step by step
 
 abbrev pub none_begun : Begun
 none_begun = record { count = 0; last = None }
 
--- the step stands in the round of the last one
+-- whether the step is in the same round as the last one
 abbrev pub goes_on : Option Step → Step → Bool
 goes_on None s = false
 goes_on (Some last) s = comes_before last s
 
--- a step that is asked for stands in the last round, or begins another
+-- the rounds after a step that a round asks for: it is in the last round, or begins another
 abbrev pub begun_with : Begun → Step → Begun
 begun_with r s = record { count = if goes_on r.last s then r.count else r.count + 1; last = Some s }
 

@@ -6,11 +6,11 @@ ghost use Rattle.run_counts.specs.Counting.{AreBelow, bumped, bumped_at};
 use std::alloc::{AllocError, Global};
 use std::marker::Model;
 
-/// This many counts, each at a place from 0 on.
+/// A list of counts, one for each place from 0.
 #[derive(Debug, Drop)]
 pub(crate) struct Counters {
     counts: Vec<u64>,
-    /// How many steps are noted.
+    /// How many steps were observed.
     observed: u64,
 }
 
@@ -25,11 +25,11 @@ impl Model for Counters {
 }
 
 impl Counters {
-    /// This many counts, which are 0.
+    /// Makes this many counts of 0.
     ///
     /// # Errors
     ///
-    /// [`AllocError`] where there is no memory for them.
+    /// [`AllocError`] if there is no memory for them.
     pub fn new(alloc: Global, places: u16) -> Result<Self, AllocError>
         ensures { IfOk result (λ c. c ≡ record { counts = replicate places 0; observed = 0 }) }
     {
@@ -43,7 +43,7 @@ impl Counters {
         })
     }
 
-    /// Notes a step, by which the count at this place goes up, if at any.
+    /// Observes a step, which increases the count at this place, if any.
     pub fn observe(&mut self, place: Option<u16>)
         requires { self.old.observed + 1 < 2 ^ 64 }
         ensures counts { self.new.counts ≡ bumped self.old.counts place }
@@ -55,7 +55,7 @@ impl Counters {
         }
     }
 
-    /// The count at this place goes up, if there is one.
+    /// Increases the count at this place, if there is one.
     fn bump(&mut self, place: usize)
         requires { AreBelow self.old }
         ensures counts { self.new.counts ≡ bumped_at self.old.counts place }
@@ -66,7 +66,7 @@ impl Counters {
         }
     }
 
-    /// The count at a place, and 0 where there is none.
+    /// The count at a place, or 0 if there is none.
     pub fn at(&self, place: u16) -> u64
         ensures { result ≡ slice_index self.now.counts place }
     {
@@ -76,7 +76,7 @@ impl Counters {
         }
     }
 
-    /// How many steps are noted.
+    /// How many steps were observed.
     pub fn observed(&self) -> u64
         ensures { result ≡ self.now.observed }
     {

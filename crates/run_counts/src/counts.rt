@@ -10,8 +10,8 @@ use std::alloc::{AllocError, Global};
 use std::marker::Model;
 use steps::{Outcome, Step};
 
-/// What the steps that are noted did: how many there were of each kind, of moves by stage, of services by module, and
-/// of turns by processor.
+/// Counts of what the observed steps did: of steps by kind, of moves by stage, of services by module, and of turns by
+/// processor.
 #[derive(Debug, Drop)]
 pub struct Counts {
     pub(crate) kinds: Counters,
@@ -52,11 +52,11 @@ impl Model for Counts {
 }
 
 impl Counts {
-    /// No step is noted.
+    /// The counts before any step, which are 0.
     ///
     /// # Errors
     ///
-    /// [`AllocError`] where there is no memory for the counts.
+    /// [`AllocError`] if there is no memory for the counts.
     pub fn new(alloc: Global) -> Result<Self, AllocError>
         ensures { IfOk result (λ c. c ≡ no_counts) }
     {
@@ -73,7 +73,7 @@ impl Counts {
         })
     }
 
-    /// Notes what a step did, and for how many processors a module has served.
+    /// Observes a step and its outcome. `size` is the number of processors for which a module served.
     pub fn observe(&mut self, step: &Step, outcome: &Outcome, size: usize)
         requires { self.old.observed + 1 < 2 ^ 64 }
         ensures { self.new ≡ counts_after self.old (observe step.now outcome.now size) }
@@ -89,7 +89,7 @@ impl Counts {
         self.groups.observe(keys::group(step, outcome, size));
     }
 
-    /// How many steps are noted.
+    /// How many steps were observed.
     pub fn observed(&self) -> u64
         ensures { result ≡ self.now.observed }
     {

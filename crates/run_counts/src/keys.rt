@@ -1,4 +1,4 @@
-//! By which step which count goes up.
+//! Which count each step increases.
 
 ghost use Rattle.std.specs.Prelude.{◌≡◌};
 ghost use Rattle.run_counts.specs.Keys as keys;
@@ -8,7 +8,7 @@ use steps::{Outcome, Step};
 /// One more than the most processors in a group.
 const SIZES: u16 = 65;
 
-/// The place of a step's kind: turns, moves of requests, services, moves of replies and writes from outside.
+/// The kind of a step: a turn, a move of a request, a service, a move of a reply, or a write from outside.
 pub(crate) fn kind(step: &Step) -> Option<u16>
     ensures { result ≡ keys.kind step.now }
 {
@@ -21,7 +21,7 @@ pub(crate) fn kind(step: &Step) -> Option<u16>
     }
 }
 
-/// Of a turn its processor.
+/// The processor of a turn.
 pub(crate) fn turn(step: &Step) -> Option<u16>
     ensures { result ≡ keys.turn step.now }
 {
@@ -31,7 +31,7 @@ pub(crate) fn turn(step: &Step) -> Option<u16>
     }
 }
 
-/// Of a move of a request its stage.
+/// The stage of a request's move.
 fn rise(step: &Step) -> Option<u16>
     ensures { result ≡ keys.rise step.now }
 {
@@ -41,7 +41,7 @@ fn rise(step: &Step) -> Option<u16>
     }
 }
 
-/// Of a service its module.
+/// The module of a service.
 pub(crate) fn service(step: &Step) -> Option<u16>
     ensures { result ≡ keys.service step.now }
 {
@@ -51,7 +51,7 @@ pub(crate) fn service(step: &Step) -> Option<u16>
     }
 }
 
-/// Of a move of a reply its stage.
+/// The stage of a reply's move.
 fn return_of(step: &Step) -> Option<u16>
     ensures { result ≡ keys.return step.now }
 {
@@ -61,7 +61,7 @@ fn return_of(step: &Step) -> Option<u16>
     }
 }
 
-/// The processor whose instruction has retired.
+/// The processor whose instruction retired.
 pub(crate) fn retired(step: &Step, outcome: &Outcome) -> Option<u16>
     ensures { result ≡ keys.retired step.now outcome.now }
 {
@@ -71,7 +71,7 @@ pub(crate) fn retired(step: &Step, outcome: &Outcome) -> Option<u16>
     }
 }
 
-/// The stage at which a request went on alone.
+/// The stage through which a request moved without being combined.
 pub(crate) fn moved(step: &Step, outcome: &Outcome) -> Option<u16>
     ensures { result ≡ keys.moved step.now outcome.now }
 {
@@ -91,7 +91,7 @@ pub(crate) fn combined(step: &Step, outcome: &Outcome) -> Option<u16>
     }
 }
 
-/// The stage at which a reply went on as one.
+/// The stage through which a reply moved without being split.
 pub(crate) fn returned(step: &Step, outcome: &Outcome) -> Option<u16>
     ensures { result ≡ keys.returned step.now outcome.now }
 {
@@ -111,7 +111,7 @@ pub(crate) fn split(step: &Step, outcome: &Outcome) -> Option<u16>
     }
 }
 
-/// Where the table of all modules and sizes has a module that has served a group of this size.
+/// The place of the module that served a group of this size, in the table of all modules and sizes.
 pub(crate) fn group(step: &Step, outcome: &Outcome, size: usize) -> Option<u16>
     ensures { result ≡ keys.group step.now outcome.now size }
 {

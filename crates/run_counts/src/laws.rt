@@ -3,8 +3,7 @@
 ghost use Rattle.run_counts.specs.Counting.{NotesGoOn};
 ghost use Rattle.run_counts.specs.Counts.{CountsGoOn};
 
-/// The counts of no step are 0, and those of one step more are the counts, each gone up where the step is one that it
-/// counts.
+/// The counts of no step are 0, and each further step increases the counts that count it.
 #[tactic(auto, using(crate::proofs::Going::counts_more, crate::proofs::Going::notes_more))]
 pub fn counts_go_on()
     ensures counts { CountsGoOn }

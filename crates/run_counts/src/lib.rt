@@ -1,8 +1,7 @@
 //! Counts of what the steps of a run did: by kind, by stage, by module and by processor.
 //!
-//! `specs/Keys.antt` says by which step which count goes up, `specs/Counting.antt` what a count is (`times`), and
-//! `specs/Lines.antt` has the lines that are printed. [`Counts`] goes on with each step, and [`counts_text`] makes the
-//! lines.
+//! `specs/Keys.antt` says which count each step increases, `specs/Counting.antt` what a count is (`times`), and
+//! `specs/Lines.antt` which lines are printed. [`Counts`] observes each step, and [`counts_text`] makes the lines.
 #![tactic(auto)]
 
 mod counters;

@@ -10,12 +10,11 @@ use crate::longest::{Held, Longest};
 use std::alloc::{AllocError, Global};
 use std::fmt::Write;
 
-/// The lines of the counts of a machine of `2^k` processors, and of its longest queues and of so
-/// many rounds.
+/// The lines of the counts, longest queues and rounds of a machine of `2^k` processors.
 ///
 /// # Errors
 ///
-/// [`AllocError`] where there is no memory for them.
+/// [`AllocError`] if there is no memory for them.
 #[tactic(auto, unfolding(crate::specs::Lines::lines_of))]
 pub fn counts_text(
     alloc: Global,
@@ -48,7 +47,7 @@ fn push_total(text: &mut String, counts: &Counts, rounds: usize) -> Result<(), A
     push_rest(text, counts, rounds)
 }
 
-/// Appends how many services there were, moves of replies, writes from outside and rounds.
+/// Appends how many services, moves of replies, writes from outside and rounds there were.
 #[tactic(auto, unfolding(crate::specs::Lines::rest_of_total))]
 fn push_rest(text: &mut String, counts: &Counts, rounds: usize) -> Result<(), AllocError>
     ensures { OnOk result (string_bytes text.new ≡ string_bytes text.old ++ rest_of_total counts.now rounds) }
@@ -76,8 +75,8 @@ fn push_stages(
     Ok(())
 }
 
-/// Appends how many messages were moved through a stage, how many were combined there and split, and how long its
-/// queues were.
+/// Appends how many messages moved through a stage, were combined there and were split there, and how long its queues
+/// grew.
 #[tactic(auto, unfolding(crate::specs::Lines::stage_line))]
 fn push_stage(
     text: &mut String,
@@ -99,7 +98,7 @@ fn push_stage(
     push_longest(text, longest, stage)
 }
 
-/// Appends the most that stood at once in one list of a stage.
+/// Appends the most that one list of a stage held at once.
 #[tactic(auto, unfolding(crate::specs::Lines::longest_text))]
 fn push_longest(text: &mut String, longest: &Longest, stage: u8) -> Result<(), AllocError>
     ensures { OnOk result (string_bytes text.new ≡ string_bytes text.old ++ longest_text longest.now stage) }
@@ -124,7 +123,7 @@ fn push_modules(text: &mut String, counts: &Counts, modules: u8) -> Result<(), A
     Ok(())
 }
 
-/// Appends how many references a module has served, and how many of them for this many processors.
+/// Appends how many requests a module served, and for groups of which sizes.
 #[tactic(auto, unfolding(crate::specs::Lines::module_line))]
 fn push_module(text: &mut String, counts: &Counts, at: u8) -> Result<(), AllocError>
     ensures { OnOk result (string_bytes text.new ≡ string_bytes text.old ++ module_line counts.now at) }
@@ -135,7 +134,7 @@ fn push_module(text: &mut String, counts: &Counts, at: u8) -> Result<(), AllocEr
     text.push('\n')
 }
 
-/// Appends how many groups of each size a module has served.
+/// Appends how many groups of each size a module served.
 #[tactic(auto, unfolding(crate::specs::Lines::module_sizes))]
 fn push_sizes(text: &mut String, counts: &Counts, at: u8) -> Result<(), AllocError>
     ensures { OnOk result (string_bytes text.new ≡ string_bytes text.old ++ module_sizes counts.now.groups at) }
@@ -143,7 +142,7 @@ fn push_sizes(text: &mut String, counts: &Counts, at: u8) -> Result<(), AllocErr
     push_first_sizes(text, counts, at, 65)
 }
 
-/// Appends how many groups of each of the first sizes a module has served.
+/// Appends how many groups of each size below `sizes` a module served.
 #[tactic(auto, unfolding(crate::specs::Lines::sizes_text))]
 fn push_first_sizes(text: &mut String, counts: &Counts, at: u8, sizes: u8) -> Result<(), AllocError>
     ensures { OnOk result (string_bytes text.new ≡ string_bytes text.old ++ sizes_text counts.now.groups at sizes) }
@@ -155,7 +154,7 @@ fn push_first_sizes(text: &mut String, counts: &Counts, at: u8, sizes: u8) -> Re
     Ok(())
 }
 
-/// How many groups of a size a module has served.
+/// How many groups of a size a module served.
 fn count_of(counts: &Counts, at: u8, size: u8) -> u64
     ensures { result ≡ slice_index counts.now.groups (at * 65 + size) }
 {
@@ -184,7 +183,7 @@ fn push_processors(text: &mut String, counts: &Counts, processors: u8) -> Result
     Ok(())
 }
 
-/// Appends how many turns a processor had, and how many instructions of it retired.
+/// Appends how many turns a processor had, and how many of its instructions retired.
 #[tactic(auto, unfolding(crate::specs::Lines::processor_line))]
 fn push_processor(text: &mut String, counts: &Counts, p: u8) -> Result<(), AllocError>
     ensures { OnOk result (string_bytes text.new ≡ string_bytes text.old ++ processor_line counts.now p) }

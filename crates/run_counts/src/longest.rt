@@ -6,7 +6,7 @@ ghost use Rattle.run_counts.specs.Longest.{at_stage, no_longest, with_longest};
 /// The most stages of a network.
 const STAGES: usize = 6;
 
-/// What the lists of an output of a switch, or of an input, hold.
+/// What a list at an output or an input of a switch holds.
 #[derive(Clone, Copy, Debug, PartialEq, Eq, Drop)]
 pub enum Held {
     /// Requests, in the queue of an output.
@@ -17,20 +17,20 @@ pub enum Held {
     Replies,
 }
 
-/// For each stage the most requests that stood at once in a queue of one of its switches, the most records in a
-/// wait buffer, and the most replies in a queue.
+/// For each stage, the most requests that one queue of its switches held at once, the most records in one wait buffer,
+/// and the most replies in one queue.
 #[derive(Clone, Copy, Debug, PartialEq, Eq, Drop)]
 pub struct Longest {
-    /// By stages.
+    /// By stage.
     pub requests: [usize; STAGES],
-    /// By stages.
+    /// By stage.
     pub records: [usize; STAGES],
-    /// By stages.
+    /// By stage.
     pub replies: [usize; STAGES],
 }
 
 impl Longest {
-    /// Nothing has stood anywhere.
+    /// The numbers for lists that were always empty.
     pub fn none() -> Self
         ensures { result ≡ no_longest }
     {
@@ -41,7 +41,7 @@ impl Longest {
         }
     }
 
-    /// The most of them that stood at once in one list of a stage. 0 where there is no such stage.
+    /// The most of them that one list of a stage held at once. 0 if there is no such stage.
     pub fn at(&self, held: Held, stage: u8) -> usize
         ensures { result ≡ at_stage self.now held stage }
     {
@@ -56,7 +56,7 @@ impl Longest {
         }
     }
 
-    /// From now on this many are the most in one list of a stage.
+    /// Sets the most that one list of a stage held at once.
     pub fn set(&mut self, held: Held, stage: u8, most: usize)
         requires { stage < 6 }
         ensures { self.new ≡ with_longest self.old held stage most }

@@ -7,7 +7,7 @@ ghost use Rattle.run_counts.specs.Rounds.{goes_on, is_asked};
 
 use steps::Step;
 
-/// The rounds of the sweep that were begun.
+/// The rounds of the sweep that the steps so far began.
 #[derive(Clone, Copy, Debug, PartialEq, Eq, Drop)]
 struct Begun {
     count: usize,
@@ -15,8 +15,9 @@ struct Begun {
     last: Option<Step>,
 }
 
-/// The fewest rounds of the sweep that take these steps in their order: turns, moves of requests, the last stage
-/// first, services, and moves of replies, the first stage first. A write from outside is of no round.
+/// The fewest rounds of the sweep that take these steps in their order. A round takes turns, then moves of requests
+/// from the last stage on, then services, then moves of replies from the first stage on. A write from outside is of
+/// no round.
 pub fn rounds_of(steps: &[Step]) -> usize
     ensures { IsFewest steps.now result }
 {
@@ -30,7 +31,7 @@ pub fn rounds_of(steps: &[Step]) -> usize
     begun.count
 }
 
-/// The rounds that were begun when one step more was taken.
+/// The rounds begun after one more step.
 fn after(begun: Begun, step: &Step) -> Begun
     requires { begun.count + 1 < 2 ^ 64 }
     ensures { result ≡ begun_at begun step.now }
@@ -59,7 +60,7 @@ fn is_asked(step: &Step) -> bool
     }
 }
 
-/// Whether a step stands in the round of the last one.
+/// Whether a step is in the same round as the last one.
 fn goes_on(last: &Option<Step>, step: &Step) -> bool
     ensures { result ≡ goes_on last.now step.now }
 {

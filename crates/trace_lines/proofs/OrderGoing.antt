@@ -1,11 +1,11 @@
--- The lines of a list go on with each entry.
+-- Each entry adds its line to those of a list.
 use Rattle.std.proofs.Common.{◌≡◌, ◌+◌, [], ◌∷◌, ◌++◌, length, sym, ap, ◌∙◌, append_assoc, arith}
 use Rattle.std.proofs.lemmas.List.{append-nil}
 use Rattle.flat_machine.specs.Flat.{flat_run, flat_step}
 use Rattle.trace_lines.specs.OrderLines.{chosen_line, lines_from}
 use Rattle.trace_lines.specs.Laws.{LinesGoOn}
 
--- One entry more is one line more, in the flat machine that has taken the entries before it.
+-- An entry at the end of a list adds its line, in the flat machine that has taken the entries before it.
 pub lines_more : LinesGoOn
 lines_more choice m number [] e = append-nil (chosen_line choice m number e) ∙ ap (λ n. chosen_line choice m n e) (omega arith)
 lines_more choice m number (x ∷ xs) e =

@@ -1,4 +1,4 @@
--- The story of a run goes on with each step.
+-- Each step adds its line to the story of a run.
 use Rattle.std.proofs.Common.{◌≡◌, ℕ, ◌+◌, List, [], ◌∷◌, ◌++◌, length, refl, sym, ap, ◌∙◌, append_assoc, arith}
 use Rattle.std.proofs.lemmas.List.{append-nil}
 use Rattle.steps.specs.Answered.{Answer}
@@ -22,7 +22,7 @@ lines_more groups number (x ∷ given_answers) a =
     ∙ sym (append_assoc (line_of groups number x.step x.outcome) (lines_from next (number + 1) given_answers)
     (line_of (groups_from next given_answers) (number + length (x ∷ given_answers)) a.step a.outcome))
 
--- The story of no steps has no line, and one step more is one line more.
+-- The story of no step is empty, and a step at the end of a run adds its line.
 pub stories_more : StoriesGoOn
 unfolding story_of groups_of
 stories_more = record {
@@ -40,7 +40,7 @@ members_end (q ∷ ps) p =
     ap (λ rest. (codes " " ++ decimal q) ++ rest) (members_end ps p)
     ∙ sym (append_assoc (codes " " ++ decimal q) (members_text ps) (codes " " ++ decimal p))
 
--- If the text of some members is followed by one more member, it is the text of them all.
+-- The text of some members, followed by one more, is the text of them all.
 pub members_more : (old done : List ℕ) (p : ℕ) (more text text2 : List ℕ) → more ≡ done ++ p ∷ [] → text ≡ old ++ members_text done →
     text2 ≡ text ++ (codes " " ++ decimal p) → text2 ≡ old ++ members_text more
 members_more old done p more text text2 is before after =

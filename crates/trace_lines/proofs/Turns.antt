@@ -1,4 +1,4 @@
--- The shared word that a turn acts on is that of its effect, and the event says the instruction.
+-- A turn acts on the shared word of its effect, and its event names the instruction.
 use Rattle.std.proofs.Common.{◌≡◌, ℕ, ◌*◌, ◌%◌, Bool, true, false, List, Option, Some, None, refl, sym, ap, ◌∙◌, subst}
 use Rattle.std.specs.Prelude.{Result, Ok, Err, ◌==◌, slice_get, if◌then◌else◌}
 use Rattle.rv_table.specs.declared.insn.Insn.{Insn}
@@ -88,7 +88,7 @@ call_word : (s : Setting) (a7 a0 : ℕ) → word_of_effect s (call_of s a7 a0) �
 unfolding call_of
 call_word s a7 a0 = call_cases s (a7 == 0) (a7 == 1) (a7 == 2) (a7 == 3) (a0 % 256) s.number s.processors
 
--- An instruction that is no load, no store and no AMO acts on no shared word.
+-- An instruction other than a load, a store or an AMO acts on no shared word.
 pub local_word : (s : Setting) (pc : ℕ) (registers : List ℕ) (i : Insn) →
     ((op : LoadOp) (rd rs1 imm : ℕ) → i ≡ Load op rd rs1 imm → ⊥) → ((op : StoreOp) (rs1 rs2 imm : ℕ) → i ≡ Store op rs1 rs2 imm → ⊥) →
     ((op : AmoOp) (rd rs1 rs2 : ℕ) (aq rl : Bool) → i ≡ Amo op rd rs1 rs2 aq rl → ⊥) → word_of_effect s (effect_of s pc registers i) ≡ None
@@ -109,30 +109,30 @@ local_word s pc registers Ecall no_load no_store no_amo = call_word s (register_
 local_word s pc registers Ebreak no_load no_store no_amo = refl
 local_word s pc registers (Amo op rd rs1 rs2 aq rl) no_load no_store no_amo = absurd (no_amo op rd rs1 rs2 aq rl refl)
 
--- ---- instructions that do
+-- ---- instructions that act on one
 
--- The shared word that a load acts on, if any, is the one in which its address lies.
+-- A load acts on the shared word at its address, if there is one.
 pub load_word : (s : Setting) (pc : ℕ) (registers : List ℕ) (i : Insn) (op : LoadOp) (rd rs1 imm size address : ℕ) → i ≡ Load op rd rs1 imm →
     size ≡ load_size op → address ≡ plus (register_of registers rs1) (extended 12 imm) →
     word_of_effect s (effect_of s pc registers i) ≡ word_of_region (region_of s size address false)
 unfolding effect_of
 load_word s pc registers i op rd rs1 imm size address is size_is address_is = rw (is, size_is, address_is) refl
 
--- The shared word that a store acts on, if any, is the one in which its address lies.
+-- A store acts on the shared word at its address, if there is one.
 pub store_word : (s : Setting) (pc : ℕ) (registers : List ℕ) (i : Insn) (op : StoreOp) (rs1 rs2 imm size address : ℕ) → i ≡ Store op rs1 rs2 imm →
     size ≡ store_size op → address ≡ plus (register_of registers rs1) (extended 12 imm) →
     word_of_effect s (effect_of s pc registers i) ≡ word_of_region (region_of s size address true)
 unfolding effect_of
 store_word s pc registers i op rs1 rs2 imm size address is size_is address_is = rw (is, size_is, address_is) refl
 
--- The shared word that an AMO acts on, if any, is the one in which its address lies.
+-- An AMO acts on the shared word at its address, if there is one.
 pub amo_word : (s : Setting) (pc : ℕ) (registers : List ℕ) (i : Insn) (op : AmoOp) (rd rs1 rs2 : ℕ) (aq rl : Bool) (address : ℕ) →
     i ≡ Amo op rd rs1 rs2 aq rl → address ≡ register_of registers rs1 →
     word_of_effect s (effect_of s pc registers i) ≡ word_of_region (region_of s 4 address true)
 unfolding effect_of
 amo_word s pc registers i op rd rs1 rs2 aq rl address is address_is = rw (is, address_is) refl
 
--- the word of an instruction's effect, by the registers, is its turn's
+-- A turn acts on the same word as its instruction's effect with the same registers.
 pub turn_word : (s : Setting) (code : List ℕ) (p : Processor) (i : Insn) (registers : List ℕ) (word : Option ℕ) → p.registers ≡ registers →
     word_of_effect s (effect_of s p.pc registers i) ≡ word →
     word_of_turn (performed s code p i (effect_of s p.pc p.registers i)) ≡ word
@@ -141,7 +141,7 @@ turn_word s code p i registers word same e =
 
 -- ---- events
 
--- a turn says its instruction
+-- An event that retires an instruction retires this one.
 abbrev pub Tells : Insn → Event → Type 0
 Tells i (event.Retired r) = r.insn ≡ i
 Tells i (event.Stopped c) = Unit {0}
@@ -173,7 +173,7 @@ performed_tells shared s code p i (does.Print byte) = refl
 performed_tells shared s code p i (does.Halt byte) = tt
 performed_tells shared s code p i (does.Fail fault) = tt
 
--- the instruction that is fetched is the event's
+-- A turn whose event retires an instruction acts on the same word as that instruction.
 fetched_word : (shared : List ℕ) (s : Setting) (code : List ℕ) (p : Processor) (f : Result Insn Fault) (r : Retired) →
     (taken p shared (turn_by s code p f)).2 ≡ event.Retired r →
     word_of_turn (turn_by s code p f) ≡ word_of_turn (performed s code p r.insn (effect_of s p.pc p.registers r.insn))
@@ -190,7 +190,7 @@ running_event : (m : FlatState) (k : ℕ) (p : Processor) (running : Bool) (show
 running_event m k p true shown e = some_event (step_of m k p).2 shown e
 running_event m k p false shown e = absurd (cc)
 
--- A turn that retires an instruction acts on the shared word that this instruction acts on, if on any.
+-- A turn that retires an instruction acts on the same shared word as the instruction, if on any.
 pub retired_words : RetiredTurnsHaveWords
 unfolding flat_event
 retired_words m k p r there e =

@@ -1,4 +1,4 @@
--- The lines of a serial order: what each entry does in the flat machine that has taken those before it.
+-- The lines of a serial order: what each entry does in the flat machine that has taken the entries before it.
 use Rattle.std.specs.Prelude.{ℕ, ◌+◌, Bool, true, false, ◌==◌, ◌&&◌, List, [], ◌∷◌, ◌++◌, Option, Some, None, slice_get}
 use Rattle.std.specs.Prelude.{if◌then◌else◌}
 use Rattle.flat_machine.specs.declared.event.Event.{Event}
@@ -11,36 +11,36 @@ use Rattle.trace_lines.specs.declared.reference.Reference.{Reference}
 use Rattle.trace_lines.specs.References.{processor_of, reference_of, word_of}
 use Rattle.trace_lines.specs.OrderTexts.{poke_line, turn_line}
 
--- the line of a turn of processor k that stands in this state and shows this event; none where it takes no instruction
+-- the line of a turn of processor k, in this state before it, that shows this event; empty if it shows none
 abbrev pub line_of_turn : (number k : ℕ) → Option Processor → Option Event → Option Reference → List ℕ
 line_of_turn number k (Some p) (Some event) reference = turn_line number k p.pc event reference
 line_of_turn number k (Some p) None reference = []
 line_of_turn number k None event reference = []
 
--- The line of an entry with this number, in the flat machine before it. An entry that does nothing has none: a
--- processor's that takes no instruction, and an unlawful poke.
+-- The line of the entry with this number, in the flat machine before it. It is empty if the entry does nothing: a turn
+-- of a stopped processor, or an unlawful poke.
 abbrev pub line_of : FlatState → (number : ℕ) → Entry → List ℕ
 line_of m number (entry.Processor k) =
     line_of_turn number k (slice_get m.processors k) (flat_event m (entry.Processor k))
     (reference_of m (entry.Processor k))
 line_of m number (entry.Poke q) = if is_lawful m q then poke_line number q (reference_of m (entry.Poke q)) else []
 
--- whether something is what is chosen, where something is
+-- whether an entry's number, if it has one, is the chosen one; true if none is chosen
 abbrev pub is_chosen : (chosen there : Option ℕ) → Bool
 is_chosen None there = true
 is_chosen (Some n) None = false
 is_chosen (Some n) (Some m) = n == m
 
--- the lines of one processor, or those that act on one shared word, or both, or all
+-- whether a choice takes an entry of this processor that acts on this shared word
 abbrev pub takes : Choice → (processor word : Option ℕ) → Bool
 takes choice processor word = is_chosen choice.processor processor && is_chosen choice.word word
 
--- the line of an entry, where it is chosen
+-- the line of an entry if it is chosen, and nothing otherwise
 abbrev pub chosen_line : Choice → FlatState → (number : ℕ) → Entry → List ℕ
 chosen_line choice m number e = if takes choice (processor_of e) (word_of m e) then line_of m number e else []
 
--- The lines of a list of entries, one after another, each in the flat machine that has taken those before it. They are
--- numbered whether they are chosen or not.
+-- The lines of a list of entries, each in the flat machine that has taken the entries before it. Entries that are not
+-- chosen are numbered too.
 abbrev pub lines_from : Choice → FlatState → (number : ℕ) → List Entry → List ℕ
 lines_from choice m number [] = []
 lines_from choice m number (e ∷ es) = chosen_line choice m number e ++ lines_from choice (flat_step m e) (number + 1) es

@@ -10,12 +10,12 @@ use Rattle.flat_machine.specs.State.{status_of}
 use Rattle.command_io.specs.Digits.{hex_of_byte, hex_of_word, line_feed, status_text}
 use Rattle.trace_lines.specs.declared.reference.Reference.{Reference}
 
--- ` = VVVVVVVV`: the value that a register got
+-- ` = VVVVVVVV`: the value written to a register
 abbrev pub result_text : Option ℕ → List ℕ
 result_text None = []
 result_text (Some value) = codes " = " ++ hex_of_word value
 
--- ` console BB`: the byte that went to the console
+-- ` console BB`: the byte written to the console
 abbrev pub console_text : Option ℕ → List ℕ
 console_text None = []
 console_text (Some byte) = codes " console " ++ hex_of_byte byte
@@ -26,7 +26,7 @@ reference_text None = []
 reference_text (Some r) = codes " word " ++ decimal r.word ++ codes " " ++ hex_of_word r.before ++ codes " "
     ++ hex_of_word r.after
 
--- the instruction, and what it gave; or how the processor stopped, as `halt HH` or `fault N`
+-- the instruction and its results, or how the processor stopped, as `halt HH` or `fault N`
 abbrev pub event_text : Event → List ℕ
 event_text (Retired r) = text_of r.insn ++ result_text r.result ++ console_text r.out
 event_text (Stopped cause) = status_text (status_of cause)
@@ -41,13 +41,13 @@ turn_line number processor pc event reference =
 abbrev pub register_text : ℕ → List ℕ
 register_text register = if register == 32 then codes "pc" else codes "x" ++ decimal register
 
--- the processor that a poke writes to, or `-` where it writes to a shared word
+-- the processor that a poke writes to, or `-` if it writes to a shared word
 abbrev pub owner_text : Poke → List ℕ
 owner_text (poke.Register k register value) = decimal k
 owner_text (poke.Local k address value) = decimal k
 owner_text (poke.Shared address value) = codes "-"
 
--- which register it writes, or the address of which byte, and what
+-- the register that a poke writes, or the address of the byte, and the new value
 abbrev pub written_text : Poke → List ℕ
 written_text (poke.Register k register value) = register_text register ++ codes " " ++ hex_of_word value
 written_text (poke.Local k address value) = hex_of_word address ++ codes " " ++ hex_of_byte value

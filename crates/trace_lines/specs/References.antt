@@ -1,4 +1,4 @@
--- Which shared word an entry of a serial order acts on, and whose entry it is.
+-- The shared word that an entry of a serial order acts on, and the entry's processor.
 use Rattle.std.specs.Prelude.{ℕ, ◌-◌, ◌/◌, ◌^◌, List, Option, Some, None, Result, Ok, Err, slice_get, slice_index}
 use Rattle.flat_machine.specs.declared.effect.Region.{Region}
 use Rattle.flat_machine.specs.declared.effect.Region.TheVariants as region
@@ -30,7 +30,7 @@ abbrev pub word_of_processor : FlatState → ℕ → Option Processor → Option
 word_of_processor m k None = None
 word_of_processor m k (Some p) = word_of_turn (turn_of (setting_of m k) m.code p)
 
--- the shared word of which a poke writes a byte
+-- the shared word in which a poke writes a byte
 abbrev pub word_of_poke : Poke → Option ℕ
 word_of_poke (poke.Register k register value) = None
 word_of_poke (poke.Local k address value) = None
@@ -40,7 +40,7 @@ abbrev pub word_of : FlatState → Entry → Option ℕ
 word_of m (entry.Processor k) = word_of_processor m k (slice_get m.processors k)
 word_of m (entry.Poke q) = word_of_poke q
 
--- the processor in which a poke writes
+-- the processor whose register or local memory a poke writes
 abbrev pub processor_of_poke : Poke → Option ℕ
 processor_of_poke (poke.Register k register value) = Some k
 processor_of_poke (poke.Local k address value) = Some k
@@ -50,7 +50,7 @@ abbrev pub processor_of : Entry → Option ℕ
 processor_of (entry.Processor k) = Some k
 processor_of (entry.Poke q) = processor_of_poke q
 
--- A shared word with its values in two lists of the words.
+-- a shared word with its values in two lists of words
 abbrev pub referred : (before after : List ℕ) → (word : Option ℕ) → Option Reference
 referred before after None = None
 referred before after (Some word) =

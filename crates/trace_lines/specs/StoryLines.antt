@@ -14,7 +14,7 @@ unfoldable pub line_of : List (List ℕ) → (number : ℕ) → Step → Outcome
 line_of groups number s o = decimal number ++ codes " " ++ step_text s ++ codes ": " ++ outcome_text groups s o
     ++ line_feed
 
--- the lines of a list of steps, numbered from a number on
+-- the lines of a list of steps, numbered from this number
 abbrev pub lines_from : List (List ℕ) → (number : ℕ) → List Answer → List ℕ
 lines_from groups number [] = []
 lines_from groups number (a ∷ given_answers) = line_of groups number a.step a.outcome
@@ -26,7 +26,7 @@ story_of answers = lines_from no_groups 0 answers
 
 -- ---- a law
 
--- One step more is one line more.
+-- The story of no step is empty, and a step at the end of a run adds its line.
 pub record StoriesGoOn : Type 0 where
   pub none : story_of [] ≡ []
   pub story : (given_answers : List Answer) (a : Answer) →

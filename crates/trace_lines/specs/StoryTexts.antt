@@ -13,7 +13,7 @@ use Rattle.steps.specs.Groups.{group_in}
 
 -- ---- the step
 
--- `turn P`, `up S W`, `serve M`, `down S W`, or `poke P ..` with whose register is written, or which byte, and what
+-- `turn P`, `up S W`, `serve M`, `down S W`, or `poke P ..` with the register or byte that is written, and the value
 abbrev pub step_text : Step → List ℕ
 step_text (step.Turn p) = codes "turn " ++ decimal p
 step_text (step.Up s w) = codes "up " ++ decimal s ++ codes " " ++ decimal w
@@ -23,17 +23,17 @@ step_text (step.Poke q) = codes "poke " ++ owner_text q ++ codes " " ++ written_
 
 -- ---- what it did
 
--- how many stages lie between the processors and a message that was moved
+-- the depth of a message after this move
 abbrev pub depth_behind : Step → ℕ
 depth_behind (step.Up s w) = s + 1
 depth_behind (step.Down s w) = s
 depth_behind _ = 0
 
--- where a message that was moved stands
+-- `moves to depth D`
 abbrev pub depth_text : Step → List ℕ
 depth_text s = codes "moves to depth " ++ decimal (depth_behind s)
 
--- the stage at which a request is combined, or a reply split
+-- the stage at which a request is combined or a reply is split
 abbrev pub stage_of : Step → ℕ
 stage_of (step.Up s w) = s
 stage_of (step.Down s w) = s
@@ -48,7 +48,7 @@ members_text (p ∷ ps) = codes " " ++ decimal p ++ members_text ps
 abbrev pub group_text : List ℕ → List ℕ
 group_text group = decimal (length group) ++ codes ":" ++ members_text group
 
--- what the step did, with the groups before it
+-- what the step did, by the groups before it
 abbrev pub outcome_text : List (List ℕ) → Step → Outcome → List ℕ
 outcome_text groups s (Retired r) = codes "retires " ++ event_text (event.Retired r)
 outcome_text groups s (Stopped cause) = codes "stops " ++ event_text (event.Stopped cause)

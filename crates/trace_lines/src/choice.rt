@@ -1,4 +1,4 @@
-//! Which entries are asked for.
+//! Choices of entries.
 
 ghost use Rattle.std.specs.Prelude.{◌≡◌};
 ghost use Rattle.trace_lines.specs.Choices.{unknown_of, unknown_processor, unknown_word};
@@ -6,18 +6,19 @@ ghost use Rattle.trace_lines.specs.OrderLines.{is_chosen, takes};
 
 use crate::unknown::Unknown;
 
-/// Which entries of a serial order are asked for: those of one processor, those that act on one shared
-/// word, those that do both, or all.
+/// A choice of entries of a serial order: those of one processor, those that act on one shared word, those that
+/// meet both conditions, or all.
 #[derive(Clone, Copy, Debug, PartialEq, Eq, Drop)]
 pub struct Choice {
-    /// The processor, if one is asked for.
+    /// The processor, if one is chosen.
     pub processor: Option<u8>,
-    /// The number of the shared word, if one is asked for.
+    /// The number of the shared word, if one is chosen.
     pub word: Option<u32>,
 }
 
 impl Choice {
-    /// The number that names nothing on a machine of this many processors and shared words: of two, the processor's.
+    /// The chosen number that is out of range on a machine of this many processors and shared words; of two, the
+    /// processor's.
     pub fn unknown(&self, processors: u8, words: u32) -> Option<Unknown>
         ensures { result ≡ unknown_of self.now processors words }
     {
@@ -27,7 +28,7 @@ impl Choice {
         }
     }
 
-    /// Whether an entry of this processor that acts on this shared word is asked for.
+    /// Whether the choice includes an entry of this processor that acts on this shared word.
     pub fn takes(&self, processor: Option<u8>, word: Option<u32>) -> bool
         ensures { result ≡ takes self.now processor word }
     {
@@ -35,7 +36,7 @@ impl Choice {
     }
 }
 
-/// Whether the processor is the one that is asked for.
+/// Whether the processor is the chosen one; true if none is chosen.
 fn is_processor(chosen: Option<u8>, there: Option<u8>) -> bool
     ensures { result ≡ is_chosen chosen there }
 {
@@ -46,7 +47,7 @@ fn is_processor(chosen: Option<u8>, there: Option<u8>) -> bool
     }
 }
 
-/// Whether the word is the one that is asked for.
+/// Whether the word is the chosen one; true if none is chosen.
 fn is_word(chosen: Option<u32>, there: Option<u32>) -> bool
     ensures { result ≡ is_chosen chosen there }
 {
@@ -57,7 +58,7 @@ fn is_word(chosen: Option<u32>, there: Option<u32>) -> bool
     }
 }
 
-/// A processor that a machine of this many has not.
+/// The chosen processor, if a machine of this many does not have it.
 fn unknown_processor(chosen: Option<u8>, processors: u8) -> Option<Unknown>
     ensures { result ≡ unknown_processor chosen processors }
 {
@@ -67,7 +68,7 @@ fn unknown_processor(chosen: Option<u8>, processors: u8) -> Option<Unknown>
     }
 }
 
-/// A shared word that a machine of this many has not.
+/// The chosen shared word, if a machine of this many does not have it.
 fn unknown_word(chosen: Option<u32>, words: u32) -> Option<Unknown>
     ensures { result ≡ unknown_word chosen words }
 {

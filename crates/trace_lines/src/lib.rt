@@ -1,11 +1,11 @@
 //! The lines of a serial order and of a story.
 //!
-//! `specs/OrderLines.antt` has the line of an entry of a serial order as a function of the flat machine before it
-//! (`line_of`). Here are the parts of such a line: the word that an instruction acts on ([`word_of_instruction`]), and
-//! the texts ([`push_turn`], [`push_poke`]).
+//! `specs/OrderLines.antt` defines the line of an entry of a serial order as a function of the flat machine before it
+//! (`line_of`). This crate makes the parts of such a line: the word that an instruction acts on
+//! ([`word_of_instruction`]), and the texts ([`push_turn`], [`push_poke`]).
 //!
-//! `specs/StoryLines.antt` has the line of a step of a run (`line_of`), read off the step, its outcome and the groups
-//! of requests that were combined, and the lines of a run (`story_of`). [`push_line`] makes one.
+//! `specs/StoryLines.antt` defines the line of a step (`line_of`), read off the step, its outcome and the groups of
+//! combined requests, and the lines of a run (`story_of`). [`push_line`] appends one line.
 #![tactic(auto)]
 
 mod choice;

@@ -14,11 +14,11 @@ use std::alloc::{AllocError, Global};
 use std::fmt::Write;
 use steps::{Groups, Outcome, Step};
 
-/// Appends the line of a step with its number: the step, and what it did. The groups are those before the step.
+/// Appends the line of a step: its number, the step and what it did. The groups are those before the step.
 ///
 /// # Errors
 ///
-/// [`AllocError`] where there is no memory for it.
+/// [`AllocError`] if there is no memory for it.
 #[tactic(auto, unfolding(crate::specs::StoryLines::line_of))]
 pub fn push_line(
     alloc: Global,
@@ -92,7 +92,7 @@ fn push_outcome(
     }
 }
 
-/// Appends where a message that was moved stands.
+/// Appends the depth of a message after its move.
 fn push_depth(text: &mut String, step: &Step) -> Result<(), AllocError>
     ensures { OnOk result (string_bytes text.new ≡ string_bytes text.old ++ depth_text step.now) }
 {
@@ -100,7 +100,7 @@ fn push_depth(text: &mut String, step: &Step) -> Result<(), AllocError>
     write!(text, "moves to depth {depth}")
 }
 
-/// How many stages lie between the processors and a message that was moved.
+/// The depth of a message after this move.
 fn depth_behind(step: &Step) -> u16
     ensures { result ≡ depth_behind step.now }
 {
@@ -111,7 +111,7 @@ fn depth_behind(step: &Step) -> u16
     }
 }
 
-/// The stage at which a request is combined, or a reply split.
+/// The stage at which a request is combined or a reply is split.
 fn stage_of(step: &Step) -> u8
     ensures { result ≡ stage_of step.now }
 {
@@ -121,7 +121,7 @@ fn stage_of(step: &Step) -> u8
     }
 }
 
-/// Appends who is answered at a stage.
+/// Appends the processors that are answered at a stage.
 fn push_answered(text: &mut String, to: &Seconds, stage: u8) -> Result<(), AllocError>
     ensures { OnOk result (string_bytes text.new
         ≡ string_bytes text.old ++ codes "answers" ++ members_text (seconds_of to.now) ++ codes " at stage "
@@ -143,7 +143,7 @@ fn push_seconds(text: &mut String, seconds: &Seconds) -> Result<(), AllocError>
     }
 }
 
-/// Appends how many a group has, and who they are.
+/// Appends the size of a group, and its members.
 fn push_group(text: &mut String, group: &[u8]) -> Result<(), AllocError>
     ensures { OnOk result (string_bytes text.new ≡ string_bytes text.old ++ group_text group.now) }
 {

@@ -20,7 +20,7 @@ use std::fmt::Write;
 ///
 /// # Errors
 ///
-/// [`AllocError`] where there is no memory for it.
+/// [`AllocError`] if there is no memory for it.
 #[tactic(auto, unfolding(crate::specs::OrderTexts::turn_line))]
 pub fn push_turn(
     alloc: Global,
@@ -42,11 +42,11 @@ pub fn push_turn(
     text.push('\n')
 }
 
-/// Appends what a turn shows: the instruction and what it gave, or how the processor stopped.
+/// Appends what a turn shows: the instruction and its results, or how the processor stopped.
 ///
 /// # Errors
 ///
-/// [`AllocError`] where there is no memory for it.
+/// [`AllocError`] if there is no memory for it.
 pub fn push_event(alloc: Global, text: &mut String, event: &Event) -> Result<(), AllocError>
     ensures { OnOk result (string_bytes text.new ≡ string_bytes text.old ++ event_text event.now) }
 {
@@ -56,7 +56,7 @@ pub fn push_event(alloc: Global, text: &mut String, event: &Event) -> Result<(),
     }
 }
 
-/// Appends an instruction, and what it gave.
+/// Appends an instruction and its results.
 fn push_retired(alloc: Global, text: &mut String, retired: &Retired) -> Result<(), AllocError>
     ensures { OnOk result (string_bytes text.new ≡ string_bytes text.old ++ text_of retired.now.insn
         ++ result_text retired.now.result
@@ -69,7 +69,7 @@ fn push_retired(alloc: Global, text: &mut String, retired: &Retired) -> Result<(
     push_console(alloc, text, retired.out)
 }
 
-/// Appends the value that a register got, if one did.
+/// Appends the value written to a register, if any.
 fn push_result(alloc: Global, text: &mut String, value: Option<u32>) -> Result<(), AllocError>
     ensures { OnOk result (string_bytes text.new ≡ string_bytes text.old ++ result_text value) }
 {
@@ -82,7 +82,7 @@ fn push_result(alloc: Global, text: &mut String, value: Option<u32>) -> Result<(
     }
 }
 
-/// Appends the byte that went to the console, if one did.
+/// Appends the byte written to the console, if any.
 fn push_console(alloc: Global, text: &mut String, out: Option<u8>) -> Result<(), AllocError>
     ensures { OnOk result (string_bytes text.new ≡ string_bytes text.old ++ console_text out) }
 {
@@ -120,12 +120,12 @@ fn push_reference(
     }
 }
 
-/// Appends the line of a poke: the entry's number, the processor, or `-` where the poke is to a shared word,
-/// where it writes and what, and what it did to the shared word.
+/// Appends the line of a poke: the entry's number, the processor, or `-` if it writes to a shared word, what it writes
+/// and where, and what it did to the shared word.
 ///
 /// # Errors
 ///
-/// [`AllocError`] where there is no memory for it.
+/// [`AllocError`] if there is no memory for it.
 #[tactic(auto, unfolding(crate::specs::OrderTexts::poke_line))]
 pub fn push_poke(
     alloc: Global,
@@ -144,11 +144,11 @@ pub fn push_poke(
     text.push('\n')
 }
 
-/// Appends the number of the processor that a poke writes to, or `-` where it writes to a shared word.
+/// Appends the number of the processor that a poke writes to, or `-` if it writes to a shared word.
 ///
 /// # Errors
 ///
-/// [`AllocError`] where there is no memory for it.
+/// [`AllocError`] if there is no memory for it.
 pub fn push_owner(text: &mut String, poke: &Poke) -> Result<(), AllocError>
     ensures { OnOk result (string_bytes text.new ≡ string_bytes text.old ++ owner_text poke.now) }
 {
@@ -160,11 +160,11 @@ pub fn push_owner(text: &mut String, poke: &Poke) -> Result<(), AllocError>
     }
 }
 
-/// Appends which register a poke writes, or the address of which byte, and what.
+/// Appends the register that a poke writes, or the address of the byte, and the new value.
 ///
 /// # Errors
 ///
-/// [`AllocError`] where there is no memory for it.
+/// [`AllocError`] if there is no memory for it.
 pub fn push_written(alloc: Global, text: &mut String, poke: &Poke) -> Result<(), AllocError>
     ensures { OnOk result (string_bytes text.new ≡ string_bytes text.old ++ written_text poke.now) }
 {
@@ -195,7 +195,7 @@ fn push_register(text: &mut String, register: u8) -> Result<(), AllocError>
     }
 }
 
-/// Appends an address, and a byte that is written there.
+/// Appends an address, and the byte that is written there.
 fn push_byte_at(alloc: Global, text: &mut String, address: u32, value: u8) -> Result<(), AllocError>
     ensures { OnOk result (string_bytes text.new ≡ string_bytes text.old ++ hex_of_word address ++ codes " "
         ++ hex_of_byte value) }

@@ -1,27 +1,27 @@
-//! Numbers that name nothing.
+//! Chosen numbers that are out of range.
 
 use std::fmt::{self, Display, Formatter};
 
-/// A number by which something is asked for that a machine has not.
+/// A chosen number that is out of range on the machine.
 #[derive(Clone, Copy, Debug, PartialEq, Eq, Drop)]
 pub enum Unknown {
-    /// The machine has this many processors, and none of this number.
+    /// No processor has this number.
     Processor {
-        /// The number that is asked for.
+        /// The chosen number.
         number: u8,
         /// How many processors there are.
         processors: u8,
     },
-    /// The machine has this many shared words, and none of this number.
+    /// No shared word has this number.
     Word {
-        /// The number that is asked for.
+        /// The chosen number.
         number: u32,
         /// How many shared words there are.
         words: u32,
     },
 }
 
-/// What is wrong with the command line, in the words of its parser.
+/// The error in the command line, in the words of its parser.
 impl Display for Unknown {
     fn fmt<W: fmt::Write>(&self, f: &mut Formatter<W>) -> fmt::Result {
         match *self {

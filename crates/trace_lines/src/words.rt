@@ -14,8 +14,8 @@ use flat_machine::{Poke, SHARED_START, Size};
 use hart_ops::{immediate_word, is_aligned, load_size, store_size, sum};
 use rv_table::{Immediate, Insn, Register};
 
-/// The shared word that an instruction acts on, in a processor with these registers, of a machine with so
-/// many shared words. None where it acts on none, or stops the processor.
+/// The shared word that an instruction acts on, in a processor with these registers, of a machine with
+/// `shared_words` shared words. None if it acts on none, or stops the processor.
 pub fn word_of_instruction(insn: &Insn, registers: &[u32; 32], shared_words: u32) -> Option<u32>
     requires { shared_words ≤ 262144 }
     ensures { (s : Setting) (code : List ℕ) (p : Processor) → s.shared_words ≡ shared_words →
@@ -34,7 +34,7 @@ pub fn word_of_instruction(insn: &Insn, registers: &[u32; 32], shared_words: u32
     }
 }
 
-/// The shared word at an address, where an access of this size can be made there.
+/// The shared word at an address, if an access of this size can be made there.
 #[tactic(auto, unfolding(flat_machine::specs::Memory::region_of))]
 fn word_at(size: Size, address: u32, shared_words: u32) -> Option<u32>
     requires { shared_words ≤ 262144 }
@@ -64,14 +64,14 @@ fn read(registers: &[u32; 32], register: Register) -> u32
     }
 }
 
-/// A register's value and an offset of twelve bits: an address.
+/// The address given by a register's value and an offset of twelve bits.
 fn address(registers: &[u32; 32], rs1: Register, imm: Immediate<12>) -> u32
     ensures { result ≡ plus (register_of registers.now rs1) (extended 12 imm) }
 {
     sum(read(registers, rs1), immediate_word(imm))
 }
 
-/// The shared word of which a poke writes a byte. None where it writes elsewhere.
+/// The shared word in which a poke writes a byte. None if it writes elsewhere.
 pub fn word_of_poke(poke: &Poke) -> Option<u32>
     ensures { result ≡ references.word_of_poke poke.now }
 {
@@ -81,7 +81,7 @@ pub fn word_of_poke(poke: &Poke) -> Option<u32>
     }
 }
 
-/// The processor in which a poke writes. None where it writes in shared memory.
+/// The processor whose register or local memory a poke writes. None if it writes to shared memory.
 pub fn processor_of_poke(poke: &Poke) -> Option<u8>
     ensures { result ≡ references.processor_of_poke poke.now }
 {
