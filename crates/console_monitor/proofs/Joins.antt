@@ -1,4 +1,4 @@
--- What was taken of each processor, followed by the rest of its queue, is what it sent: one more queue at a time.
+-- What was taken from each processor, followed by the rest of its queue, is what it sent, one queue after another.
 use Rattle.std.proofs.Common.{◌≡◌, ◌∙◌, ℕ, zero, suc, ◌<◌, List, [], ◌∷◌, ◌++◌, length, map, ap, sym, refl, append_assoc, arith, inl, inr, ◌⊎◌, subst}
 use Rattle.std.specs.Prelude.{slice_set, slice_index_or}
 use Rattle.std.proofs.lemmas.List.{map-set, append-nil, get_or-map, length-append}
@@ -15,12 +15,12 @@ joined_snoc [] (x ∷ rs) t r e = absurd (omega (arith, e))
 joined_snoc (x ∷ ts) [] t r e = absurd (omega (arith, e))
 joined_snoc (x ∷ ts) (y ∷ rs) t r e = ap (λ l. (x ++ y) ∷ l) (joined_snoc ts rs t r (omega (arith, e)))
 
--- one element is replaced by one with the same picture
+-- If an element is replaced by one with the same image, the images stay.
 pub map_kept : {A B : Type 0} (f : A → B) (xs : List A) (p : ℕ) (y d : A) → f y ≡ f (slice_index_or xs p d)
     → map f (slice_set xs p y) ≡ map f xs
 map_kept f xs p y d e = map-set_same f xs p y d e
 
--- or by one with another
+-- If an element is replaced by one whose image has more at its end, so has its place among the images.
 pub map_put : {A : Type 0} (f : A → List ℕ) (xs : List A) (p : ℕ) (y d : A) (new : List ℕ) → p < length xs
     → f y ≡ f (slice_index_or xs p d) ++ new
     → map f (slice_set xs p y) ≡ slice_set (map f xs) p (at (map f xs) p ++ new)
@@ -29,13 +29,13 @@ map_put f xs p y d new lt e = map-set f xs p y ∙ ap (λ v. slice_set (map f xs
 abbrev pub end_queue : End → TableId
 end_queue e = sender_queue e.sender
 
--- `done` is what was taken of those whose queues are emptied
+-- The queues at these ends are still to be emptied. `done` is what was taken from those that were emptied.
 abbrev pub Emptied : List (List ℕ) → List (List ℕ) → List (List ℕ) → List End → List Inlet → Type 0
 Emptied takens gives rests ends inlets =
     (done : List (List ℕ)) × (length done ≡ length rests) × (takens ≡ done ++ map taken_of inlets)
     × (gives ≡ joined done rests ++ map sent_by ends)
 
--- one more queue is emptied
+-- After one more queue is emptied, those at the other ends are still to be emptied.
 pub emptied_more : (takens gives rests : List (List ℕ)) (end : End) (ends : List End) (inlet : Inlet) (inlets : List Inlet) (r : List ℕ)
     → taken_of inlet ++ r ≡ sent_by end → Emptied takens gives rests (end ∷ ends) (inlet ∷ inlets)
     → Emptied takens gives (rests ++ r ∷ []) ends inlets
@@ -54,7 +54,7 @@ joined_length [] (x ∷ rs) e = absurd (omega (arith, e))
 joined_length (x ∷ ts) [] e = absurd (omega (arith, e))
 joined_length (x ∷ ts) (y ∷ rs) e = ap suc (joined_length ts rs (omega (arith, e)))
 
--- all queues are emptied
+-- After all queues are emptied, what was taken and the rests together are what was sent.
 pub emptied_all : (takens gives rests : List (List ℕ)) → Emptied takens gives rests [] []
     → (joined takens rests ≡ gives) × (length rests ≡ length gives)
 emptied_all takens gives rests h =
@@ -62,7 +62,7 @@ emptied_all takens gives rests h =
     let whole : gives ≡ joined h.0 rests = h.3 ∙ append-nil (joined h.0 rests) in
     (ap (λ l. joined l rests) all ∙ sym whole, sym (ap length whole ∙ joined_length h.0 rests h.1))
 
--- where one list of ends is out, so is the other
+-- If one list of ends is used up, so is the other, and all queues are emptied.
 pub emptied_end : (takens gives rests : List (List ℕ)) (ends : List End) (inlets : List Inlet)
     → map end_queue ends ≡ map inlet_queue inlets → (length ends ≡ 0) ⊎ (length inlets ≡ 0) → Emptied takens gives rests ends inlets
     → (joined takens rests ≡ gives) × (length rests ≡ length gives)
@@ -78,7 +78,7 @@ first_same : (x : End) (ends : List End) (y : Inlet) (inlets : List Inlet)
     → map end_queue (x ∷ ends) ≡ map inlet_queue (y ∷ inlets) → map end_queue ends ≡ map inlet_queue inlets
 first_same x ends y inlets e = cc
 
--- one step of the loop
+-- A step of the loop empties one queue.
 pub emptied_step : (takens gives rests more : List (List ℕ)) (all ends : List End) (full inlets : List Inlet)
     (end : End) (inlet : Inlet) (r : List ℕ)
     → all ≡ end ∷ ends → full ≡ inlet ∷ inlets → more ≡ rests ++ r ∷ [] → taken_of inlet ++ r ≡ sent_by end

@@ -1,4 +1,4 @@
--- Each move of a queue keeps its rule, and says its end what it promises.
+-- Each move of a queue keeps its rule, and tells its end what it promises.
 use Rattle.std.proofs.Common.{◌≡◌, ◌≢◌, ℕ, zero, suc, true, false, true≢false, List, [], ◌∷◌, ◌++◌}
 use Rattle.std.proofs.Common.{length, set, sym, refl, ap, ◌∙◌, subst, ⊎_elim, append_assoc}
 use mathlib.Core.Option.{some, some-ne-none}
@@ -137,6 +137,6 @@ merges port v other u a b items views h at two at' =
 pub totals : (port : ℕ) (v : Account) → v.puts ≡ true → v.takes ≡ true → Learns InOrder port v (λ items. v.put ≡ v.taken ++ items)
 totals port v a b items views h at = let mine = h.5 port v at in (mine.0 a).1 ∙ h.4 ∙ ap (λ l. l ++ items) (sym (mine.1 b).1)
 
--- what stands in the queue is the end of what was put
+-- An end that puts learns that what it put ends in what is in the queue.
 pub left_over : (pass : ℕ) (v : Account) → v.puts ≡ true → Learns InOrder pass v (λ items. (taken : List ℕ) × (v.put ≡ taken ++ items))
 left_over pass v a items views h at = let mine = h.5 pass v at in (h.3, (mine.0 a).1 ∙ h.4)

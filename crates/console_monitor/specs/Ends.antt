@@ -1,4 +1,4 @@
--- What contracts see of the ends of the queues: which queue it is, and the bytes that went through.
+-- What contracts see of the ends of a queue: which queue it is, and the bytes that went through.
 use Rattle.std.specs.Prelude.{◌≡◌, ◌≤◌, ℕ, List, [], ◌∷◌, ◌++◌, length, map, Option, Some, None, slice_index_or}
 use Rattle.crossbeam_queue.specs.Passes.{view}
 use Rattle.atomic_table.specs.Seated.{TableId}
@@ -11,7 +11,7 @@ use Rattle.console_monitor.specs.declared.monitor.End.{End}
 abbrev pub put_of : Sender → List ℕ
 put_of s = (view s.pass).put
 
--- the bytes that the monitor has taken there
+-- the bytes that the monitor has taken at this end
 abbrev pub taken_of : Inlet → List ℕ
 taken_of i = (view i.pass).taken
 
@@ -22,7 +22,7 @@ sender_queue s = s.pass.table_id
 abbrev pub inlet_queue : Inlet → TableId
 inlet_queue i = i.pass.table_id
 
--- A byte comes back: what was put is as before, and it fills the queue, since 256 bytes of it were not taken.
+-- A byte comes back: what was put is as before, and is at least the 256 bytes of a full queue.
 abbrev pub ComesBack : (before after : List ℕ) → Type 0
 ComesBack before after = (after ≡ before) × (256 ≤ length before)
 
@@ -34,7 +34,7 @@ at lists p = slice_index_or lists p []
 abbrev pub queues_of : Monitor → List TableId
 queues_of m = map inlet_queue m.inlets.items
 
--- what the monitor took of each
+-- what the monitor took from each queue
 abbrev pub takens_of : Monitor → List (List ℕ)
 takens_of m = map taken_of m.inlets.items
 
@@ -46,7 +46,7 @@ held_of (Some byte) = byte ∷ []
 abbrev pub sent_by : End → List ℕ
 sent_by e = put_of e.sender ++ held_of e.held
 
--- each followed by its partner
+-- each list followed by its partner
 abbrev pub joined : List (List ℕ) → List (List ℕ) → List (List ℕ)
 joined [] rests = []
 joined (taken ∷ takens) [] = []

@@ -7,7 +7,7 @@ use std::alloc::{AllocError, Global};
 use std::sync::{Arc, Wait};
 
 impl Sender {
-    /// Sends a byte to the monitor. It comes back only where the queue was full.
+    /// Sends a byte to the monitor. It comes back only if the queue was full.
     pub fn put<R: Wait>(&mut self, rt: &R, byte: u8) -> Result<(), u8>
         ensures queue { sender_queue self.new ≡ sender_queue self.old }
         ensures put { MatchResult result
@@ -19,7 +19,7 @@ impl Sender {
 }
 
 impl Inlet {
-    /// The next byte of the queue.
+    /// Takes the next byte of the queue, if there is one.
     pub fn take(&mut self) -> Option<u8>
         ensures queue { inlet_queue self.new ≡ inlet_queue self.old }
         ensures taken { MatchOption result (taken_of self.new ≡ taken_of self.old)
@@ -48,7 +48,7 @@ pub fn both_ends(alloc: Global) -> Result<(Sender, Inlet), AllocError>
     ))
 }
 
-/// Empties a queue, whose two ends are both here.
+/// Empties a queue whose two ends are both here, and returns the bytes.
 pub fn rest<R: Wait>(
     rt: &R,
     alloc: Global,

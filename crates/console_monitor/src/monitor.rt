@@ -19,7 +19,7 @@ use crate::refusal::ConsoleRefusal;
 use std::alloc::{AllocError, Global};
 use std::sync::Wait;
 
-/// The one that takes the bytes of all senders.
+/// Takes the bytes of all senders.
 #[derive(Drop)]
 pub struct Monitor {
     inlets: Vec<Inlet>,
@@ -53,7 +53,7 @@ pub fn console(alloc: Global, n: u8) -> Result<(Vec<Sender>, Monitor), ConsoleRe
 }
 
 impl Monitor {
-    /// The next byte of processor `p`.
+    /// Takes the next byte of processor `p`, if there is one.
     pub fn take(&mut self, p: u8) -> Option<u8>
         requires { p < length (queues_of self.old) }
         ensures queues { queues_of self.new ≡ queues_of self.old }
@@ -63,11 +63,11 @@ impl Monitor {
         self.inlets[usize::from(p)].take()
     }
 
-    /// What still stood in each queue when all senders had ended, followed by the byte that its sender held.
+    /// Returns what was still in each queue after all senders had ended, followed by the byte that its sender held.
     ///
     /// # Errors
     ///
-    /// [`ConsoleRefusal::Memory`] if there is no memory for these bytes. They are lost then.
+    /// [`ConsoleRefusal::Memory`] if there is no memory for these bytes. Then they are lost.
     pub fn finish<R: Wait>(
         self,
         rt: &R,
@@ -88,7 +88,7 @@ impl Monitor {
 }
 
 impl End {
-    /// What still stands in the queue, then the held byte.
+    /// What is still in the queue, and then the held byte.
     pub(crate) fn rest<R: Wait>(
         self,
         rt: &R,

@@ -8,7 +8,7 @@ use std::alloc::Global;
 use std::collections::LinkedList;
 use std::sync::Arc;
 
-/// How many bytes a queue holds.
+/// The most bytes that a queue holds.
 pub const CAPACITY: usize = 256;
 
 /// What an end of a queue may do, and what it has put and taken. No value of it is made.
@@ -19,7 +19,7 @@ pub struct Account {
     pub taken: LinkedList<u8>,
 }
 
-/// What was put is what was taken, followed by what stands in the queue.
+/// What was put is what was taken, followed by what is in the queue.
 pub struct Ordered;
 
 impl Protocol<u8, Account> for Ordered {
@@ -31,7 +31,7 @@ impl Protocol<u8, Account> for Ordered {
     ghost first = { account true true [] [] };
 }
 
-/// The first end becomes the sender's, and the new one is the monitor's; or the sender's takes the monitor's in.
+/// The first end becomes the sender's, and the new one is the monitor's; or the sender's takes over the monitor's.
 pub struct Ends;
 
 impl Split<Account> for Ends {
@@ -52,7 +52,7 @@ impl Join<Account> for Ends {
     ghost spent = { account false false [] [] };
 }
 
-/// A byte is put. Where there is no room, what stands in the queue was put last.
+/// A byte is put. If there is no room, what is in the queue was put last.
 pub struct Puts;
 
 impl Outcome<u8, Account> for Puts {
@@ -68,7 +68,7 @@ impl Lesson<u8, Account> for Puts {
     ghost fact = { λ v items. (taken : List ℕ) × (v.put ≡ taken ++ items) };
 }
 
-/// A byte is taken. An end that knows all knows what stands in the queue.
+/// A byte is taken. An end that both puts and takes knows what is in the queue.
 pub struct Takes;
 
 impl Outcome<u8, Account> for Takes {

@@ -1,4 +1,4 @@
-//! Why the console's queues are refused.
+//! Why calls on the console's queues are refused.
 
 ghost use Rattle.console_monitor.specs.declared.refusal.ConsoleRefusal.TheVariants.{Memory};
 ghost use Rattle.std.specs.Prelude.{◌≡◌};
@@ -6,10 +6,10 @@ ghost use Rattle.std.specs.Prelude.{◌≡◌};
 use std::alloc::{AllocError, AllocFailed};
 use thiserror::Error;
 
-/// Why queues are not made, or what is left in them is not given.
+/// Why queues are not made, or what is left in them is not returned.
 #[derive(Clone, Copy, Debug, PartialEq, Eq, Drop, Error)]
 pub enum ConsoleRefusal {
-    /// There is no memory.
+    /// Out of memory.
     #[error("Q1")]
     Memory,
 }

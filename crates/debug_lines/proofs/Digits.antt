@@ -1,4 +1,4 @@
--- Numbers and bytes are read of just the digits that stand for them.
+-- Digits are read as a number or as bytes exactly if they stand for it or for them.
 use Rattle.std.proofs.Common.{◌≡◌, ◌≢◌, ℕ, ◌+◌, ◌*◌, ◌^◌, ◌≤◌, ◌%◌, List, [], ◌∷◌, length, refl, sym, ap, ◌∙◌, arith, Bool, true, false, subst}
 use Rattle.std.proofs.Math.Nat.{pow-succ'}
 use Rattle.std.proofs.lemmas.Bool.{and_parts, leb-true, le-leb}
@@ -10,7 +10,7 @@ use Rattle.hex.specs.declared.error.FromHexError.{FromHexError}
 use Rattle.debug_lines.specs.Numbers.{number_from, number_of, bytes_of, decoded}
 use Rattle.debug_lines.specs.Spelling.{AreDigitsOf, IsNumber, AreBytes}
 
--- no byte is a space
+-- No byte is a space.
 abbrev pub HasNoSpace : List ℕ → Type 0
 HasNoSpace [] = Unit {0}
 HasNoSpace (b ∷ bytes) = (b ≢ 32) × HasNoSpace bytes
@@ -39,12 +39,12 @@ digits-written m (b ∷ digits) low a =
     ap (option_and_then (λ d. number_from (16 * m + d) digits)) a.2 ∙ more
     ∙ ap Some (rw (pow-succ' 16 (length digits)) (carried m a.0 (16 ^ length digits) _ a.1 refl ∙ omega (arith, a.4)))
 
--- what is answered under a test
+-- If a test guards a value that is there, the test holds.
 pub guarded : {A : Type 0} (b : Bool) (x : Option A) (y : A) → (if b then x else None) ≡ Some y → (b ≡ true) × (x ≡ Some y)
 guarded true x y e = (refl, e)
 guarded false x y e = absurd (none-some y e)
 
--- the number of one to eight digits is what they stand for
+-- One to eight digits stand for the number that is read from them.
 pub number-read : (digits : List ℕ) (n : ℕ) → number_of digits ≡ Some n → IsNumber digits n
 unfolding number_of
 number-read digits n e =
@@ -63,7 +63,7 @@ unfolding number_of
 number-written digits n i =
     rw (le-leb 1 (length digits) i.some, le-leb (length digits) 8 i.few) (digits-written 0 digits n i.value ∙ ap Some (omega arith))
 
--- a byte of a number is a digit
+-- A digit is not a space.
 digit-no_space : (b d : ℕ) → hex_digit_value b ≡ Some d → b ≢ 32
 digit-no_space b d is space = none-some d (ap hex_digit_value (sym space) ∙ is)
 
@@ -128,7 +128,7 @@ digits-twice : (digits bytes : List ℕ) → AreBytes digits bytes → length di
 digits-twice digits [] a = ap length a
 digits-twice digits (byte ∷ bytes) a = let more = digits-twice a.2 bytes a.5 in let whole = ap length a.3 in omega arith
 
--- The bytes of digits are those that they stand for.
+-- Digits stand for the bytes that are decoded from them.
 decode-read : (digits bytes : List ℕ) → decode_of digits ≡ Ok bytes → AreBytes digits bytes
 decode-read digits bytes e =
     let even = decode_of-ok digits bytes e in

@@ -1,4 +1,4 @@
--- Operands are cut at just the spaces after them, and read as they are spelled.
+-- An operand ends at the first space after it, and is read as it is spelled.
 use Rattle.std.proofs.Common.{◌≡◌, ◌≢◌, ℕ, ◌≤◌, List, [], ◌∷◌, ◌++◌, length, refl, ap, ◌∙◌, true, false, subst, inl, inr}
 use Rattle.std.proofs.lemmas.Bool.{and_parts, leb-true, le-leb, cases_Bool, eqb-true}
 use Rattle.std.proofs.lemmas.Option.{option_and_then_some, none-some, same_Some}
@@ -16,7 +16,7 @@ use Rattle.debug_lines.proofs.Digits.{HasNoSpace, digits-no_space, guarded, numb
 test_other : (a b : ℕ) → a ≢ b → (a == b) ≡ false
 test_other a b ne = elim (cases_Bool (a == b)) [ inl same ↦ absurd (ne (eqb-true a b same)) | inr other ↦ other ]
 
--- a cut at the first space
+-- A line is cut at its first space.
 pub cut-written : (a rest : List ℕ) → HasNoSpace a → cut_at_space (a ++ 32 ∷ rest) ≡ (a, Some rest)
 cut-written [] rest none = refl
 cut-written (b ∷ a) rest none = rw (test_other b 32 none.0) (ap (onto_word b) (cut-written a rest none.1))
@@ -34,12 +34,12 @@ cut-read-cons : (b : ℕ) (line : List ℕ) → line ≡ whole (cut_at_space lin
 cut-read-cons b line more (inl space) = rw space (ap (λ x. x ∷ line) (eqb-true b 32 space))
 cut-read-cons b line more (inr other) = rw other (ap (λ l. b ∷ l) more ∙ whole-onto b (cut_at_space line))
 
--- what was cut is the whole
+-- The parts of a cut line make up the line.
 pub cut-read : (line : List ℕ) → line ≡ whole (cut_at_space line).0 (cut_at_space line).1
 cut-read [] = refl
 cut-read (b ∷ line) = cut-read-cons b line (cut-read line) (cases_Bool (b == 32))
 
--- ---- a number and what is after it
+-- ---- a number and what follows it
 
 pub operand-written : (a rest : List ℕ) (n : ℕ) → IsNumber a n → operand_of (a ++ 32 ∷ rest) ≡ Some (n, rest)
 unfolding operand_of

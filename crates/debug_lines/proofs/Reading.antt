@@ -1,4 +1,4 @@
--- How a stream's lines go on, and that they are one list.
+-- How more bytes extend the lines of a stream, and that a stream has one list of lines.
 use Rattle.std.proofs.Common.{◌≡◌, ◌≢◌, ℕ, ◌+◌, ◌<◌, List, [], ◌∷◌, ◌++◌, take, length, get_or, map, refl, sym, ap, ◌∙◌, append_assoc, length-append, arith}
 use Rattle.std.proofs.lemmas.List.{take_more, map-append, append-nil}
 use Rattle.std.proofs.lemmas.Bool.Decides.{nat_tests}
@@ -21,7 +21,7 @@ joined-push : (lines : List (List ℕ)) (line : List ℕ) → joined (lines ++ l
 joined-push [] line = refl
 joined-push (l ∷ lines) line = rw (joined-push lines line) (sym (append_assoc l (10 ∷ joined lines) (line ++ 10 ∷ [])))
 
--- what is kept of a rest that goes on
+-- What is kept of a rest, and then of more bytes, is what is kept of both at once.
 pub held_more-of : (xs ys : List ℕ) → held_more (held_of xs) ys ≡ held_of (xs ++ ys)
 held_more-of xs ys = grind (arith, nat_tests, length-append)
 
@@ -62,7 +62,7 @@ IsAfter-line bytes events held a = record {
   kept = refl;
 }
 
--- a piece with its first line feed
+-- A piece up to its first line feed adds one event, and an empty rest is kept.
 pub IsAfter-piece : (bytes : List ℕ) (events : List Event) (held : Held) (piece : List ℕ) (at : ℕ) → at < length piece → IsUnbroken (take at piece) →
     get_or piece at 0 ≡ 10 → IsAfter bytes events held →
     IsAfter (bytes ++ take (at + 1) piece) (events ++ event_of_held (held_more held (take at piece)) ∷ []) (held_of [])
@@ -72,7 +72,7 @@ IsAfter-piece bytes events held piece at h u e a =
     ap (λ x. bytes ++ x) (take_more piece at 0 h ∙ ap (λ b. take at piece ++ b ∷ []) e) ∙ sym (append_assoc bytes (take at piece) (10 ∷ [])) in
     rw same after
 
--- the first line feed of a list stands at one place
+-- A list of bytes has one first line feed.
 first-break : (xs ys zs ws : List ℕ) → IsUnbroken xs → IsUnbroken ys → xs ++ 10 ∷ zs ≡ ys ++ 10 ∷ ws → (xs ≡ ys) × (zs ≡ ws)
 first-break [] [] zs ws p q e = (refl, cc)
 first-break [] (y ∷ ys) zs ws p q e = absurd (q.0 (cc))
@@ -89,7 +89,7 @@ no-break [] zs (r ∷ rest) u e = u.0 (cc)
 no-break (x ∷ xs) zs [] u e = cc
 no-break (x ∷ xs) zs (r ∷ rest) u e = no-break xs zs rest u.1 (cc)
 
--- a list of bytes has one list of lines and one rest
+-- A list of bytes has one list of lines and one rest.
 pub joined-one : (ls ms : List (List ℕ)) (r s : List ℕ) → AreUnbroken ls → AreUnbroken ms → IsUnbroken r → IsUnbroken s → joined ls ++ r ≡ joined ms ++ s →
     (ls ≡ ms) × (r ≡ s)
 joined-one [] [] r s p q u v e = (refl, e)

@@ -1,4 +1,4 @@
--- A line spells a command exactly if it is read as it.
+-- A line spells a command exactly if it is read as that command.
 use Rattle.std.proofs.Common.{◌≡◌, ◌≢◌, ℕ, List, [], ◌∷◌, ◌++◌, length, refl, sym, ap, ◌∙◌, Bool, true, false, subst}
 use Rattle.std.proofs.lemmas.Bool.{leb-true, le-leb}
 use Rattle.std.proofs.lemmas.Option.{option_and_then_some, none-some, same_Some}

@@ -1,4 +1,4 @@
--- The command of a line, arm by arm. `Spelling.antt` says it as a relation.
+-- The command of a line, as a function. `Spelling.antt` says the same as a relation.
 use Rattle.std.specs.Prelude.{ℕ, List, length, Option, Some, None, nat_le, ◌&&◌, if◌then◌else◌, unwrap_or}
 use Rattle.std.specs.Prelude.{option_and_then}
 use Rattle.std.specs.Option.{option_map}
@@ -20,7 +20,7 @@ set_of rest =
     option_and_then (λ p. option_and_then (λ r. option_map (λ v. Set p.0 r.0 v) (number_of r.1)) (operand_of p.1))
     (operand_of rest)
 
--- 1 to 512 bytes
+-- the command that shows this many bytes, if they are 1 to 512
 abbrev pub shown : (p address length : ℕ) → Option Command
 shown p address length = if nat_le 1 length && nat_le length 512 then Some (Memory p address length) else None
 
@@ -36,7 +36,7 @@ write_of rest =
 
 -- ---- lines
 
--- a word with what is after its space
+-- the command of a word and what follows its space, if there is one
 abbrev pub with_operands : Word → List ℕ → Option Command
 with_operands word.State rest = option_map State (number_of rest)
 with_operands word.Regs rest = option_map Registers (number_of rest)
@@ -50,7 +50,7 @@ with_operands word.Step rest = option_map Step (number_of rest)
 with_operands word.Cont rest = None
 with_operands word.Quit rest = None
 
--- a word alone
+-- the command of a word alone, if there is one
 abbrev pub alone_of : Word → Option Command
 alone_of word.State = None
 alone_of word.Regs = None
@@ -72,6 +72,6 @@ of_parts w (Some rest) = with_operands w rest
 unfoldable pub listed_of : List ℕ → Option Command
 listed_of line = option_and_then (λ w. of_parts w (cut_at_space line).1) (word_of (cut_at_space line).0)
 
--- the command of a line: one of over 1,024 bytes is none
+-- the command of a line: Malformed if it is none, or has over 1,024 bytes
 unfoldable pub command_of : List ℕ → Command
 command_of line = if nat_le (length line) 1024 then unwrap_or (listed_of line) Malformed else Malformed

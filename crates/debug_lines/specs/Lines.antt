@@ -3,7 +3,7 @@ use Rattle.std.specs.Prelude.{◌≡◌, ◌≢◌, ℕ, List, [], ◌∷◌, �
 use Rattle.debug_lines.specs.declared.reader.Event.{Event}
 use Rattle.debug_lines.specs.declared.reader.Event.TheVariants.{Line, TooLong}
 
--- the bytes after the last line feed, where over 1,024 of them count as one rest
+-- the bytes after the last line feed, or None if they are over 1,024
 abbrev pub Held : Type 0
 Held = Option (List ℕ)
 
@@ -11,12 +11,12 @@ Held = Option (List ℕ)
 abbrev pub held_of : List ℕ → Held
 held_of rest = if nat_le (length rest) 1024 then Some rest else None
 
--- what is kept when more bytes follow, none of them a line feed
+-- what is kept after more bytes, none of them a line feed
 abbrev pub held_more : Held → List ℕ → Held
 held_more None more = None
 held_more (Some rest) more = held_of (rest ++ more)
 
--- the event of what was kept, at a line feed
+-- the event at a line feed, by what was kept
 abbrev pub event_of_held : Held → Event
 event_of_held None = TooLong
 event_of_held (Some line) = Line line
@@ -25,7 +25,7 @@ event_of_held (Some line) = Line line
 abbrev pub event_of : List ℕ → Event
 event_of line = event_of_held (held_of line)
 
--- no byte is a line feed
+-- No byte is a line feed.
 abbrev pub IsUnbroken : List ℕ → Type 0
 IsUnbroken [] = Unit {0}
 IsUnbroken (b ∷ bytes) = (b ≢ 10) × IsUnbroken bytes
@@ -39,7 +39,7 @@ abbrev pub joined : List (List ℕ) → List ℕ
 joined [] = []
 joined (line ∷ lines) = line ++ 10 ∷ joined lines
 
--- The bytes are these lines, each with its line feed, and a rest without one, and the events are those of the lines.
+-- The bytes are lines, each with its line feed, and this rest without one, and the events are those of the lines.
 pub record StandsFor (bytes : List ℕ) (events : List Event) (rest : List ℕ) : Type 0 where
   pub lines : List (List ℕ)
   pub whole : bytes ≡ joined lines ++ rest

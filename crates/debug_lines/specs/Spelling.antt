@@ -1,23 +1,23 @@
--- Which lines spell a command: its word and its operands, with exactly one space between each two, and nothing else.
+-- Which lines spell a command: its word and operands, with exactly one space between any two, and nothing else.
 use Rattle.std.specs.Prelude.{◌≡◌, ◌≤◌, ◌^◌, ◌+◌, ◌*◌, ℕ, List, [], ◌∷◌, ◌++◌, length, Some, codes}
 use Rattle.hex.specs.Hex.{hex_digit_value}
 use Rattle.debug_lines.specs.declared.command.Command.{Command}
 use Rattle.debug_lines.specs.declared.command.Command.TheVariants.{State, Registers, Register, Set, Memory, Write}
 use Rattle.debug_lines.specs.declared.command.Command.TheVariants.{Break, Clear, Step, Continue, Quit, Malformed}
 
--- hex digits of either case that stand for a number, the highest first
+-- Hex digits of either case stand for a number, the highest first.
 abbrev pub AreDigitsOf : List ℕ → ℕ → Type 0
 AreDigitsOf [] n = n ≡ 0
 AreDigitsOf (b ∷ digits) n =
     (d : ℕ) × (low : ℕ) × (hex_digit_value b ≡ Some d) × AreDigitsOf digits low × (n ≡ d * 16 ^ length digits + low)
 
--- one to eight digits
+-- One to eight digits stand for a number.
 pub record IsNumber (digits : List ℕ) (n : ℕ) : Type 0 where
   pub some : 1 ≤ length digits
   pub few : length digits ≤ 8
   pub value : AreDigitsOf digits n
 
--- two digits for each byte
+-- Digits stand for bytes, two for each.
 abbrev pub AreBytes : List ℕ → List ℕ → Type 0
 AreBytes digits [] = digits ≡ []
 AreBytes digits (byte ∷ bytes) =
@@ -28,7 +28,7 @@ AreBytes digits (byte ∷ bytes) =
 abbrev pub spaced : List ℕ → List ℕ → List ℕ
 spaced a b = a ++ 32 ∷ b
 
--- the line that spells each command
+-- A line spells a command.
 abbrev pub IsSpelling : List ℕ → Command → Type 0
 IsSpelling line (State p) = (a : List ℕ) × IsNumber a p × (line ≡ codes "state " ++ a)
 IsSpelling line (Registers p) = (a : List ℕ) × IsNumber a p × (line ≡ codes "regs " ++ a)

@@ -5,7 +5,7 @@ use Rattle.debug_lines.specs.declared.word.Word.{Word}
 use Rattle.debug_lines.specs.declared.word.Word.TheVariants.{State, Regs, Reg, Set, Mem, Write, Break, Clear, Step}
 use Rattle.debug_lines.specs.declared.word.Word.TheVariants.{Cont, Quit}
 
--- how a word is written
+-- the spelling of a word
 abbrev pub name_of : Word → List ℕ
 name_of State = codes "state"
 name_of Regs = codes "regs"
@@ -22,6 +22,6 @@ name_of Quit = codes "quit"
 abbrev pub words : List Word
 words = State ∷ Regs ∷ Reg ∷ Set ∷ Mem ∷ Write ∷ Break ∷ Clear ∷ Step ∷ Cont ∷ Quit ∷ []
 
--- the word that is written so
+-- the word with this spelling, if there is one
 unfoldable pub word_of : List ℕ → Option Word
 word_of bytes = find (λ w. bytes_eq (name_of w) bytes) words

@@ -1,4 +1,4 @@
-//! The command that a line asks for.
+//! The commands of lines.
 
 ghost use Rattle.std.specs.Prelude.{◌≡◌, ◌≤◌, length};
 ghost use Rattle.debug_lines.specs.Commands.{alone_of, command_of, listed_of, with_operands, register_of, set_of};
@@ -13,8 +13,7 @@ use crate::written::Written;
 /// The most bytes that one reply shows.
 const MAX_SHOWN: u32 = 512;
 
-/// What a line asks for. Processors and registers are numbers as they are written: that there are such is not
-/// said here.
+/// What a line asks for. Processors and registers are numbers as they are written. The machine may not have them.
 #[derive(Debug, Drop)]
 pub enum Command {
     /// `state P`: what a processor is doing.
@@ -109,7 +108,7 @@ fn alone(word: Word) -> Option<Command>
     }
 }
 
-/// The command of a word with what is after its space.
+/// The command of a word and what follows its space.
 fn of_operands(word: Word, rest: &[u8]) -> Option<Command>
     requires { length rest.now ≤ 1024 }
     ensures { result ≡ with_operands word rest.now }

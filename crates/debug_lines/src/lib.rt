@@ -1,8 +1,8 @@
-//! The lines of a debugger's stream: where lines end in bytes that come in pieces, however these are cut, and which
-//! command a line asks for.
+//! The lines of a debugger's stream: where they end, however the bytes are cut into pieces, and which command a line
+//! asks for.
 //!
 //! `specs/Lines.antt` says which events a stream stands for, `specs/Commands.antt` which command a line spells.
-//! No call takes memory.
+//! No call allocates memory.
 #![tactic(auto)]
 
 mod command;

@@ -1,14 +1,14 @@
-//! Numbers in hex digits of either case, and the parts of a line round a space.
+//! Numbers in hex digits of either case, and the parts of a line around a space.
 
 ghost use Rattle.std.specs.Prelude.{◌≡◌, ◌<◌, ◌≤◌, length, IfSome};
 ghost use Rattle.std.specs.Option.{option_map};
 ghost use Rattle.hex.specs.Hex.{hex_digit_value};
 ghost use Rattle.debug_lines.specs.Numbers.{number_of, operand_of, cut_at_space};
 
-/// The most digits that a number has.
+/// The most digits of a number.
 const MAX_DIGITS: usize = 8;
 
-/// The bytes before the first space, and those after it where there is one.
+/// The bytes before the first space, and those after it if there is one.
 pub(crate) fn cut(bytes: &[u8]) -> (&[u8], Option<&[u8]>)
     ensures word { result.0.now ≡ (cut_at_space bytes.now).0 }
     ensures rest { option_map (λ x. x.now) result.1 ≡ (cut_at_space bytes.now).1 }
@@ -22,7 +22,7 @@ pub(crate) fn cut(bytes: &[u8]) -> (&[u8], Option<&[u8]>)
     (bytes, None)
 }
 
-/// A number, and what is after the space after it.
+/// A number, and what follows the space after it.
 #[tactic(auto, unfolding(crate::specs::Numbers::operand_of))]
 pub(crate) fn operand(bytes: &[u8]) -> Option<(u32, &[u8])>
     ensures value { option_map (λ x. (x.0, x.1.now)) result ≡ operand_of bytes.now }
@@ -34,7 +34,7 @@ pub(crate) fn operand(bytes: &[u8]) -> Option<(u32, &[u8])>
     Some((value, rest))
 }
 
-/// The number of one to eight digits.
+/// The number read from one to eight digits.
 #[tactic(auto, unfolding(crate::specs::Numbers::number_of))]
 pub(crate) fn number(digits: &[u8]) -> Option<u32>
     ensures { result ≡ number_of digits.now }

@@ -7,7 +7,7 @@ ghost use Rattle.debug_lines.specs.Lines.{IsAfter, IsUnbroken, held_of, held_mor
 use arrayvec::ArrayVec;
 use std::marker::Model;
 
-/// The most bytes that a line has, without its line feed.
+/// The most bytes of a line, without its line feed.
 pub const MAX_LINE: usize = 1024;
 
 const LINE_FEED: u8 = b'\n';
@@ -36,7 +36,7 @@ impl Line {
     }
 }
 
-/// What ends at a line feed.
+/// What a line feed ends.
 #[derive(Debug, Drop)]
 pub enum Event {
     /// A line that is short enough to be read.
@@ -72,15 +72,15 @@ impl LineReader {
         }
     }
 
-    /// Takes bytes until an event is whole, which is at its line feed, and none after it. Without an event all bytes
-    /// of the piece are taken. Says how many were.
+    /// Takes bytes up to the first line feed, which completes an event. If the piece has no line feed, takes all its
+    /// bytes. Returns how many it took, and the event.
     pub fn feed(&mut self, piece: &[u8]) -> (usize, Option<Event>)
         ensures within { result.0 ≤ length piece.now }
         ensures all { IfNone result.1 (result.0 ≡ length piece.now) }
         ensures some { IsSome result.1 → 0 < result.0 }
         ensures at_line_feed { IsSome result.1 → (slice_index piece.now (result.0 - 1) ≡ 10)
             × IsUnbroken (take (result.0 - 1) piece.now) }
-        // Whatever came before: the events of all the bytes so far are those so far and this one.
+        // Whatever came before: all bytes so far stand for the events so far and this one.
         ensures events { (bytes : List ℕ) (events : List Event) → IsAfter bytes events self.old
             → IsAfter (bytes ++ take result.0 piece.now) (events ++ option_to_list result.1) self.new }
     {
@@ -105,7 +105,7 @@ impl LineReader {
         }
     }
 
-    /// The event of what was kept, at a line feed. Nothing is kept then.
+    /// Returns the event at a line feed, by what was kept. Keeps nothing.
     fn finish(&mut self) -> Event
         ensures event { result ≡ event_of_held self.old }
         ensures empty { self.new ≡ held_of [] }

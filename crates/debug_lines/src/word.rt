@@ -34,7 +34,7 @@ impl Word {
         Word::Quit,
     ];
 
-    /// How the word is written.
+    /// The word's spelling.
     fn name(self) -> &'static str
         ensures { result.now ≡ name_of self }
     {
@@ -53,7 +53,7 @@ impl Word {
         }
     }
 
-    /// The word that is written so.
+    /// The word with this spelling.
     #[tactic(auto, unfolding(crate::specs::Words::word_of))]
     pub(crate) fn find(bytes: &[u8]) -> Option<Word>
         ensures { result ≡ word_of bytes.now }

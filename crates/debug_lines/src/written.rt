@@ -1,4 +1,4 @@
-//! Bytes in digits.
+//! Bytes written in digits.
 
 ghost use Rattle.std.specs.Prelude.{◌≡◌, ◌≤◌, ◌*◌, ◌<◌, length};
 ghost use Rattle.debug_lines.specs.Numbers.{bytes_of};
@@ -9,7 +9,7 @@ use std::marker::Model;
 /// The most bytes whose digits fit into a line.
 const MAX_BYTES: usize = 512;
 
-/// The bytes that a line has in digits.
+/// The bytes that a line gives in digits.
 #[derive(Debug, Drop)]
 pub struct Written {
     bytes: ArrayVec<u8, 512>,
@@ -24,7 +24,7 @@ impl Model for Written {
 }
 
 impl Written {
-    /// The bytes, in their order.
+    /// The bytes, in order.
     pub fn bytes(&self) -> &[u8]
         ensures bytes { result.now ≡ self.now }
         ensures few { length result.now ≤ 512 }
@@ -32,7 +32,7 @@ impl Written {
         self.bytes.as_slice()
     }
 
-    /// The bytes of digits, two for each.
+    /// The bytes read from digits, two for each byte.
     #[tactic(auto, unfolding(crate::specs::Numbers::bytes_of))]
     pub(crate) fn read(digits: &[u8]) -> Option<Written>
         requires { length digits.now ≤ 1024 }

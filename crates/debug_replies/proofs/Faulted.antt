@@ -13,7 +13,7 @@ none_flagged zero p = refl
 none_flagged (suc n) zero = refl
 none_flagged (suc n) (suc p) = none_flagged n p
 
--- one flag more
+-- If the flags before a place agree with a test, and the one written there does, those up to it agree.
 pub more_flags : (flags : List Bool) (i : ℕ) (b : Bool) (test : ℕ → Bool) → i < length flags → b ≡ test i
     → ((p : ℕ) → p < i → is_flagged flags p ≡ test p) → (p : ℕ) → p ≤ i → is_flagged (slice_set flags i b) p ≡ test p
 more_flags flags i b test within is fact p below = by (cases_eq p i)
@@ -22,12 +22,12 @@ more_flags flags i b test within is fact p below = by (cases_eq p i)
     by (inl same) = rw same (get_or-set_same flags i b false within ∙ is)
     by (inr other) = get_or-set_other flags i p b false other ∙ fact p (omega arith)
 
--- no other is changed
+-- The flags after the one that is written are still false.
 pub rest_more : (flags : List Bool) (i : ℕ) (b : Bool) → ((p : ℕ) → i ≤ p → is_flagged flags p ≡ false) → (p : ℕ) → i < p →
     is_flagged (slice_set flags i b) p ≡ false
 rest_more flags i b rest p behind = get_or-set_other flags i p b false (λ same. absurd (omega arith)) ∙ rest p (omega arith)
 
--- the flags of all processors, and none after them
+-- Flags that agree on all processors, and are false after them, agree everywhere.
 pub all_flags : (flags : List Bool) (m : FlatState) → ((p : ℕ) → p < length m.processors → is_flagged flags p ≡ is_faulted_at m p)
     → ((p : ℕ) → length m.processors ≤ p → is_flagged flags p ≡ false) → (p : ℕ) → is_flagged flags p ≡ is_faulted_at m p
 all_flags flags m fact rest p = by (cases_lt p (length m.processors))

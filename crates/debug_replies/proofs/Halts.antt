@@ -1,4 +1,4 @@
--- Where one processor is not halted, not all are.
+-- If one processor is not halted, not all are.
 use Rattle.std.proofs.Common.{◌≡◌, ℕ, zero, suc, ◌<◌, ◌&&◌, ◌⊎◌, inl, inr, Bool, true, false, refl, sym, arith}
 use Rattle.std.proofs.lemmas.Bool.{cases_eq}
 use Rattle.flat_machine.specs.State.{FlatState}

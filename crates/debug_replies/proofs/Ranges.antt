@@ -1,4 +1,4 @@
--- A range with one address that lies in no region is none.
+-- A range with an address that cannot be reached cannot be reached.
 use Rattle.std.proofs.Common.{◌≡◌, ℕ, zero, suc, ◌+◌, ◌<◌, ◌&&◌, ◌⊎◌, inl, inr, Bool, true, false, refl, sym, arith}
 use Rattle.std.proofs.lemmas.Bool.{cases_eq}
 use Rattle.flat_machine.specs.State.{FlatState}

@@ -1,4 +1,4 @@
--- The smallest number that passes a test, as a search from 0 on finds it.
+-- The smallest number that passes a test, as found by a search from 0 on.
 use Rattle.std.proofs.Common.{◌≡◌, ℕ, zero, suc, ◌<◌, ◌⊎◌, inl, inr, Bool, true, false, Some, None, refl, sym, arith}
 use Rattle.std.specs.Prelude.{if◌then◌else◌}
 use Rattle.std.proofs.lemmas.Bool.{cases_eq}
@@ -13,6 +13,6 @@ smallest_is test i (suc n) below none passes = by (cases_eq i n) (λ before. sma
     by (inl same) rest = rw (sym same, none, passes) refl
     by (inr other) rest = rw (rest (omega arith)) refl
 
--- one number more that does not pass
+-- If no number below i passes the test, and i does not, none below the next one does.
 pub none_more : (test : ℕ → Bool) (i : ℕ) → smallest test i ≡ None → test i ≡ false → smallest test (suc i) ≡ None
 none_more test i none fails = rw (none, fails) refl

@@ -3,11 +3,11 @@ use Rattle.std.specs.Prelude.{ℕ, ◌/◌, ◌%◌, ◌^◌, Bool, false, ◌&&
 use Rattle.std.specs.Prelude.{if◌then◌else◌}
 use Rattle.flat_machine.specs.Memory.{in_code, is_aligned}
 
--- an address of code that is divisible by 4
+-- whether an address is that of a code word: in code, and divisible by 4
 abbrev pub is_code_word : (address : ℕ) → Bool
 is_code_word address = in_code address && is_aligned 4 address
 
--- the place of a code word, if the address is that of one
+-- the place of the code word at an address, if there is one
 unfoldable pub word_place : (address : ℕ) → Option ℕ
 word_place address = if is_code_word address then Some (address % 2 ^ 16 / 4) else None
 
@@ -19,10 +19,10 @@ abbrev pub with_flag_at : List Bool → Option ℕ → Bool → List Bool
 with_flag_at flags None flag = flags
 with_flag_at flags (Some place) flag = slice_set flags place flag
 
--- whether there is a break at an address: at none that is not a code word's
+-- whether there is a break at an address: there is none except at code words
 unfoldable pub is_break : List Bool → (address : ℕ) → Bool
 is_break flags address = flag_at flags (word_place address)
 
--- the flags with that of a code word written
+-- the flags with this one for the code word at an address, if there is one
 unfoldable pub with_flag : List Bool → (address : ℕ) → Bool → List Bool
 with_flag flags address flag = with_flag_at flags (word_place address) flag

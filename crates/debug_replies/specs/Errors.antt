@@ -1,4 +1,4 @@
--- Which error a command has: of several the one of the smallest number.
+-- Which error a command has: of several, the one with the smallest number.
 use Rattle.std.specs.Prelude.{ℕ, zero, suc, ◌+◌, ◌%◌, ◌^◌, Bool, true, false, ◌==◌, ◌&&◌, ◌||◌, not, List}
 use Rattle.std.specs.Prelude.{length, codes, Option, Some, None, nat_lt, nat_le, if◌then◌else◌}
 use Rattle.debug_lines.specs.declared.command.Command.{Command}
@@ -19,7 +19,7 @@ error_text error.Register = codes "E04"
 error_text error.Room = codes "E05"
 error_text error.Memory = codes "E06"
 
--- a line that is no command, or that asks for other than 1 to 512 bytes
+-- whether a line is no command, or asks for other than 1 to 512 bytes
 abbrev pub is_malformed : Command → Bool
 is_malformed (State p) = false
 is_malformed (Registers p) = false
@@ -36,20 +36,21 @@ is_malformed Malformed = true
 
 -- ---- addresses
 
--- an address of a region. Code is not written.
+-- whether an access can reach an address: it is in a region, and not in code if the access writes
 unfoldable pub is_reached : FlatState → (writes : Bool) → (address : ℕ) → Bool
 is_reached m writes address = in_shared (length m.shared) address || in_local address || (in_code address && not writes)
 
--- so are this many addresses, from this one on
+-- whether it can reach this many addresses, from this one on
 abbrev pub are_reached : FlatState → (writes : Bool) → (address n : ℕ) → Bool
 are_reached m writes address zero = true
 are_reached m writes address (suc n) = are_reached m writes address n && is_reached m writes (address + n)
 
--- and the last of them is below 2^32
+-- whether it can reach them, and they are all below 2^32
 unfoldable pub is_range : FlatState → (writes : Bool) → (address n : ℕ) → Bool
 is_range m writes address n = nat_le (address + n) (2 ^ 32) && are_reached m writes address n
 
--- The addresses of a command are such. pc, which is register 32, is written with a multiple of 4.
+-- Whether the addresses of a command can be reached, and are code words for breaks. A value for pc, which is register
+-- 32, has to be a multiple of 4.
 unfoldable pub has_addresses : FlatState → Command → Bool
 has_addresses m (State p) = true
 has_addresses m (Registers p) = true
@@ -96,14 +97,14 @@ register_of Continue = None
 register_of Quit = None
 register_of Malformed = None
 
--- a number that is named is below a bound
+-- whether a number, if one is named, is below a bound
 abbrev pub is_named_below : (bound : ℕ) → Option ℕ → Bool
 is_named_below bound None = true
 is_named_below bound (Some n) = nat_lt n bound
 
 -- ---- the error
 
--- The error of a command before anything is asked of the log: its form, an address, the processor, the register.
+-- The error of a command, apart from those of the log: in its form, an address, the processor or the register.
 unfoldable pub error_of : FlatState → Command → Option Error
 error_of m c =
     if is_malformed c then Some error.Form else

@@ -1,4 +1,4 @@
--- Stop replies: where a machine stands after `step` and `cont`. Texts are without their line feed.
+-- Stop replies: where a machine is after `step` and `cont`. The texts are without their line feeds.
 use Rattle.std.specs.Prelude.{ℕ, zero, suc, Bool, true, false, ◌&&◌, not, List, length, ◌++◌, codes}
 use Rattle.std.specs.Prelude.{Option, Some, None, slice_get, slice_index_or, if◌then◌else◌}
 use Rattle.std.specs.Option.{option_map}
@@ -21,17 +21,17 @@ is_halted_status (Some status) = is_halted status
 abbrev pub is_halted_at : FlatState → (p : ℕ) → Bool
 is_halted_at m p = is_halted_status (option_map (λ (q : Processor). q.status) (slice_get m.processors p))
 
--- the first this many processors are halted
+-- whether all processors below n are halted
 abbrev pub are_halted : FlatState → (n : ℕ) → Bool
 are_halted m zero = true
 are_halted m (suc n) = are_halted m n && is_halted_at m n
 
--- the number of a processor in hex without leading zeros, or `-` where none is named
+-- the number of a processor in hex without leading zeros, or `-` if none is named
 unfoldable pub name_text : Option ℕ → List ℕ
 name_text None = codes "-"
 name_text (Some p) = digits 16 false p
 
--- `halted` where all processors are, else `at` with the processor that is named, or with none
+-- `halted` if all processors are, else `at` and the processor that is named, if any
 unfoldable pub stop_text : FlatState → (named : Option ℕ) → List ℕ
 stop_text m named = if are_halted m (length m.processors) then codes "halted" else codes "at " ++ name_text named
 
@@ -66,7 +66,7 @@ is_break_of breaks (Some pc) = is_break breaks pc
 abbrev pub has_break_at : (breaks : List Bool) → FlatState → (p : ℕ) → Bool
 has_break_at breaks m p = is_break_of breaks (option_map (λ (q : Processor). q.pc) (slice_get m.processors p))
 
--- whether a processor stands at a break: it runs, and its next instruction is at one
+-- whether a processor is at a break: it runs, and its next instruction is at one
 abbrev pub is_at_break : (breaks : List Bool) → FlatState → (p : ℕ) → Bool
 is_at_break breaks m p = is_running_at m p && has_break_at breaks m p
 
@@ -83,8 +83,8 @@ abbrev pub smallest : (test : ℕ → Bool) → (n : ℕ) → Option ℕ
 smallest test zero = None
 smallest test (suc n) = or_else (smallest test n) (if test n then Some n else None)
 
--- The smallest processor that stands at a break; else the smallest that a fault has stopped, where none had stopped it
--- before; else none.
+-- The smallest processor at a break; else the smallest that a fault has stopped, and that none had stopped before; else
+-- none.
 unfoldable pub named_stop : (before : ℕ → Bool) → FlatState → (breaks : List Bool) → Option ℕ
 named_stop before m breaks =
     or_else (smallest (is_at_break breaks m) (length m.processors))

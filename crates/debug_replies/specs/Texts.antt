@@ -1,4 +1,4 @@
--- What commands show of the flat machine. Texts are without their line feed.
+-- What commands show of the flat machine. The texts are without their line feeds.
 use Rattle.std.specs.Prelude.{ℕ, zero, suc, ◌+◌, ◌^◌, ◌==◌, ◌&&◌, List, [], ◌++◌, codes, flat_map, Option, Some, None}
 use Rattle.std.specs.Prelude.{nat_le, slice_get, if◌then◌else◌}
 use Rattle.command_io.specs.Digits.{hex_of_byte, hex_of_word, status_text}
@@ -8,7 +8,7 @@ use Rattle.debug_lines.specs.declared.command.Command.TheVariants.{Break, Clear,
 use Rattle.flat_machine.specs.State.{Processor, FlatState}
 use Rattle.machine_steps.specs.Seeing.{byte_seen}
 
--- ---- one processor. Of one that is not there nothing is shown.
+-- ---- one processor; nothing is shown of one that does not exist
 
 -- its status
 unfoldable pub state_text : Option Processor → List ℕ
@@ -43,13 +43,13 @@ abbrev pub bytes_text : FlatState → (k address n : ℕ) → List ℕ
 bytes_text m k address zero = []
 bytes_text m k address (suc n) = bytes_text m k address n ++ byte_text (byte_seen m k (address + n))
 
--- so are shown 512 at most, and none of a range past 2^32
+-- these bytes, or none if they are over 512 or their range goes past 2^32
 unfoldable pub memory_text : FlatState → (k address n : ℕ) → List ℕ
 memory_text m k address n = if nat_le n 512 && nat_le (address + n) (2 ^ 32) then bytes_text m k address n else []
 
 -- ---- commands
 
--- The reply to a command that has no error, where its text does not depend on what it does.
+-- The reply to a command that has no error, if its text does not depend on what the command does.
 unfoldable pub shown_text : FlatState → Command → List ℕ
 shown_text m (State p) = state_text (slice_get m.processors p)
 shown_text m (Registers p) = registers_text (slice_get m.processors p)

@@ -10,7 +10,7 @@ use std::marker::Model;
 const CODE_WORDS: usize = 16_384;
 
 /// The code words before which a session stops: a flag for each, seen as a list in the order of their addresses.
-/// It takes no memory but its own.
+/// It allocates no memory.
 #[derive(Drop)]
 pub struct Breaks {
     flags: [bool; 16_384],
@@ -36,8 +36,8 @@ impl Breaks {
         }
     }
 
-    /// Sets a break, which may be there. False, with nothing changed, where the address is not that of a code word:
-    /// outside code, or not divisible by 4.
+    /// Sets a break, which may be set already. Returns false and changes nothing if the address is not that of a code
+    /// word: outside code, or not divisible by 4.
     pub fn set(&mut self, address: u32) -> bool
         ensures there { result ≡ is_code_word address }
         ensures flags { self.new ≡ with_flag self.old address true }
@@ -47,7 +47,7 @@ impl Breaks {
         self.write(address, true)
     }
 
-    /// Clears a break, which need not be there. False, with nothing changed, where the address is not that of a code
+    /// Clears a break, which need not be set. Returns false and changes nothing if the address is not that of a code
     /// word: outside code, or not divisible by 4.
     pub fn clear(&mut self, address: u32) -> bool
         ensures there { result ≡ is_code_word address }
@@ -68,7 +68,7 @@ impl Breaks {
         }
     }
 
-    /// Writes the flag of a code word, if the address is that of one.
+    /// Writes the flag of the code word at an address, and returns whether there is one.
     #[tactic(auto, unfolding(crate::specs::Breaking::with_flag))]
     fn write(&mut self, address: u32, flag: bool) -> bool
         ensures there { result ≡ is_code_word address }
@@ -93,7 +93,7 @@ pub(crate) fn is_code_word(address: u32) -> bool
     address / REGION_BYTES == CODE_START / REGION_BYTES && address % 4 == 0
 }
 
-/// The place of a code word, if the address is that of one.
+/// The place of the code word at an address, if there is one.
 #[tactic(auto, unfolding(crate::specs::Breaking::word_place))]
 fn word_place(address: u32) -> Option<usize>
     ensures there { result ≡ word_place address }

@@ -13,21 +13,21 @@ use machine_steps::{Machine, flat_processors, flat_shared_words};
 /// The most bytes that one reply shows.
 pub(crate) const MAX_SHOWN: u32 = 512;
 
-/// Why a command is not carried out. Nothing is changed then.
+/// Why a command is not carried out. It then changes nothing.
 #[derive(Clone, Copy, Debug, PartialEq, Eq, Drop)]
 pub enum Error {
-    /// `E01`: the line is no command in its form, or is too long.
+    /// `E01`: the line does not have the form of a command, or is too long.
     Form,
-    /// `E02`: an address in no region, code where a byte would be written, a range past 2^32, a `pc` that is not
-    /// divisible by 4, or a break that is at no word of code.
+    /// `E02`: an address in no region, a write to code, a range past 2^32, a `pc` that is not divisible by 4, or a
+    /// break that is not at a code word.
     Address,
     /// `E03`: the machine has no such processor.
     Processor,
-    /// `E04`: a processor has no such register.
+    /// `E04`: processors have no such register.
     Register,
     /// `E05`: the log has no room for the command's steps.
     Room,
-    /// `E06`: there is no memory.
+    /// `E06`: out of memory.
     Memory,
 }
 
@@ -47,7 +47,7 @@ impl Error {
     }
 }
 
-/// The error that a command has on a machine, before anything is asked of its log: of several the one of the smallest
+/// The error that a command has on a machine, apart from those of its log. Of several, the one with the smallest
 /// number.
 #[tactic(auto, unfolding(crate::specs::Errors::error_of))]
 pub fn error_of(machine: &Machine, command: &Command) -> Option<Error>
@@ -72,7 +72,7 @@ pub fn error_of(machine: &Machine, command: &Command) -> Option<Error>
     None
 }
 
-/// Whether a line was no command, or asks for other than 1 to 512 bytes.
+/// Whether a line is no command, or asks for other than 1 to 512 bytes.
 fn is_malformed(command: &Command) -> bool
     ensures { result ≡ is_malformed command.now }
 {
@@ -83,7 +83,8 @@ fn is_malformed(command: &Command) -> bool
     }
 }
 
-/// Whether the addresses of a command are those of bytes that it may read or write, and a `pc` is divisible by 4.
+/// Whether the addresses of a command are those of bytes that it may read or write, or of code words for breaks, and
+/// a `pc` is divisible by 4.
 #[tactic(auto, unfolding(crate::specs::Errors::has_addresses))]
 fn has_addresses(machine: &Machine, command: &Command) -> bool
     ensures { result ≡ has_addresses (flat_state machine.now) command.now }
@@ -107,7 +108,7 @@ fn has_addresses(machine: &Machine, command: &Command) -> bool
     }
 }
 
-/// Whether each of this many addresses is one of a region, which is written or only read.
+/// Whether an access can reach this many addresses, from this one on. All have to be below 2^32.
 #[tactic(auto, unfolding(crate::specs::Errors::is_range))]
 fn is_range(machine: &Machine, address: u32, count: u32, writes: bool) -> bool
     ensures { result ≡ is_range (flat_state machine.now) writes address count }
@@ -123,7 +124,7 @@ fn is_range(machine: &Machine, address: u32, count: u32, writes: bool) -> bool
     true
 }
 
-/// Whether an address is one of a region. Code is not written.
+/// Whether an access can reach an address. A write cannot reach code.
 #[tactic(auto, unfolding(crate::specs::Errors::is_reached))]
 fn is_reached(machine: &Machine, address: u32, writes: bool) -> bool
     ensures { result ≡ is_reached (flat_state machine.now) writes address }

@@ -1,4 +1,4 @@
-//! Which processors faults have stopped.
+//! The processors that faults have stopped.
 
 ghost use Rattle.std.specs.Prelude.{◌≡◌, ◌<◌, ℕ};
 ghost use Rattle.machine_steps.specs.Machines.{AreHome};
@@ -9,7 +9,7 @@ use flat_machine::Status;
 use machine_steps::{Machine, flat_processors, flat_status};
 use std::marker::Model;
 
-/// The most processors that a machine has.
+/// The most processors of a machine.
 const MOST_PROCESSORS: usize = 64;
 
 /// The processors that faults had stopped at some moment: a flag for each, seen as a list in their order.
@@ -29,7 +29,7 @@ impl Model for Faults {
 }
 
 impl Faults {
-    /// Those of a machine as it stands.
+    /// The processors of this machine that faults have stopped.
     pub fn of(machine: &Machine) -> Self
         requires home { AreHome machine.now }
         ensures { (p : ℕ) → is_flagged result p ≡ is_faulted_at (flat_state machine.now) p }

@@ -1,4 +1,4 @@
-//! What a debugger's session answers, over the flat machine, and the breaks before which it stops.
+//! The replies of a debugger's session, which show the flat machine, and the breaks before which it stops.
 #![tactic(auto)]
 
 mod breaks;

@@ -1,4 +1,4 @@
-//! Replies that show.
+//! Replies that show the machine.
 
 ghost use Rattle.std.specs.Prelude.{◌≡◌, ◌≤◌, ◌+◌, ◌++◌, length, slice_get};
 ghost use Rattle.arrayvec.specs.ArrayVec.{array_vec_len};
@@ -14,9 +14,8 @@ use debug_lines::Command;
 use flat_machine::PC;
 use machine_steps::{Machine, flat_byte, flat_pc, flat_registers, flat_status};
 
-/// Puts the reply to a command that has no error into the text, in place of what it had, where it does not depend on
-/// what the command does: what is shown, or `ok`. For `step` and `cont`, and for what is not there, the text is left
-/// empty.
+/// Replaces the text by the reply to a command that has no error: what it shows, or `ok`. The text is empty for `step`
+/// and `cont`, whose reply depends on what they do, and for what does not exist.
 #[tactic(auto, unfolding(crate::specs::Texts::shown_text))]
 pub fn show(machine: &Machine, command: &Command, text: &mut ArrayVec<u8, 1024>)
     requires home { AreHome machine.now }
@@ -103,7 +102,7 @@ fn show_memory(
     }
 }
 
-/// A register of a processor, or `pc` as 32. None where there is no such processor or register.
+/// A register of a processor, or `pc` as 32. None if there is no such processor or register.
 #[tactic(auto, unfolding(crate::specs::Texts::register_at))]
 fn register_value(machine: &Machine, processor: u32, register: u32) -> Option<u32>
     requires home { AreHome machine.now }

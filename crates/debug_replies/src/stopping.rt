@@ -17,8 +17,8 @@ use arrayvec::ArrayVec;
 use flat_machine::Status;
 use machine_steps::{Machine, flat_pc, flat_processors, flat_status};
 
-/// Puts a stop reply into the text, in place of what it had: `halted` where all processors are halted, else `at` with
-/// the processor that is named, in hex without leading zeros, or with `-`.
+/// Replaces the text by a stop reply: `halted` if all processors are halted, else `at` and the processor that is
+/// named, in hex without leading zeros, or `-` for none.
 #[tactic(auto, unfolding(crate::specs::Stops::stop_text))]
 pub fn show_stop(machine: &Machine, named: Option<u8>, text: &mut ArrayVec<u8, 1024>)
     requires home { AreHome machine.now }
@@ -101,8 +101,8 @@ fn has_halted(status: Status) -> bool
     matches!(status, Status::Halted(_))
 }
 
-/// The processor that the stop reply of `cont` names: the smallest that runs and stands at a break; else the smallest
-/// that a fault has stopped, where none had stopped it before; else none.
+/// The processor that the stop reply of `cont` names: the smallest at a break; else the smallest that a fault has
+/// stopped, and that none had stopped before; else none.
 #[tactic(auto, unfolding(crate::specs::Stops::named_stop))]
 pub fn named_stop(machine: &Machine, breaks: &Breaks, before: &Faults) -> Option<u8>
     requires home { AreHome machine.now }
@@ -114,7 +114,7 @@ pub fn named_stop(machine: &Machine, breaks: &Breaks, before: &Faults) -> Option
     }
 }
 
-/// The smallest processor that stands at a break.
+/// The smallest processor at a break.
 fn first_at_break(machine: &Machine, breaks: &Breaks) -> Option<u8>
     requires home { AreHome machine.now }
     ensures { result
@@ -128,7 +128,7 @@ fn first_at_break(machine: &Machine, breaks: &Breaks) -> Option<u8>
     None
 }
 
-/// The smallest processor that a fault has stopped, and none before.
+/// The smallest processor that a fault has stopped, and that none had stopped before.
 fn first_faulted(machine: &Machine, before: &Faults) -> Option<u8>
     requires home { AreHome machine.now }
     ensures { result
@@ -143,7 +143,7 @@ fn first_faulted(machine: &Machine, before: &Faults) -> Option<u8>
     None
 }
 
-/// Whether a processor stands at a break: it runs, and its next instruction is at one.
+/// Whether a processor is at a break: it runs, and its next instruction is at one.
 fn is_at_break(machine: &Machine, breaks: &Breaks, processor: u32) -> bool
     requires home { AreHome machine.now }
     ensures { result ≡ is_at_break breaks.now (flat_state machine.now) processor }

@@ -13,7 +13,7 @@ use Rattle.ghost_map.specs.Rows.{authority, fragment, nobody, let_go, hold, take
 off : false ≡ true → ⊥
 off e = true≢false (sym e)
 
--- the owner of the row k is the seat n, and the others stay
+-- the owners of rows, with the seat n for the row k
 moved : (ℕ → ℕ) → ℕ → ℕ → ℕ → ℕ
 moved f k n j = cond (eqb j k) n (f j)
 
@@ -55,7 +55,7 @@ module _ {R : Type 0} where
   abbrev All : List R → ℕ → (ℕ → ℕ) → List (View R) → Type 0
   All all boss owner views = (by : ℕ) (v : View R) → get_elem? views by ≡ some v → Fits all boss owner by v
 
-  -- one view changes
+  -- If one view changes and fits, and all others fit, all views fit after the change.
   fits_set : (all : List R) (boss : ℕ) (owner : ℕ → ℕ) (views : List (View R)) (at : ℕ) (w : View R)
       → ((j : ℕ) (u : View R) → j ≢ at → get_elem? views j ≡ some u → Fits all boss owner j u)
       → Fits all boss owner at w → All all boss owner (set views at w)
@@ -76,7 +76,7 @@ module _ {R : Type 0} where
       one zero v e = subst (Fits [] 0 (λ k. k) 0) (some-injective _ _ e) ((λ _. (refl, refl)), (λ who row h. absurd (cc)))
       one (suc by) v e = absurd (some-ne-none v (sym e))
 
-  -- the last of a longer list is new
+  -- An element of a list with one more is one of the list, or the last.
   at_end : (l : List (View R)) (a b : View R) (j : ℕ) → get_elem? (l ++ a ∷ []) j ≡ some b
       → (get_elem? l j ≡ some b) ⊎ ((j ≡ length l) × (a ≡ b))
   at_end [] a b zero e = inr (refl, some-injective a b e)
@@ -237,7 +237,7 @@ module _ {R : Type 0} where
             (none_held h.0 h.1 owner other),
       )
 
-  -- the same at a seat that is known
+  -- A seat that is known to be the authority's, with nothing in hand, may add a row.
   pub hires_as : (me : Me (Unit {0}) (View R)) (all : List R) (row : R) (slots id i : ℕ)
       → me ≡ (authority all [], []) → Allows Rule slots id me i (λ n. n) (λ n w. Allocated row me w)
   hires_as me all row slots id i is =
@@ -261,13 +261,13 @@ module _ {R : Type 0} where
       subst (λ (p : View R × View R). Joins Rule id p.0 other p.1 (taken p.0 p.1) nobody) (λ i. (sym is i, sym that i))
       (takes all who row id other)
 
-  -- a list of one has its one
+  -- A list of length one has one element.
   pub one_of : (xs : List (ℕ × R)) → length xs ≡ 1 → (p : ℕ × R) × (xs ≡ p ∷ [])
   one_of [] e = absurd (omega arith)
   one_of (x ∷ []) e = (x, refl)
   one_of (x ∷ y ∷ ys) e = absurd (omega arith)
 
-  -- the one row of a fragment whose badge has this view
+  -- The one view of a fragment's badge is the fragment with its one row.
   pub known : (held : List (ℕ × R)) (views : List (View R)) (w : View R)
       → length held ≡ 1 → views ≡ fragment held ∷ [] → views ≡ w ∷ [] → (p : ℕ × R) × (held ≡ p ∷ []) × (w ≡ fragment (p ∷ []))
   known held views w len is that =

@@ -1,4 +1,4 @@
--- Rows that an authority knows whole, and of which each fragment knows one.
+-- Rows that an authority knows in full. Each fragment knows one of them.
 use Rattle.std.specs.Prelude.{◌≡◌, ℕ, List, [], ◌∷◌, ◌++◌, length, Some, slice_get, slice_set, true, false}
 use mathlib.Core.Option.{some}
 use lib.ListN.{get_elem?}
@@ -30,35 +30,35 @@ module _ {R : Type 0} where
   abbrev pub taken : View R → View R → View R
   taken v w = record { keeps = v.keeps; all = v.all; held = w.held }
 
-  -- what the rule says of one view
+  -- A view fits the rule: only the boss keeps all rows, and a row is held by its owner alone, as it is among all.
   abbrev pub Fits : List R → ℕ → (ℕ → ℕ) → ℕ → View R → Type 0
   Fits all boss owner by v =
       (v.keeps ≡ true → (by ≡ boss) × (v.all ≡ all))
       × ((who : ℕ) (row : R) → v.held ≡ (who, row) ∷ [] → (by ≡ owner who) × (slice_get all who ≡ Some row))
 
-  -- one seat at most knows all rows, and each row is claimed by one seat at most, which knows it
+  -- One seat at most keeps all rows, and each row is held by one seat at most, as it is among all.
   abbrev pub Kept : List (View R) → Type 0
   Kept views =
       (all : List R) × (boss : ℕ) × (owner : ℕ → ℕ)
       × ((by : ℕ) (v : View R) → get_elem? views by ≡ some v → Fits all boss owner by v)
 
-  -- the authority has one row more, and the fragment to it in hand
+  -- The authority has one more row, and that row's fragment in hand.
   abbrev pub Allocated : R → Me (Unit {0}) (View R) → Me (Unit {0}) (View R) → Type 0
   Allocated row v w = w ≡ (authority (v.0.all ++ row ∷ []) ((length v.0.all, row) ∷ []), v.1)
 
-  -- the fragment in hand agreed with the authority's row, which is now this one in both
+  -- The fragment in hand agreed with the authority, and both now have the new row in its place.
   abbrev pub Written : R → Me (Unit {0}) (View R) → Me (Unit {0}) (View R) → Type 0
   Written new v w = (who : ℕ) (row : R) → v.0.held ≡ (who, row) ∷ []
       → (slice_get v.0.all who ≡ Some row) × (w ≡ (authority (slice_set v.0.all who new) ((who, new) ∷ []), v.1))
 
-  -- The fragment to row `who` agreed with the authority, who had these rows. The new row stands in its place, for both.
+  -- The fragment of row `who` agreed with the authority, which had these rows. Both now have the new row in its place.
   pub record IsWritten (new : R) (rows : List R) (who : ℕ) (row : R) (rows' : List R)
       (fragment' : List (ℕ × R)) : Type 0 where
     pub agreed : slice_get rows who ≡ Some row
     pub authority : rows' ≡ slice_set rows who new
     pub fragment : fragment' ≡ (who, new) ∷ []
 
-  -- what the views of a badge hold
+  -- what the first of a badge's views holds
   abbrev pub held_of : List (View R) → List (ℕ × R)
   held_of [] = []
   held_of (v ∷ vs) = v.held

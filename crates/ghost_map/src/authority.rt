@@ -9,7 +9,7 @@ use std::alloc::{AllocError, Global};
 use std::marker::{Model, PhantomData};
 use std::mem;
 
-/// A table with no rows, before an authority has it. Contracts see which table it is.
+/// A table without rows that has no authority yet. Contracts see which table it is.
 #[derive(Drop)]
 pub struct NewTable<R> {
     table: Table<(), View<R>, (), Agrees, Global>,
@@ -32,18 +32,18 @@ impl<R> Model for NewTable<R> {
 }
 
 impl<R> NewTable<R> {
-    /// A new table.
+    /// Makes a new table.
     ///
     /// # Errors
     ///
-    /// Where there is no memory for it.
+    /// [`AllocError`] if there is no memory for it.
     pub fn new(alloc: Global) -> Result<NewTable<R>, AllocError> {
         let (table, seat) = Table::of_words(alloc, &[0], &())?;
         Ok(NewTable { table, seat })
     }
 }
 
-/// What knows all rows. Contracts see it as these.
+/// What knows all rows. Contracts see it as the list of them.
 #[derive(Drop)]
 pub struct Authority<R, N: Naming> {
     table: Table<(), View<R>, (), Agrees, Global>,
@@ -96,7 +96,7 @@ impl<R, N: Naming> Authority<R, N> {
         }
     }
 
-    /// One row more, with its fragment.
+    /// Adds a row, and returns its fragment.
     pub fn allocate<M: Next<R>>(&mut self) -> Fragment<R, N>
         ensures authority { self.new ≡ self.old ++ M.next ∷ [] }
         ensures fragment { result ≡ (length self.old, M.next) ∷ [] }
@@ -110,7 +110,7 @@ impl<R, N: Naming> Authority<R, N> {
         }
     }
 
-    /// Writes the fragment's row, which was the authority's row too.
+    /// Writes the fragment's row, which was the authority's too, in both.
     pub fn write<M: Next<R>>(&mut self, fragment: &mut Fragment<R, N>)
         ensures { (who : ℕ) (row : R) → fragment.old ≡ (who, row) ∷ [] →
             IsWritten M.next self.old who row self.new fragment.new }

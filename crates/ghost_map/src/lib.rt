@@ -1,9 +1,9 @@
-//! A table of rows that one authority knows whole. Each fragment knows one row, and the two always agree.
+//! A table of rows. One authority knows them all, each fragment knows one, and the two always agree.
 //!
 //! A thread that holds a [`Fragment`] and the [`Authority`] knows that the fragment's row is the authority's, and may
 //! write it ([`Authority::write`]). So a lock that keeps the authority knows what each part of a program stores by
-//! itself. This is the authoritative ghost map of Iris. At run time one word is left of it: the rows exist in proofs
-//! alone. `specs/Rows.antt` has the rule.
+//! itself. This is the authoritative ghost map of Iris. At run time only one word of it is left: the rows exist in
+//! proofs alone. `specs/Rows.antt` has the rule.
 #![tactic(auto)]
 
 mod authority;

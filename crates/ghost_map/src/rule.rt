@@ -1,10 +1,10 @@
-//! The rule of the table, and what its steps know.
+//! The rule of the table, and its steps.
 
 use atomic_table::{Join, Play, Split, TableRule};
 use std::collections::LinkedList;
 use std::marker::{Brand, PhantomData};
 
-/// Which table it is. Each call of a program picks it.
+/// A type that names a table. Each call of a program picks one.
 pub trait Naming {
     ghost use Rattle.atomic_table.specs.Seated.{TableId};
 
@@ -17,12 +17,12 @@ impl Naming for Brand {
     ghost table = { no_table };
 }
 
-/// The row that a step writes. Each call picks it.
+/// A type that names the row a step writes. Each call picks one.
 pub trait Next<R> {
     ghost next: { R };
 }
 
-/// What a seat knows: the authority all rows, and a fragment its number and its row. No value of it is made.
+/// What a seat knows: all rows for the authority, its number and row for a fragment. No value of it is made.
 pub struct View<R> {
     pub keeps: bool,
     pub all: LinkedList<R>,
@@ -41,7 +41,7 @@ impl<R> TableRule<(), View<R>, ()> for Agrees {
     ghost first = { λ _. authority [] [] };
 }
 
-/// The authority makes a row with a fragment to it.
+/// The authority adds a row, and has its fragment in hand.
 pub struct Allocates<M> {
     of: PhantomData<M>,
 }
@@ -52,7 +52,7 @@ impl<R, M: Next<R>> Play<(), View<R>> for Allocates<M> {
     ghost then = { λ _ v _ w. Allocated M.next v w };
 }
 
-/// The authority with a fragment writes the fragment's row.
+/// The authority writes the row of the fragment in its hand.
 pub struct Writes<M> {
     of: PhantomData<M>,
 }
@@ -63,7 +63,7 @@ impl<R, M: Next<R>> Play<(), View<R>> for Writes<M> {
     ghost then = { λ _ v _ w. Written M.next v w };
 }
 
-/// The authority takes in a fragment, and lets it go.
+/// The authority takes a fragment in hand, and lets it go.
 pub struct SplitAndJoin;
 
 impl<R> Split<View<R>> for SplitAndJoin {
