@@ -1,4 +1,4 @@
--- What may cross threads, part by part, since a search that goes down through all of it runs out of steps.
+-- What may cross threads, part by part, because a search through all of it runs out of steps.
 use Rattle.std.proofs.Crossing.{crosses}
 use denote.RattleType.{RattleType}
 use denote.Param.Send.{IsSend, IsSync, sendable}

@@ -86,7 +86,7 @@ own_turn (step.Serve m) p count less own = refl
 own_turn (step.Down s w) p count less own = refl
 own_turn (step.Poke poke) p count less own = refl
 
--- ---- an answer more
+-- ---- one more answer
 
 module _ (opening : MachineLists) (first : List Step) where
   abbrev low : ℕ
@@ -97,7 +97,7 @@ module _ (opening : MachineLists) (first : List Step) where
       (low + length (drop low steps) ≡ length steps) × (low ≤ length steps)
   long count steps rows h = let n = ap length h.begins in let m = length-append first (drop low steps) in (omega arith, omega arith)
 
-  -- the machine after the first steps and the others is that after all
+  -- The machine after the first steps and then the others is the machine after all steps.
   here_is : (count : ℕ) (steps : List Step) (rows : List PassState) → Fits opening first count steps rows →
       all_after opening.config opening.code (machine_after opening first) (drop low steps) ≡ machine_after opening steps
   here_is count steps rows h =
@@ -118,7 +118,7 @@ module _ (opening : MachineLists) (first : List Step) where
             (all-push (λ t. not (is_turn_of q t)) (drop (behind a) steps) s f.final (ap not off));
       }
 
-  -- the list of a processor with one step more
+  -- The list of a processor over steps and one more is that over the steps, followed by what the last one gives.
   list_more : (count : ℕ) (steps : List Step) (rows : List PassState) (q : ℕ) (s : Step) → Fits opening first count steps rows →
       pass_events_since opening first q (steps ++ s ∷ []) ≡ pass_events_since opening first q steps
       ++ given_to q (length steps) s (answer_after opening steps s)
@@ -131,7 +131,7 @@ module _ (opening : MachineLists) (first : List Step) where
       ∙ (λ i. pass_events_of opening.config opening.code q low M rest
       ++ given_to q (n.0 i) s (outcome_of opening.config opening.code (here_is count steps rows h i) s))
 
-  -- the row of a processor that the step is not of
+  -- The row of a processor fits after one more step that is not its turn.
   row_more : (count : ℕ) (steps : List Step) (rows : List PassState) (q : ℕ) (s : Step) (r : PassState) → Fits opening first count steps rows →
       is_turn_of q s ≡ false →
       RowFits opening first steps q r → RowFits opening first (steps ++ s ∷ []) q r
@@ -211,7 +211,7 @@ module _ (opening : MachineLists) (first : List Step) where
         total = omega arith;
       }
 
-  -- If a step that is no poke, that the machine has, and that is no turn of another than p, is answered,
+  -- If a step is answered that is no poke, that the machine has, and that is no turn of a processor other than p,
   -- the rows with p's answer fit the steps in which it is entered.
   pub answered : (count : ℕ) (steps : List Step) (rows : List PassState) (p : ℕ) (r : PassState) (s : Step) (o : Outcome)
       → Fits opening first count steps rows → slice_get rows p ≡ Some r → is_poke s ≡ false → is_named opening.config s ≡ true →
@@ -220,7 +220,7 @@ module _ (opening : MachineLists) (first : List Step) where
       → Fits opening first count (entered steps s o) (slice_set rows p (with_answer p r s o (length steps)))
   answered count steps rows p r s o = answered_at count steps rows p r s o (is_stalled o) refl
 
--- If the last answer of p fits the steps, the place after all steps can be that of the next answer.
+-- If the last answer of p fits the steps, the next answer can be at the place after all steps.
 pub follows_last : (opening : MachineLists) (from : ℕ) (steps : List Step) (p : ℕ) (l : Option Answer) → LastFits opening from steps p l →
     Follows l (length steps)
 follows_last opening from steps p None f = tt
@@ -228,7 +228,7 @@ follows_last opening from steps p (Some a) f = f.high
 
 -- ---- the passes of all processors
 
--- their rows, in order
+-- If rows are those of passes, place by place, they are the list of the passes' rows.
 pub rows_are : (rows : List PassState) (hs : List Held) → length rows ≡ length hs →
     ((k : ℕ) (h : Held) → slice_get hs k ≡ Some h → slice_get rows k ≡ Some h.row) →
     rows ≡ rows_of hs
@@ -279,7 +279,7 @@ steps_of-new zero = refl
 steps_of-new (suc n) = let h =
     steps_of-new n in ap steps_of (rows_of-push (new_passes n) (held n new_row)) ∙ steps_of-append (rows_of (new_passes n)) (new_row ∷ []) ∙ omega arith
 
--- the run at its start
+-- At the start of a run, the rows of new passes fit the steps before it.
 pub starts : (opening : MachineLists) (first : List Step) (count : ℕ) → Fits opening first count first (rows_of (new_passes count))
 starts opening first count =
     let none = drop-length first in record {
@@ -299,13 +299,13 @@ starts opening first count =
       total = let z = steps_of-new count in omega arith;
     }
 
--- none of them has a core that is lent
+-- No new pass has a lent core.
 pub new_loans : (count n p : ℕ) (r : PassState) → slice_get (rows_of (new_passes count)) p ≡ Some r → r.lent ≡ most_of (lent_at (replicate n None) p)
 new_loans count n p r e =
     let g = get-rows_of (new_passes count) p r e in
     ap (λ (x : PassState). x.lent) (sym g.2 ∙ (new_at count p g.0 g.1).1) ∙ ap most_of (sym (replicate_none n p))
 
--- A list stays the same if what is at a place is put there.
+-- A list stays the same if what is at a place is put there again.
 pub set_back : {A : Type 0} (xs : List A) (i : ℕ) (d v : A) → i < length xs → v ≡ get_or xs i d → slice_set xs i v ≡ xs
 set_back [] i d v h e = refl
 set_back (x ∷ xs) zero d v h e = ap (λ y. y ∷ xs) e
@@ -317,7 +317,7 @@ get_is [] i d v e = absurd (cc)
 get_is (x ∷ xs) zero d v e = cc
 get_is (x ∷ xs) (suc i) d v e = get_is xs i d v e
 
--- They stay whole where one is another one of the same processor.
+-- Passes stay those of all processors, in order, if one is replaced by another one of the same processor.
 pub whole_set : (n : ℕ) (hs : List Held) (k : ℕ) (h d : Held) → k < length hs → h.processor ≡ (get_or hs k d).processor → IsWhole n hs →
     IsWhole n (slice_set hs k h)
 whole_set n hs k h d less same whole =

@@ -22,7 +22,7 @@ use Rattle.machine_lock.specs.Lists.{pass_events_of, given_to}
 abbrev events : List PassEvent → List Event
 events ns = map (λ n. n.event) ns
 
--- what stands after the events of p, where a turn of q shows this one
+-- What a turn of q shows comes after the events of p, if q is p.
 behind : (shown : ℕ → List Event) (q p place : ℕ) (e : Event) →
     put shown q (shown q ++ e ∷ []) p ≡ shown p ++ events (if q == p then record { event = e; place = place } ∷ [] else [])
 unfolding put
@@ -41,7 +41,7 @@ none : (shown : ℕ → List Event) (p : ℕ) (b : Bool) → shown p ≡ shown p
 none shown p true = sym (append-nil (shown p))
 none shown p false = sym (append-nil (shown p))
 
--- one step
+-- One step adds to the events of p what it gives p.
 step_is : (shown : ℕ → List Event) (p place : ℕ) (s : Step) (o : Outcome) → with_shown shown s o p ≡ shown p ++ events (given_to p place s o)
 step_is shown p place (step.Turn q) (Retired retired) = behind shown q p place (event.Retired retired)
 step_is shown p place (step.Turn q) (Stopped cause) = behind shown q p place (event.Stopped cause)

@@ -1,4 +1,4 @@
--- Lists over steps and one step more, and over steps and others.
+-- Lists over steps and one more, and over steps and others.
 use Rattle.std.proofs.Common.{◌≡◌, ◌≢◌, ℕ, zero, suc, ◌+◌, Bool, true, ◌&&◌, List, [], ◌∷◌, ◌++◌, length, refl, sym, ap, ◌∙◌, subst, arith, append_assoc}
 use Rattle.std.specs.Prelude.{slice_get, slice_set, Some}
 use Rattle.std.specs.List.{list_all}
@@ -20,7 +20,7 @@ unfolding all_after
 all_after-append c code M [] ys = refl
 all_after-append c code M (x ∷ xs) ys = all_after-append c code (after c code M x) xs ys
 
--- The list over steps and more steps is that over the steps, and then that over the others, from their place on.
+-- The list over steps and then others is the list over the steps, followed by that over the others from their place on.
 pub pass_events_joined : (c : Config) (code : List ℕ) (p place : ℕ) (M : Machine ObservedCore) (xs ys : List Step) →
     pass_events_of c code p place M (xs ++ ys) ≡ pass_events_of c code p place M xs ++ pass_events_of c code p (place + length xs) (all_after c code M xs) ys
 unfolding all_after
@@ -34,7 +34,7 @@ pass_events_joined c code p place M (x ∷ xs) ys =
     ∙ sym (append_assoc (given_to p place x (outcome_of c code M x)) (pass_events_of c code p (suc place) (after c code M x) xs)
     (pass_events_of c code p (place + length (x ∷ xs)) M' ys))
 
--- The list over steps and one more is that over the steps, and then what the last one gives.
+-- The list over steps and one more is the list over the steps, followed by what the last one gives.
 pub pass_events_pushed : (c : Config) (code : List ℕ) (p place : ℕ) (M : Machine ObservedCore) (xs : List Step) (s : Step) →
     pass_events_of c code p place M (xs ++ s ∷ []) ≡ pass_events_of c code p place M xs
     ++ given_to p (place + length xs) s (outcome_of c code (all_after c code M xs) s)
@@ -71,7 +71,7 @@ module _ {A : Type 0} where
   get-set_else (x ∷ xs) (suc k) zero r s ne e = e
   get-set_else (x ∷ xs) (suc k) (suc j) r s ne e = get-set_else xs k j r s (λ h. ne (ap suc h)) e
 
-  -- what holds of each, where one is set
+  -- What holds of an element that is set at its place, and of all others at theirs, holds of each after the change.
   pub each-set : (P : ℕ → A → Type 0) (xs : List A) (k : ℕ) (r : A) → P k r → ((j : ℕ) (s : A) → j ≢ k → slice_get xs j ≡ Some s → P j s) →
       (j : ℕ) (s : A) → slice_get (slice_set xs k r) j ≡ Some s → P j s
   each-set P xs k r here others j s e = dite (ℕ_discrete j k)

@@ -1,4 +1,4 @@
--- The rows fit the steps, where a core is lent or comes back.
+-- The rows fit the steps after a core is lent or comes back.
 use Rattle.std.proofs.Common.{◌≡◌, ℕ, zero, suc, ◌<◌, true, false, List, [], ◌∷◌, ◌++◌, length, Option, Some, None}
 use Rattle.std.proofs.Common.{refl, sym, ap, ◌∙◌, subst, arith, length-append, append_assoc, eqb-true, ne_eqb}
 use Rattle.std.specs.Prelude.{slice_get, slice_set}
@@ -26,7 +26,7 @@ get_set_here (y ∷ ys) zero x inside = refl
 get_set_here (y ∷ ys) (suc p) x inside = get_set_here ys p x (omega arith)
 
 module _ (opening : MachineLists) (first : List Step) (count : ℕ) where
-  -- where a row says something else of loans
+  -- The rows fit after what one of them says of its loan has changed.
   pub loan_fits : (steps : List Step) (rows : List PassState) (p : ℕ) (r : PassState) (lent : Option ℕ) → Fits opening first count steps rows →
       slice_get rows p ≡ Some r →
       Fits opening first count steps (slice_set rows p (with_loan r lent))
@@ -44,7 +44,7 @@ module _ (opening : MachineLists) (first : List Step) (count : ℕ) where
         total = omega (arith, sum, total);
       }
 
-  -- where turns of p retire these instructions, one after another
+  -- The rows fit after turns of p have retired these instructions, one after another.
   pub answer_fits : (steps : List Step) (rows : List PassState) (p : ℕ) (r : PassState) (taken : List Retired) → Fits opening first count steps rows →
       slice_get rows p ≡ Some r → is_named opening.config (step.Turn p) ≡ true → AreAnswered opening steps p taken →
       Fits opening first count (steps ++ turns_of p (length taken)) (slice_set rows p (with_retirements p r (length steps) taken))
@@ -64,7 +64,7 @@ module _ (opening : MachineLists) (first : List Step) (count : ℕ) where
             ∙ ap (λ n. slice_set rows p (with_retirements p once n later)) place) i,
       )) more
 
-  -- where a core comes back, and turns of p have retired these instructions
+  -- The rows fit after a core has come back, and turns of p have retired its instructions.
   pub back_fits : (steps : List Step) (rows : List PassState) (p : ℕ) (r : PassState) (taken : List Retired) → Fits opening first count steps rows →
       slice_get rows p ≡ Some r → is_named opening.config (step.Turn p) ≡ true → AreAnswered opening steps p taken →
       Fits opening first count (steps ++ turns_of p (length taken)) (slice_set rows p (with_loan (with_retirements p r (length steps) taken) None))
@@ -77,7 +77,7 @@ module _ (opening : MachineLists) (first : List Step) (count : ℕ) where
 
 -- ---- loans
 
--- what the rows say of loans is what is known of them
+-- What the rows say of loans is what is known of them.
 abbrev pub SayLoans : List PassState → List (Option Lent) → Type 0
 SayLoans rows lent = (p : ℕ) (r : PassState) → slice_get rows p ≡ Some r → r.lent ≡ most_of (lent_at lent p)
 
@@ -87,7 +87,7 @@ pub say_set : (rows : List PassState) (lent lent' : List (Option Lent)) (p : ℕ
 say_set rows lent lent' p new say others here = each-set (λ q r. r.lent ≡ most_of (lent_at lent' q)) rows p new here
     (λ q r other e. say q r e ∙ ap most_of (sym (others q other)))
 
--- a turn of a processor whose core is not lent is of none whose core is
+-- A turn of a processor whose core is not lent is not of a processor whose core is lent.
 pub turn_others : (lent : List (Option Lent)) (p : ℕ) → None ≡ most_of (lent_at lent p) → OfOthers lent (step.Turn p)
 turn_others lent p none q l e same = absurd (no (lent_at lent p) (ap (lent_at lent) same ∙ e) none)
   where
@@ -95,7 +95,7 @@ turn_others lent p none q l e same = absurd (no (lent_at lent p) (ap (lent_at le
     no None f g = cc
     no (Some k) f g = cc
 
--- and so is each step of the network
+-- Nor is a step of the network.
 pub net_others : (lent : List (Option Lent)) (s : Step) → is_of_network s ≡ true → OfOthers lent s
 net_others lent (step.Turn p) net q l e = absurd (cc)
 net_others lent (step.Up s w) net q l e = tt
@@ -103,12 +103,12 @@ net_others lent (step.Serve m) net q l e = tt
 net_others lent (step.Down s w) net q l e = tt
 net_others lent (step.Poke poke) net q l e = absurd (cc)
 
--- rows with further answers say the same of loans
+-- A row with further answers says the same of its loan.
 pub with_retirements_lent : (p : ℕ) (r : PassState) (place : ℕ) (taken : List Retired) → (with_retirements p r place taken).lent ≡ r.lent
 with_retirements_lent p r place [] = refl
 with_retirements_lent p r place (retired ∷ later) = with_retirements_lent p (with_answer p r (step.Turn p) (outcome.Retired retired) place) (suc place) later
 
--- what others do gives nothing to a processor whose core is lent
+-- A step of others is no turn of a processor whose core is lent.
 pub lent_quiet : (lent : List (Option Lent)) (s : Step) (p most : ℕ) → OfOthers lent s → Some most ≡ most_of (lent_at lent p) → is_turn_of p s ≡ false
 lent_quiet lent s p most others e = at (lent_at lent p) refl e
   where
@@ -123,7 +123,7 @@ lent_quiet lent s p most others e = at (lent_at lent p) refl e
     at None f g = absurd (cc)
     at (Some l) f g = apart s (others p l f)
 
--- ---- what is known of loans, where one is made and comes back
+-- ---- what is known of loans after one is made or comes back
 
 -- After what is known of the core of p is removed, p has no loan.
 pub none_here : (lent : List (Option Lent)) (p : ℕ) → lent_at (slice_set lent p None) p ≡ None
@@ -132,7 +132,7 @@ none_here [] (suc p) = refl
 none_here (l ∷ lent) zero = refl
 none_here (l ∷ lent) (suc p) = none_here lent p
 
--- A core that is lent, and brought back at once, leaves all as it was.
+-- If a core is lent and brought back at once, all is as it was.
 pub brought_back : (old lent back : LendingLog) (p : ℕ) (l : Lent) → lent ≡ record old { lent = slice_set old.lent p (Some l) } → lent_at old.lent p ≡ None →
     back ≡ record lent { lent = slice_set lent.lent p None } → back ≡ old
 brought_back old lent back p l one none two =

@@ -9,13 +9,13 @@ use Rattle.hart.specs.declared.run.LocalEnd.{LocalEnd}
 use Rattle.machine_log.specs.declared.lent.Lent.{Lent}
 use Rattle.machine_lock.specs.Passes.{IsLoan}
 
--- local instructions, and then more
+-- Local instructions, and then more of them, are local instructions in all.
 takes_more : (s : Setting) (code : List ℕ) (a b d : Processor) (first more : List Retired) → TakesLocal s code a first b → TakesLocal s code b more d →
     TakesLocal s code a (first ++ more) d
 takes_more s code a b d [] more one two = subst (λ x. TakesLocal s code x more d) one two
 takes_more s code a b d (retired ∷ later) more (next, here, rest) two = (next, here, takes_more s code next b d later more rest two)
 
--- A core on loan that has run on by itself, and has retired no more than it may, is on loan still.
+-- A core on loan that has run further by itself, and has retired no more than it may, is still on loan.
 pub loan_goes_on : (code : List ℕ) (l : Lent) (old new : CoreState) (before after : RetirementList) (end : LocalEnd) → IsLoan code l old before →
     HasRunLocally code old new before after end → length after.items ≤ after.most → before.most ≡ l.most → IsLoan code l new after
 loan_goes_on code l old new before after end is run few most = record {

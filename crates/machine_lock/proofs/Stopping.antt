@@ -31,7 +31,7 @@ use Rattle.machine_steps.specs.Runs.{all_after}
 use Rattle.machine_lock.specs.declared.row.PassEvent.{PassEvent}
 use Rattle.machine_lock.specs.Lists.{given_to, is_poke, no_poke, pass_events_of, shown_at}
 
--- It has no reference open, and does not run.
+-- The processor is over: it has no reference open, and does not run.
 record IsOver (p : ℕ) (M : theory.Machine ObservedCore) : Type 0 where
   pub shut : M.is_open p ≡ false
   pub rests : is_running (M.core p).state.status ≡ false
@@ -42,7 +42,7 @@ both false b e = absurd (cc)
 
 -- ---- a processor that is over stays over
 
--- a step that leaves the processors as they are
+-- If a step leaves the processors as they are, one that is over stays over.
 kept : (p : ℕ) (M N : theory.Machine ObservedCore) → N.core ≡ M.core → N.is_open ≡ M.is_open → IsOver p M → IsOver p N
 kept p M N core shut h = record {
   shut = ap (λ (f : ℕ → Bool). f p) shut ∙ h.shut;
@@ -76,7 +76,7 @@ module _ (c : Config) (code : List ℕ) where
   abbrev P : theory.Program ObservedCore
   P = program c code
 
-  -- the turn of another processor
+  -- The turn of another processor keeps it over.
   retired_else : (p q : ℕ) (M : theory.Machine ObservedCore) (ys : List Reply) → p ≢ q → IsOver p M → Stays p (theory.retire_from P M q ys)
   retired_else p q M [] other h = h
   retired_else p q M (y ∷ ys) other h = record {
@@ -96,7 +96,7 @@ module _ (c : Config) (code : List ℕ) where
   turned_else p q M true other h = retired_else p q M (M.net.replies 0 q) other h
   turned_else p q M false other h = begun_else p q M (P.kind q (M.core q)) other h
 
-  -- its own turn stalls
+  -- Its own turn stalls.
   own_stalls : (p : ℕ) (M : theory.Machine ObservedCore) → IsOver p M → theory.turned P M p (M.is_open p) ≡ theory.stalled M
   own_stalls p M h =
       ap (theory.turned P M p) h.shut ∙ ap (λ b. theory.begin P M p (kind_of b (next c code p (M.core p).state))) h.rests
@@ -128,7 +128,7 @@ module _ (c : Config) (code : List ℕ) where
   all_stays p M [] own h = h
   all_stays p M (s ∷ ss) own h = let o = both (not (is_poke s)) (no_poke ss) own in all_stays p (after c code M s) ss o.1 (over_stays p M s o.0 h)
 
-  -- ---- a turn that is answered with a stop leaves the processor over
+  -- ---- after a turn that stops it, the processor is over
 
   no_stop_in_reply : (nx : ℕ → Turn) (p : ℕ) (M : theory.Machine ObservedCore) (ys : List Reply) (why : Cause) →
       answer_of nx (theory.retire_from P M p ys).outcome ≡ outcome.Stopped why → ⊥
@@ -176,7 +176,7 @@ module _ (c : Config) (code : List ℕ) where
 
   -- ---- a list that ends with a stop
 
-  -- what a step gives ends with a stop: it is the turn that was answered so
+  -- If what a step gives ends with a stop, the step is the turn that stopped.
   gives_stop : (p place : ℕ) (M : theory.Machine ObservedCore) (s : Step) (o : Outcome) (before : List PassEvent) (at : ℕ) (why : Cause) →
       given_to p place s o ≡ before ++ record { event = event.Stopped why; place = at } ∷ [] → (s ≡ step.Turn p) × (o ≡ outcome.Stopped why)
   gives_stop p place M (step.Turn q) o before at why e = by (cases_eq p q)
@@ -227,7 +227,7 @@ module _ (c : Config) (code : List ℕ) where
   gives_stop p place M (step.Poke q) o [] at why e = absurd (cc)
   gives_stop p place M (step.Poke q) o (b ∷ bs) at why e = absurd (cc)
 
-  -- where one list after another ends with an element, the second is empty, or ends with it
+  -- If one list followed by another ends with an element, the second is empty, or ends with it.
   tail_end : (xs ys before : List PassEvent) (n : PassEvent) → xs ++ ys ≡ before ++ n ∷ [] →
       ((ys ≡ []) × (xs ≡ before ++ n ∷ [])) ⊎ ((front : List PassEvent) × (ys ≡ front ++ n ∷ []))
   tail_end [] ys before n e = inr (before, e)

@@ -1,4 +1,4 @@
--- As often as an entry stands in the passes' lists, the steps gave it.
+-- The passes' lists hold an event as often as the steps gave it.
 use Rattle.std.proofs.Common.{◌≡◌, ◌≢◌, ◌⊎◌, ℕ, zero, suc, ◌+◌, ◌<◌, ◌≤◌, Bool, true, false, List}
 use Rattle.std.proofs.Common.{[], ◌∷◌, ◌++◌, length, map, count_by, ◌==◌, drop, refl, sym, ap, ◌∙◌}
 use Rattle.std.proofs.Common.{arith, inl, inr, Some, slice_get, eq-eqb, ne_eqb, ltb-true}
@@ -26,7 +26,7 @@ both false b e = cc
 abbrev of : ℕ → List PassEvent → List (ℕ × PassEvent)
 of p ns = map (λ n. (p, n)) ns
 
--- the lists of as many processors, from p on
+-- the lists of this many processors, from p on
 abbrev lists : (p many : ℕ) → (ℕ → List PassEvent) → List (ℕ × PassEvent)
 lists p zero f = []
 lists p (suc many) f = of p (f p) ++ lists (suc p) many f
@@ -38,7 +38,7 @@ module _ (test : ℕ × PassEvent → Bool) where
   times-append : (xs ys : List (ℕ × PassEvent)) → times (xs ++ ys) ≡ times xs + times ys
   times-append xs ys = sum_by-append (λ x. cond (test x) 1 0) xs ys
 
-  -- of empty lists, of lists that are joined
+  -- the counts of empty lists and of joined lists
   none : (p many : ℕ) → times (lists p many (λ q. [])) ≡ 0
   none p zero = refl
   none p (suc many) = none (suc p) many
@@ -54,7 +54,7 @@ module _ (test : ℕ × PassEvent → Bool) where
       let e = times-append (of p (g p)) (lists (suc p) many g) in
       omega arith
 
-  -- of lists of which one alone has anything
+  -- the counts of lists of which only one has elements
   abbrev only : ℕ → List PassEvent → ℕ → List PassEvent
   only q ns p = if q == p then ns else []
 
@@ -82,7 +82,7 @@ module _ (test : ℕ × PassEvent → Bool) where
           let less : suc p ≤ q = omega (arith, low, other) in
           ap (λ ms. times (of p ms ++ lists (suc p) many (only q ns))) no ∙ behind less
 
-  -- what one step gives
+  -- One step gives all processors together what it gives each.
   step_gives : (count place : ℕ) (s : Step) (o : Outcome) → is_turn_below count s ≡ true →
       times (lists 0 count (λ p. given_to p place s o)) ≡ times (given place s o)
   step_gives count place (step.Turn q) o h = one 0 count q (shown_at place o) (omega arith) (let less = ltb-true q count h in omega arith)
@@ -91,7 +91,7 @@ module _ (test : ℕ × PassEvent → Bool) where
   step_gives count place (step.Down s w) o h = none 0 count
   step_gives count place (step.Poke poke) o h = none 0 count
 
-  -- what all give
+  -- The steps give all processors together what they give each.
   pub steps_give : (c : Config) (code : List ℕ) (count place : ℕ) (M : Machine ObservedCore) (steps : List Step) → turns_below count steps ≡ true →
       times (lists 0 count (λ p. pass_events_of c code p place M steps)) ≡ times (all_pass_events c code place M steps)
   steps_give c code count place M [] h = none 0 count
@@ -123,7 +123,7 @@ get-rows [] k h e = absurd (cc)
 get-rows (x ∷ hs) zero h e = let is : x ≡ h = cc in ap (λ (y : Held). Some y.row) is
 get-rows (x ∷ hs) (suc k) h e = get-rows hs k h e
 
--- Whatever test entries are counted by, as many are in the lists of the passes as the steps after the first ones gave.
+-- Whatever test events are counted by, the lists of the passes hold as many as the steps after the first ones gave.
 pub totals_agree : (opening : MachineLists) (first : List Step) (count : ℕ) (steps : List Step) (hs : List Held) → IsWhole count hs →
     Fits opening first count steps (rows_of hs) →
     (test : ℕ × PassEvent → Bool) → count_by test (all_stored hs) ≡ count_by test (all_since opening first steps)

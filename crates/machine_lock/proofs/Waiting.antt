@@ -25,7 +25,7 @@ use Rattle.machine_lock.specs.Passes.{Held, held, Moment, moment, TurnAndStep, G
 use Rattle.machine_lock.specs.Passes.{HasAnswered, IsTurned, LockedStateModel, UnderLock}
 use Rattle.machine_lock.specs.Passes.{has_stalled, idle_of, leaves_waiting}
 
--- none, where it is not some
+-- What is not some is none.
 pub is_none : (l : Option ℕ) → is_some l ≡ false → l ≡ None
 is_none None e = refl
 is_none (Some most) e = absurd (cc)
@@ -40,13 +40,13 @@ of_net c (step.Poke poke) e = absurd (cc)
 
 -- ---- the parts of a list
 
--- what stands before a place, what stands there, and what stands after it
+-- A list is what is before a place, what is there, and what is after it.
 parts : (xs : List Step) (n : ℕ) (x : Step) → slice_get xs n ≡ Some x → xs ≡ take n xs ++ x ∷ drop (suc n) xs
 parts [] n x e = absurd (cc)
 parts (y ∷ xs) zero x e = let same : y ≡ x = cc in λ i. same i ∷ xs
 parts (y ∷ xs) (suc n) x e = ap (λ l. y ∷ l) (parts xs n x e)
 
--- one more of the first
+-- The first n + 1 are the first n and the one after them.
 one_more : (xs : List Step) (n : ℕ) (x : Step) → slice_get xs n ≡ Some x → take (suc n) xs ≡ take n xs ++ x ∷ []
 one_more [] n x e = absurd (cc)
 one_more (y ∷ xs) zero x e = let same : y ≡ x = cc in λ i. same i ∷ []
@@ -67,7 +67,7 @@ whole : (xs : List Step) → take (length xs) xs ≡ xs
 whole [] = refl
 whole (x ∷ xs) = ap (λ l. x ∷ l) (whole xs)
 
--- what stands from a place on
+-- The rest of a list from a place on is all that is left there.
 behind : (xs : List Step) (n : ℕ) → take (length xs - n) (drop n xs) ≡ drop n xs
 behind [] zero = refl
 behind [] (suc n) = ap (λ m. take m []) (let none : 0 - suc n ≡ 0 = omega arith in none)
@@ -89,7 +89,7 @@ nothing : (b : Bool) (none : List PassEvent) → none ≡ [] → (if b then none
 nothing true none e = e
 nothing false none e = refl
 
--- Such an answer is stored as the last one, and nothing else is.
+-- An answer that stalled is stored as the last one, and changes nothing else.
 with_stall : (p : ℕ) (r : PassState) (s : Step) (place : ℕ) → with_answer p r s Stalled place ≡ row r.pass_events r.steps (Some (answer s Stalled place)) r.lent
 with_stall p r s place =
     let none = ap (λ ns. r.pass_events ++ ns) (nothing (is_turn_of p s) [] refl) ∙ append-nil r.pass_events in
@@ -104,7 +104,7 @@ module _ (opening : MachineLists) (old : Moment) where
   stalls : (s : Step) → answer_after opening old.log s ≡ Stalled → Follows old.pass.row.last (length old.log) → HasAnswered opening old s Stalled (stalled s)
   stalls s e follows = record { answer = sym e; log = refl; follows = follows; pass = refl }
 
-  -- An answer after such a one leaves the pass as without it.
+  -- An answer after a step that stalled leaves the pass as it would without that step.
   after_stall : (new : Moment) (s : Step) (o : Outcome) (t : HasAnswered opening old s o new) (before : Step) → HasAnswered opening (stalled before) s o new
   after_stall new s o t before = record {
     answer = t.answer;
@@ -121,7 +121,7 @@ at_most_one : (b : Bool) (n : ℕ) → n ≤ 1 → (if b then n else 0) ≤ 1
 at_most_one true n less = less
 at_most_one false n less = omega arith
 
--- A round counts at most once as one that found nothing.
+-- A round counts as idle at most once.
 pub idle_few : (answer : Result Round LockRefusal) → idle_of answer ≤ 1
 idle_few (Ok r) = at_most_one (is_stalled r.turn) _ (at_most_one (has_stalled r.net) 1 (omega arith))
 idle_few (Err refusal) = omega arith
@@ -133,7 +133,7 @@ locked_state_same (Ok r) a b x y same = tt
 locked_state_same (Err refusal) a b x y same = λ i. moment (same.1 i).log.steps (same.0 i)
 
 module _ (opening : MachineLists) where
-  -- A round goes on as it is answered.
+  -- A round that was taken, or was refused and changed nothing, goes on with its answer.
   pub goes_on : (old new : Moment) (answer : Result Round LockRefusal) (s : Step) → IfOk answer (λ r. TurnAndStep opening old r.turn s r.net new) →
       OnErr answer (new ≡ old) → GoesOnWith opening old answer s new
   goes_on old new (Ok r) s has_answered same = has_answered
@@ -154,7 +154,7 @@ module _ (opening : MachineLists) where
       let sum : idle + more ≡ first + (rest + more) = omega (arith, before) in
       (w.0, w.1, rest + more, w.3, sum, w.5, waited_more w.1 between new earlier rest s answer w.6 waits on)
 
-  -- Rounds that wait go on with others.
+  -- Rounds that leave the processor waiting, and then others that do, are such rounds together.
   waited_on : (old between new : Moment) (earlier later : List Step) (i j : ℕ) → HaveWaited opening old earlier i between →
       HaveWaited opening between later j new → HaveWaited opening old (earlier ++ later) (i + j) new
   waited_on old between new [] later i j w on =
@@ -169,7 +169,7 @@ module _ (opening : MachineLists) where
       (w.0, w.1, rest + j, w.3, sum, w.5, waited_on w.1 between new earlier later rest j w.6 on)
 
   -- If rounds with the first n steps left the processor waiting, and then those with the next m, so did those
-  -- with the first n + m. The rounds that found nothing add up.
+  -- with the first n + m. The idle rounds add up.
   pub waited_both : (old between new : Moment) (steps : List Step) (n m i j : ℕ) → HaveWaited opening old (take n steps) i between →
       HaveWaited opening between (take m (take (length steps - n) (drop n steps))) j new → HaveWaited opening old (take (n + m) steps) (i + j) new
   waited_both old between new steps n m i j w on =
@@ -181,7 +181,7 @@ module _ (opening : MachineLists) where
   abbrev idle_round : Result Round LockRefusal
   idle_round = Ok (record { turn = Stalled; net = Some (Ok Stalled) })
 
-  -- If the last of some steps of the network is stored, the pass is as after rounds with all of them that find nothing.
+  -- If only the last of some steps of the network that stall is stored, the pass is as after idle rounds with them all.
   pub idle_rounds_are_skipped : (old new : Moment) (steps : List Step) (n : ℕ) (s : Step) → old.pass.row.lent ≡ None →
       answer_after opening old.log (Turn old.pass.processor) ≡ Stalled →
       ((k : ℕ) (x : Step) → k < suc n → slice_get steps k ≡ Some x → is_net opening.config x ≡ true) →
@@ -221,14 +221,14 @@ module _ (opening : MachineLists) where
   module _ (old between new : Moment) (steps : List Step) (n idle : ℕ) (s : Step) (answer : Result Round LockRefusal)
       (waited : HaveWaited opening old (take n steps) idle between)
       (here : slice_get steps n ≡ Some s) (on : GoesOnWith opening between answer s new) where
-    -- Where it waits again, the rounds go on.
+    -- If the round leaves the processor waiting, all rounds so far do.
     pub waits_again : leaves_waiting answer ≡ true → HaveWaited opening old (take (n + 1) steps) (idle + idle_of answer) new
     waits_again waits =
         subst (λ l. HaveWaited opening old l (idle + idle_of answer) new)
         (sym (one_more steps n s here) ∙ ap (λ m. take m steps) (let next : suc n ≡ n + 1 = omega arith in next))
         (waited_more old between new (take n steps) idle s answer waited waits on)
 
-    -- Else they are over, and where no step is left.
+    -- If the round does not leave the processor waiting, or no step is left, the rounds are over.
     pub are_over : n < length steps → (leaves_waiting answer ≡ true → n + 1 ≡ length steps) →
         HaveGone opening old steps (record { gone = n + 1; idle = idle + idle_of answer; answer = answer }) new
     are_over less over = record {

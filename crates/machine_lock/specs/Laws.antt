@@ -1,4 +1,4 @@
--- Laws of the lists that steps give.
+-- Laws of the lists of events that steps give.
 use Rattle.std.specs.Prelude.{◌≡◌, ℕ, ◌+◌, true, false, List, [], ◌∷◌, ◌++◌, length, map}
 use Rattle.flat_machine.specs.declared.event.Cause.{Cause}
 use Rattle.flat_machine.specs.declared.event.Event.TheVariants.{Stopped}
@@ -16,7 +16,7 @@ abbrev pub PlacesRise : Type 0
 PlacesRise = (c : Config) (code : List ℕ) (p place : ℕ) (M : theory.Machine ObservedCore) (steps : List Step) →
     IsRising place (pass_events_of c code p place M steps)
 
--- The list over steps and more steps is that over the steps, and then that over the others, from their place on.
+-- The list over steps and then others is the list over the steps, followed by that over the others from their place on.
 abbrev pub ListsAreJoined : Type 0
 ListsAreJoined = (c : Config) (code : List ℕ) (p place : ℕ) (M : theory.Machine ObservedCore) (steps more : List Step) →
     pass_events_of c code p place M (steps ++ more) ≡ pass_events_of c code p place M steps
@@ -27,7 +27,7 @@ abbrev pub EventsAreListed : Type 0
 EventsAreListed = (c : Config) (code : List ℕ) (p place : ℕ) (M : theory.Machine ObservedCore) (steps : List Step) →
     map (λ n. n.event) (pass_events_of c code p place M steps) ≡ shown_after c code M steps (λ q. []) p
 
--- A processor whose list ends with its stop has no reference open after the steps, where no poke is among them.
+-- A processor whose list ends with its stop has no reference open after the steps, if no poke is among them.
 abbrev pub StoppedAreShut : Type 0
 StoppedAreShut = (c : Config) (code : List ℕ) (p place : ℕ) (M : theory.Machine ObservedCore) (steps : List Step)
     (before : List PassEvent) (at : ℕ) (why : Cause) →

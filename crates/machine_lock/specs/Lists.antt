@@ -32,7 +32,7 @@ is_poke (step.Serve m) = false
 is_poke (step.Down s w) = false
 is_poke (step.Poke poke) = true
 
--- a move of the network, or a service by a module
+-- whether a step is a move in the network, or a service by a module
 abbrev pub is_of_network : Step → Bool
 is_of_network (step.Turn p) = false
 is_of_network (step.Up s w) = true
@@ -40,7 +40,7 @@ is_of_network (step.Serve m) = true
 is_of_network (step.Down s w) = true
 is_of_network (step.Poke poke) = false
 
--- one that the machine has
+-- whether it is one that the machine has
 abbrev pub is_net : Config → Step → Bool
 is_net c s = if is_of_network s then is_named c s else false
 
@@ -48,11 +48,11 @@ is_net c s = if is_of_network s then is_named c s else false
 abbrev pub Stalls : MachineLists → Step → Type 0
 Stalls m s = outcome_of m.config m.code (machine_of m (λ p. [])) s ≡ Stalled
 
--- a step of the network that the machine has and that would stall
+-- The step is one of the network that the machine has, and it would stall.
 abbrev pub IsIdleMove : MachineLists → Step → Type 0
 IsIdleMove m s = (is_net m.config s ≡ true) × Stalls m s
 
--- a turn of one of this many processors, or no turn
+-- whether a step is a turn of one of this many processors, or no turn
 abbrev pub is_turn_below : ℕ → Step → Bool
 is_turn_below count (step.Turn p) = nat_lt p count
 is_turn_below count (step.Up s w) = true
@@ -69,11 +69,11 @@ no_turn p steps = list_all (λ s. not (is_turn_of p s)) steps
 abbrev pub turns_below : ℕ → List Step → Bool
 turns_below count steps = list_all (is_turn_below count) steps
 
--- steps that a machine of this size has
+-- whether a machine of this size has all these steps
 abbrev pub all_named : Config → List Step → Bool
 all_named c steps = list_all (is_named c) steps
 
--- a turn that stops its processor
+-- whether a turn stopped its processor
 abbrev pub is_stop : Outcome → Bool
 is_stop (Stopped cause) = true
 is_stop (Retired retired) = false
@@ -87,7 +87,7 @@ is_stop Stalled = false
 
 -- ---- what a turn gives
 
--- the retirement or the stop that a turn at this place answered, if it answered one
+-- the retirement or the stop that a turn at this place showed, if any
 abbrev pub shown_at : (place : ℕ) → Outcome → List PassEvent
 shown_at place (Retired retired) = record { event = event.Retired retired; place = place } ∷ []
 shown_at place (Stopped cause) = record { event = event.Stopped cause; place = place } ∷ []
@@ -103,7 +103,7 @@ shown_at place Stalled = []
 abbrev pub given_to : (p place : ℕ) → Step → Outcome → List PassEvent
 given_to p place s o = if is_turn_of p s then shown_at place o else []
 
--- what it gives, with the processor that it gives it
+-- what it gives, with the processor that gets it
 abbrev pub given : (place : ℕ) → Step → Outcome → List (ℕ × PassEvent)
 given place (step.Turn p) o = map (λ n. (p, n)) (shown_at place o)
 given place (step.Up s w) o = []
@@ -111,7 +111,7 @@ given place (step.Serve m) o = []
 given place (step.Down s w) o = []
 given place (step.Poke poke) o = []
 
--- what the steps give p, the first of which is at this place and is taken by the machine M
+-- what steps give p, if the machine M takes the first of them, and it is at this place
 abbrev pub pass_events_of : Config → (code : List ℕ) → (p place : ℕ) → theory.Machine ObservedCore → List Step →
     List PassEvent
 pass_events_of c code p place M [] = []

@@ -28,7 +28,7 @@ use Rattle.machine_lock.specs.declared.stored.PassStateVec.{PassStateVec}
 use Rattle.machine_lock.specs.Lists.{is_net, is_stop}
 use Rattle.machine_lock.specs.Rows.{row, new_row, with_answer, with_retirements, with_loan, Follows, all_since, Fits}
 
--- a machine that is none
+-- a placeholder for a machine
 abbrev pub no_machine : MachineLists
 no_machine = record {
   config = record { k = 0; c = 0; b = 0; r = 0; shared_words = 0 };
@@ -59,7 +59,7 @@ pub record Held : Type 0 where
 abbrev pub held : (processor : ℕ) → PassState → Held
 held processor row = record { processor = processor; row = row }
 
--- the steps of the log, and what a pass stores, at one time
+-- the steps of the log, and what a pass stores, at one moment
 pub record Moment : Type 0 where
   pub log : List Step
   pub pass : Held
@@ -67,7 +67,7 @@ pub record Moment : Type 0 where
 abbrev pub moment : List Step → Held → Moment
 moment log pass = record { log = log; pass = pass }
 
--- What a call does to a pass, from the moment when it gets the lock to that when it gives it back, is this. The log
+-- This is what a call does to a pass, from the moment when it gets the lock to the moment when it releases it. The log
 -- began with these steps.
 pub record UnderLock (first : List Step) (old new : Held) (Does : Moment → Moment → Type 0) : Type 0 where
   pub log : List Step
@@ -75,22 +75,22 @@ pub record UnderLock (first : List Step) (old new : Held) (Does : Moment → Mom
   pub begins : log ≡ first ++ drop (length first) log
   pub does : Does (moment log old) (moment log_after new)
 
--- A step was asked for, and answered as the machine of this opening does after the steps of the log. It is entered,
--- unless it stalled, and the pass stores the answer, with the place.
+-- A step was asked for, and answered as the machine of this opening answers it after the steps of the log. It was
+-- entered unless it stalled, and the pass stores the answer with its place.
 pub record HasAnswered (opening : MachineLists) (old : Moment) (s : Step) (o : Outcome) (new : Moment) : Type 0 where
   pub answer : o ≡ answer_after opening old.log s
   pub log : new.log ≡ entered old.log s o
   pub follows : Follows old.pass.row.last (length old.log)
   pub pass : new.pass ≡ held old.pass.processor (with_answer old.pass.processor old.pass.row s o (length old.log))
 
--- A turn of the pass's processor was asked for, and answered so. While the core is lent, it stalls, and nothing is
--- changed.
+-- A turn of the pass's processor was asked for, and had this outcome. While the core is lent, it stalls and changes
+-- nothing.
 abbrev pub IsTurned : (lent : Option ℕ) → (opening : MachineLists) → (old : Moment) → Outcome → (new : Moment) → Type 0
 IsTurned None opening old o new = HasAnswered opening old (Turn old.pass.processor) o new
 IsTurned (Some most) opening old o new = (o ≡ Stalled) × (new ≡ old)
 
--- After a turn that answered so a step of the network was asked for, unless the turn had stopped the processor: it was
--- answered, or refused, and then nothing is changed.
+-- After a turn with this outcome, a step of the network was asked for, unless the turn had stopped the processor. The
+-- step was answered, or it was refused and nothing changed.
 abbrev pub IsAsked : (opening : MachineLists) → (turn : Outcome) → Moment → Step →
     Option (Result Outcome LockRefusal) → Moment → Type 0
 IsAsked opening turn old s None new = (is_stop turn ≡ true) × (new ≡ old)
@@ -115,7 +115,7 @@ abbrev pub GoesOnWith : (opening : MachineLists) → (old : Moment) → (answer 
 GoesOnWith opening old (Ok r) s new = TurnAndStep opening old r.turn s r.net new
 GoesOnWith opening old (Err refusal) s new = new ≡ old
 
--- a turn after which its processor waits: it has begun a reference, or stalled
+-- whether a processor waits after its turn: the turn has begun a reference, or stalled
 abbrev pub is_waiting : Outcome → Bool
 is_waiting outcome.Issued = true
 is_waiting outcome.Stalled = true
@@ -132,24 +132,23 @@ is_answered None = false
 is_answered (Some (Ok o)) = true
 is_answered (Some (Err refusal)) = false
 
--- a round after which its processor waits, and in which nothing was refused
+-- whether the processor waits after a round, and nothing was refused in it
 abbrev pub leaves_waiting : Result Round LockRefusal → Bool
 leaves_waiting (Ok r) = if is_waiting r.turn then is_answered r.net else false
 leaves_waiting (Err refusal) = false
 
--- a step of the network that stalled
+-- whether a step of the network was answered, and stalled
 abbrev pub has_stalled : Option (Result Outcome LockRefusal) → Bool
 has_stalled None = false
 has_stalled (Some (Ok o)) = is_stalled o
 has_stalled (Some (Err refusal)) = false
 
--- 1 for a round that finds nothing: its turn stalls, and so does its step of the network
+-- 1 for an idle round, whose turn and step of the network stalled, and 0 for any other
 abbrev pub idle_of : Result Round LockRefusal → ℕ
 idle_of (Ok r) = if is_stalled r.turn then (if has_stalled r.net then 1 else 0) else 0
 idle_of (Err refusal) = 0
 
--- Rounds were gone through with these steps, one after another, and each left the processor waiting. This many found
--- nothing.
+-- Rounds were taken with these steps, one after another. Each left the processor waiting, and this many were idle.
 abbrev pub HaveWaited : (opening : MachineLists) → (old : Moment) → List Step → (idle : ℕ) → (new : Moment) → Type 0
 HaveWaited opening old [] idle new = (idle ≡ 0) × (new ≡ old)
 HaveWaited opening old (s ∷ later) idle new = (answer : Result Round LockRefusal) × (between : Moment) × (rest : ℕ)
@@ -157,8 +156,8 @@ HaveWaited opening old (s ∷ later) idle new = (answer : Result Round LockRefus
     × (idle ≡ idle_of answer + rest) × GoesOnWith opening old answer s between
     × HaveWaited opening between later rest new
 
--- Rounds were gone through with the first of these steps, as many as the answer says. All but the last left the
--- processor waiting. The last was answered so, and did not, where steps are left.
+-- Rounds were taken with the first of these steps, as many as `rounds` says. All but the last left the processor
+-- waiting. The last has the answer in `rounds`, and left the processor waiting only if it took the last step.
 pub record HaveGone (opening : MachineLists) (old : Moment) (steps : List Step) (rounds : Rounds)
     (new : Moment) : Type 0 where
   pub earlier : List Step
@@ -175,20 +174,20 @@ pub record HaveGone (opening : MachineLists) (old : Moment) (steps : List Step) 
 
 -- ---- a loan
 
--- What a loan has: whose core it is, how it was lent, how it stands, and what it has retired since.
+-- what a loan has: its processor, how the core was lent, the core as it is now, and what it has retired since
 pub record LoanState : Type 0 where
   pub processor : ℕ
   pub record_is : Lent
   pub core : CoreState
   pub retired : List Retired
 
--- The core has taken these local instructions since it was lent, no more than it may.
+-- The core has taken these local instructions since it was lent, and no more than it may.
 pub record IsLoan (code : List ℕ) (l : Lent) (core : CoreState) (retired : RetirementList) : Type 0 where
   pub turns : TakesLocal l.core.setting code l.core.state retired.items core.state
   pub setting : core.setting ≡ l.core.setting
   pub few : length retired.items ≤ l.most
 
--- It has taken more of them, and the run has ended so.
+-- The core has taken more of them, and the run ended in this way.
 pub record HasGoneOn (code : List ℕ) (old new : LoanState) (end : LocalEnd) : Type 0 where
   pub processor : new.processor ≡ old.processor
   pub record_is : new.record_is ≡ old.record_is
@@ -203,12 +202,12 @@ pub record IsLentOn (old : Held) (most : ℕ) (loan : LoanState) (new : Held) : 
   pub none : loan.retired ≡ []
   pub pass : new ≡ held old.processor (with_loan old.row (Some most))
 
--- The loan was lent on the pass, and is not back.
+-- The core of this loan was lent on the pass, and is not back.
 pub record IsLoanOf (pass : Held) (loan : LoanState) : Type 0 where
   pub processor : loan.processor ≡ pass.processor
   pub lent : pass.row.lent ≡ Some loan.record_is.most
 
--- The loan is back: turns that retire what it has retired are entered, and the pass stores them.
+-- The loan is back: the turns that retire its instructions were entered, and the pass stores them.
 pub record IsReturned (opening : MachineLists) (old : Moment) (retired : List Retired) (new : Moment) : Type 0 where
   pub answered : AreAnswered opening old.log old.pass.processor retired
   pub log : new.log ≡ old.log ++ turns_of old.pass.processor (length retired)
@@ -217,7 +216,7 @@ pub record IsReturned (opening : MachineLists) (old : Moment) (retired : List Re
       ≡ held old.pass.processor (with_loan (with_retirements old.pass.processor old.pass.row
       (length old.log) retired) None)
 
--- After it rounds were gone through.
+-- The loan came back, and then rounds were taken.
 pub record HasEnded (opening : MachineLists) (old : Moment) (retired : List Retired) (steps : List Step)
     (rounds : Rounds) (new : Moment) : Type 0 where
   pub between : Moment
@@ -229,36 +228,36 @@ pub record HasEnded (opening : MachineLists) (old : Moment) (retired : List Reti
 abbrev pub rows_of : List Held → List PassState
 rows_of hs = map (λ h. h.row) hs
 
--- They are those of all processors, in order.
+-- These are the passes of all processors, in order.
 pub record IsWhole (count : ℕ) (hs : List Held) : Type 0 where
   pub many : length hs ≡ count
   pub own : (k : ℕ) (h : Held) → slice_get hs k ≡ Some h → h.processor ≡ k
 
--- the passes as they are made
+-- new passes
 abbrev pub new_passes : ℕ → List Held
 new_passes zero = []
 new_passes (suc n) = new_passes n ++ held n new_row ∷ []
 
--- what stands in their lists, with the processor in whose list it stands
+-- what the lists of passes hold, each event with its processor
 abbrev pub all_stored : List Held → List (ℕ × PassEvent)
 all_stored [] = []
 all_stored (h ∷ hs) = map (λ n. (h.processor, n)) h.row.pass_events ++ all_stored hs
 
--- Whatever property entries are counted by, as many stand in the passes' lists as the steps after the first ones gave.
+-- Whatever property events are counted by, the passes' lists hold as many as the steps after the first ones gave.
 abbrev pub TotalsAgree : MachineLists → (first : List Step) → List Step → List Held → Type 0
 TotalsAgree opening first steps hs = (test : ℕ × PassEvent → Bool) →
     count_by test (all_stored hs) ≡ count_by test (all_since opening first steps)
 
 -- ---- the locked state
 
--- the log, as it is with all cores back as they were lent, what every pass stores, and what is known of the cores that
--- are away
+-- the log as if all cores were back as they were lent, what every pass stores, and what is known of the cores that are
+-- away
 pub record LockedStateModel : Type 0 where
   pub log : Log
   pub rows : List PassState
   pub lent : List (Option Lent)
 
--- how many instructions a core is lent for
+-- for how many instructions a core is lent, if it is lent
 abbrev pub most_of : Option Lent → Option ℕ
 most_of None = None
 most_of (Some l) = Some l.most

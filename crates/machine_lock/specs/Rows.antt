@@ -1,4 +1,4 @@
--- What the passes store, beside the steps of the log.
+-- What the passes store, and how it fits the steps of the log.
 use Rattle.std.specs.Prelude.{◌≡◌, ℕ, suc, ◌+◌, ◌≤◌, true, false, List, [], ◌∷◌, ◌++◌, length, take, drop, Option, Some}
 use Rattle.std.specs.Prelude.{None, slice_get, if◌then◌else◌}
 use Rattle.flat_machine.specs.declared.event.Retired.{Retired}
@@ -31,7 +31,7 @@ with_loan r lent = record r { lent = lent }
 abbrev pub answer : Step → Outcome → ℕ → Answer
 answer step outcome place = record { step = step; outcome = outcome; place = place }
 
--- 1 for a step that is entered
+-- 1 for a step that is entered, and 0 for one that stalls
 abbrev pub counted : Outcome → ℕ
 counted o = if is_stalled o then 0 else 1
 
@@ -40,17 +40,17 @@ abbrev pub with_answer : (p : ℕ) → PassState → Step → Outcome → (place
 with_answer p r s o place =
     row (r.pass_events ++ given_to p place s o) (r.steps + counted o) (Some (answer s o place)) r.lent
 
--- after turns that retire these instructions, from a place on
+-- the row of p after turns that retire these instructions, from this place on
 abbrev pub with_retirements : (p : ℕ) → PassState → (place : ℕ) → List Retired → PassState
 with_retirements p r place [] = r
 with_retirements p r place (retired ∷ later) =
     with_retirements p (with_answer p r (step.Turn p) (outcome.Retired retired) place) (suc place) later
 
--- how many steps there were once the answer was given
+-- how many steps the log had after the answer
 abbrev pub behind : Answer → ℕ
 behind a = a.place + counted a.outcome
 
--- A place can be that of an answer after this one.
+-- An answer at this place can come after this one, if there is one.
 abbrev pub Follows : Option Answer → ℕ → Type 0
 Follows None place = Unit {0}
 Follows (Some a) place = behind a ≤ place
@@ -68,7 +68,7 @@ abbrev pub all_since : (opening : MachineLists) → (first : List Step) → List
 all_since opening first steps =
     all_pass_events opening.config opening.code (length first) (machine_after opening first) (drop (length first) steps)
 
--- The answer was given at its place among the steps, which is not below `from`, and no later turn is of p.
+-- The answer was given at its place among the steps, which is not below `from`, and p has no later turn.
 pub record IsLast (opening : MachineLists) (from : ℕ) (steps : List Step) (p : ℕ) (a : Answer) : Type 0 where
   pub low : from ≤ a.place
   pub high : behind a ≤ length steps
@@ -85,13 +85,13 @@ pub record RowFits (opening : MachineLists) (first steps : List Step) (p : ℕ) 
   pub pass_events : r.pass_events ≡ pass_events_since opening first p steps
   pub last : LastFits opening (length first) steps p r.last
 
--- the steps that calls with the passes have entered, together
+-- how many steps the calls with all passes have entered
 abbrev pub steps_of : List PassState → ℕ
 steps_of [] = 0
 steps_of (r ∷ rs) = r.steps + steps_of rs
 
--- The steps go on from the first ones without a poke, by turns of these processors, name no place that the machine has
--- not, and the rows are what they gave.
+-- The steps after the first ones have no poke, no turn of another processor than these, and no place that the machine
+-- lacks. The rows are what they gave.
 pub record Fits (opening : MachineLists) (first : List Step) (count : ℕ) (steps : List Step)
     (rows : List PassState) : Type 0 where
   pub begins : steps ≡ first ++ drop (length first) steps

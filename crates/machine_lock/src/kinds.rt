@@ -7,14 +7,14 @@ ghost use Rattle.machine_lock.specs.Rows.{counted};
 
 use steps::{Outcome, Step};
 
-/// Whether it is a move of the network, or a service by a module.
+/// Whether a step is a move in the network, or a service by a module.
 pub(crate) fn is_of_network(step: Step) -> bool
     ensures { result ≡ is_of_network step }
 {
     matches!(step, Step::Up { .. } | Step::Serve(_) | Step::Down { .. })
 }
 
-/// Whether it is a turn of this processor.
+/// Whether a step is a turn of this processor.
 pub(crate) fn is_turn_of(processor: u8, step: Step) -> bool
     ensures { result ≡ is_turn_of processor step }
 {
@@ -24,21 +24,21 @@ pub(crate) fn is_turn_of(processor: u8, step: Step) -> bool
     }
 }
 
-/// Whether a turn has stopped its processor.
+/// Whether a turn stopped its processor.
 pub fn is_stop(outcome: &Outcome) -> bool
     ensures { result ≡ is_stop outcome.now }
 {
     matches!(outcome, Outcome::Stopped(_))
 }
 
-/// Whether its processor waits after such a turn: it has begun a reference, or stalled.
+/// Whether a processor waits after its turn: the turn has begun a reference, or stalled.
 pub fn is_waiting(outcome: &Outcome) -> bool
     ensures { result ≡ is_waiting outcome.now }
 {
     matches!(outcome, Outcome::Issued | Outcome::Stalled)
 }
 
-/// 1 for a step that is entered.
+/// 1 for a step that is entered, and 0 for one that stalls.
 pub(crate) fn counts(outcome: &Outcome) -> u32
     ensures { result ≡ counted outcome.now }
 {

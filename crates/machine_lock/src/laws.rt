@@ -1,4 +1,4 @@
-//! Laws of the lists that steps give. Each is the contract of a function that does nothing.
+//! Laws of the lists of events that steps give. Each is the contract of a function that does nothing.
 
 ghost use Rattle.machine_lock.specs.Laws.{EventsAreListed, ListsAreJoined, PlacesRise, StoppedAreShut};
 
@@ -8,7 +8,7 @@ pub fn places_rise()
     ensures rising { PlacesRise }
 {}
 
-/// The list over some steps and then others is the list over the ones, and then the list over the others.
+/// The list over steps and then others is the list over the steps, followed by that over the others.
 #[tactic(auto, using(crate::proofs::Lists::pass_events_joined))]
 pub fn lists_are_joined()
     ensures joined { ListsAreJoined }

@@ -2,7 +2,7 @@
 //!
 //! The thread that holds the pass of a processor takes its turns, and asks for steps of the network. The pass stores
 //! what its calls answered: the processor's retirements and its stop, each with its place in the log, how many steps
-//! the calls have entered, and the last answer. Once all passes are back ([`Shared::gather`]) these agree with the
+//! the calls have entered, and the last answer. After all passes are back ([`Shared::gather`]), these agree with the
 //! log, entry for entry: `specs/Rows.antt` says how.
 #![tactic(auto)]
 

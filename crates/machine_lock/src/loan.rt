@@ -1,4 +1,4 @@
-//! A core that is lent.
+//! Cores that are lent.
 
 ghost use Rattle.std.specs.Prelude.{◌≡◌};
 ghost use Rattle.hart.specs.LocalRuns.{HasRunLocally};
@@ -13,7 +13,7 @@ use std::alloc::Global;
 use std::marker::{Model, PhantomData};
 use std::sync::Arc;
 
-/// The core of a processor, which is lent: it takes local instructions without its machine, and no lock.
+/// A lent core of a processor. It takes local instructions without its machine and without the lock.
 #[derive(Drop)]
 pub struct Loan<N: Run> {
     pub(crate) processor: u8,
@@ -43,8 +43,8 @@ impl<N: Run> Model for Loan<N> {
 }
 
 impl<N: Run> Loan<N> {
-    /// Takes local instructions, up to the first that gives the console a byte. It ends before an instruction that is
-    /// not local, and where as many are taken as the core was lent for, in all calls. No memory is taken.
+    /// Takes local instructions, up to the first that gives the console a byte. Ends before an instruction that is not
+    /// local, or after as many as the core was lent for, in all calls. Allocates no memory.
     #[inline(always)]
     pub fn run_local(&mut self) -> LocalEnd
         ensures { HasGoneOn N.opening.code self.old self.new result }

@@ -1,4 +1,4 @@
-//! What lies under the lock.
+//! What the lock protects.
 
 ghost use Rattle.std.specs.Prelude.{◌≡◌, ℕ, ◌≤◌, ◌<◌, ◌+◌, ◌^◌, ◌↔◌, [], ◌∷◌, length, take, true, false, Some, Err};
 ghost use Rattle.std.specs.Prelude.{slice_get, is_some, Ok, IfOk, IfErr, OnOk, OnErr, None, vec_len, vec_capacity};
@@ -28,20 +28,19 @@ use std::marker::{Brand, Model, PhantomData};
 use std::sync::Arc;
 use steps::{Outcome, Step};
 
-/// What a turn answered, and then the step of the network that was asked for; none where the turn has stopped the
-/// processor.
+/// The outcome of a turn, and the answer to the step of the network after it: none if the turn stopped the processor.
 #[derive(Clone, Copy, Debug, PartialEq, Eq, Drop)]
 pub struct Round {
     pub turn: Outcome,
     pub net: Option<Result<Outcome, LockRefusal>>,
 }
 
-/// Rounds that were gone through.
+/// Rounds that were taken.
 #[derive(Clone, Copy, Debug, PartialEq, Eq, Drop)]
 pub struct Rounds {
     /// How many.
     pub gone: usize,
-    /// How many of them found nothing: their turn stalled, and so did their step of the network.
+    /// How many of them were idle: their turn stalled, and so did their step of the network.
     pub idle: usize,
     /// What the last of them answered.
     pub answer: Result<Round, LockRefusal>,
@@ -94,8 +93,8 @@ fn write_row_as<N: Run, M: Next<PassState>>(
     authority.write::<M>(fragment)
 }
 
-// Takes a step that the machine has, enters it unless it stalls, and stores the answer. Nothing is done for a step
-// that has no message: an outcome is made, and copied, as slowly as most steps are taken.
+// Takes a step that the machine has, enters it unless it stalls, and stores the answer. A step that has no message is
+// not tried: to make and copy its outcome would cost as much as most steps.
 #[inline(always)]
 fn take(
     lending: &mut Lending,
@@ -144,7 +143,7 @@ fn leaves_waiting(answer: &Result<Round, LockRefusal>) -> bool
     }
 }
 
-// 1 for a round that finds nothing, else 0.
+// 1 for an idle round, and 0 for any other.
 #[inline(always)]
 fn idle_of(answer: &Result<Round, LockRefusal>) -> usize
     ensures { result ≡ idle_of answer.now }
@@ -166,7 +165,7 @@ fn has_stalled(net: &Option<Result<Outcome, LockRefusal>>) -> bool
     }
 }
 
-// What a loan needs beside the core; None where there is no memory for it, or no room in the pass for what it may
+// What a loan needs besides the core. None if there is no memory for it, or no room in the pass for what it may
 // retire.
 #[inline(always)]
 fn means(
@@ -193,8 +192,8 @@ impl<N: Run> LockedState<N> {
     ///
     /// # Errors
     ///
-    /// [`LockRefusal::Full`] where the log has [`steps::MAX_STEPS`] steps with those that are promised, else
-    /// [`LockRefusal::Memory`] where a turn finds no room in the pass, which is made before the locked state is taken
+    /// [`LockRefusal::Full`] if the log has [`steps::MAX_STEPS`] steps with those that are promised, else
+    /// [`LockRefusal::Memory`] if a turn finds no room in the pass, which is made before the lock is taken
     /// ([`Pass::make_room`]), or there is no memory for a place in the log.
     #[inline(always)]
     fn answer(&mut self, pass: &mut Pass<N>, step: Step) -> Result<Outcome, LockRefusal>
@@ -254,11 +253,11 @@ impl<N: Run> LockedState<N> {
         self.answer(pass, step)
     }
 
-    /// Takes a turn of the pass's processor. While its core is lent, it stalls, and the pass stores nothing.
+    /// Takes a turn of the pass's processor. While its core is lent, the turn stalls and the pass stores nothing.
     ///
     /// # Errors
     ///
-    /// Those of [`LockedState::answer`], where the core is not lent.
+    /// Those of [`LockedState::answer`], if the core is not lent.
     #[inline(always)]
     pub(crate) fn turn(&mut self, pass: &mut Pass<N>) -> Result<Outcome, LockRefusal>
         ensures answered { IfOk result (λ o. IsTurned pass.old.row.lent N.opening
@@ -281,8 +280,8 @@ impl<N: Run> LockedState<N> {
     ///
     /// # Errors
     ///
-    /// [`LockRefusal::Unnamed`] where it is none of the network, or names a place that the machine has not, else those
-    /// of [`LockedState::answer`].
+    /// [`LockRefusal::Unnamed`] if the step is not one of the network, or names a place that the machine does not have,
+    /// else those of [`LockedState::answer`].
     #[inline(always)]
     pub(crate) fn net(&mut self, pass: &mut Pass<N>, step: Step) -> Result<Outcome, LockRefusal>
         ensures answered { IfOk result (λ o. HasAnswered N.opening (moment self.old.log.steps pass.old) step o
@@ -301,11 +300,11 @@ impl<N: Run> LockedState<N> {
         self.answer(pass, step)
     }
 
-    /// Takes a turn of the pass's processor and then, unless that has stopped the processor, a step of the network.
+    /// Takes a turn of the pass's processor and then, unless that stopped the processor, a step of the network.
     ///
     /// # Errors
     ///
-    /// Those of [`LockedState::turn`]. Then no step is asked for.
+    /// Those of [`LockedState::turn`]. Then no step of the network is asked for.
     #[inline(always)]
     pub(crate) fn round(&mut self, pass: &mut Pass<N>, step: Step) -> Result<Round, LockRefusal>
         ensures answered { IfOk result (λ r. TurnAndStep N.opening
@@ -323,8 +322,7 @@ impl<N: Run> LockedState<N> {
         Ok(Round { turn, net })
     }
 
-    /// Goes through rounds with these steps, until one does not leave the processor waiting, and counts those that
-    /// find nothing.
+    /// Takes rounds with these steps until one does not leave the processor waiting, and counts those that are idle.
     #[inline(always)]
     pub(crate) fn rounds(&mut self, pass: &mut Pass<N>, steps: &[Step]) -> Rounds
         requires some { 1 ≤ length steps.now }
@@ -349,9 +347,9 @@ impl<N: Run> LockedState<N> {
         }
     }
 
-    /// Goes through the rounds with the first of these steps that find nothing, and answers how many they are. Most
-    /// rounds of a processor that waits are such. The pass stores the answer of the last of them, as it would after
-    /// all. The last step is left over.
+    /// Takes the idle rounds with the first of these steps, and returns how many they are. Most rounds of a processor
+    /// that waits are idle. The pass stores only the answer of the last of them, as it would after all. The last step
+    /// is left over.
     #[inline(always)]
     fn skip_idle_rounds(&mut self, pass: &mut Pass<N>, steps: &[Step]) -> usize
         requires some { 1 ≤ length steps.now }
@@ -375,7 +373,7 @@ impl<N: Run> LockedState<N> {
         }
     }
 
-    /// What the pass stores is the authority's row.
+    /// Shows that what the pass stores is the authority's row.
     #[inline(always)]
     pub(crate) fn sync_row(&mut self, pass: &mut Pass<N>)
         ensures same { (pass.new ≡ pass.old) × (self.new ≡ self.old) }
@@ -394,15 +392,14 @@ impl<N: Run> LockedState<N> {
         write_row(authority, fragment, stored);
     }
 
-    /// Lends the core of the pass's processor for this many instructions at most. The list is for what it retires.
+    /// Lends the core of the pass's processor for at most this many instructions. `list` is for what it retires.
     ///
     /// # Errors
     ///
-    /// [`LockRefusal::NotFree`] where the processor has a reference open, does not run, or its core is lent; else
-    /// [`LockRefusal::Full`] where the log would pass [`steps::MAX_STEPS`] steps with all that are promised; else
-    /// [`LockRefusal::Memory`] where there is no such list, or no room in the pass for what it may hold (both are made
-    /// before the locked state is taken), or no memory for the records or the places in the log. Each leaves all as it
-    /// was.
+    /// [`LockRefusal::NotFree`] if the processor has a reference open, does not run, or its core is lent; else
+    /// [`LockRefusal::Full`] if the log would exceed [`steps::MAX_STEPS`] steps with all that are promised; else
+    /// [`LockRefusal::Memory`] if there is no list, or no room in the pass for what it may hold (both are made before
+    /// the lock is taken), or no memory for the records or the places in the log. Each leaves all as it was.
     #[inline(always)]
     pub(crate) fn lend(
         &mut self,
@@ -447,12 +444,12 @@ impl<N: Run> LockedState<N> {
         })
     }
 
-    /// Takes a loan back that was lent on the pass: enters a turn for each instruction that it has retired, and stores
+    /// Takes back a core that was lent on the pass: enters a turn for each instruction that it has retired, and stores
     /// them in the pass.
     ///
     /// # Errors
     ///
-    /// The loan, where the core was not lent as its record says. Then nothing is changed.
+    /// The loan, if the core was not lent as its record says. Then nothing changes.
     #[inline(always)]
     pub(crate) fn give_back(&mut self, pass: &mut Pass<N>, loan: Loan<N>) -> Result<(), Loan<N>>
         requires { IsLoanOf pass.old loan }
@@ -500,14 +497,14 @@ impl<N: Run> LockedState<N> {
         Ok(())
     }
 
-    /// What always holds under the lock.
+    /// Shows what always holds under the lock.
     pub(crate) fn is_agreed(&self)
         ensures { IsAgreed N.opening N.first N.count self.now }
     {
         let _ = &self.lending;
     }
 
-    /// The logged machine, with each core back that is away as it was lent, and what the authority knew.
+    /// Returns the logged machine. Each core that is away is put back as it was lent.
     pub(crate) fn into_logged(self) -> Logged
         ensures log { result ≡ self.log }
         ensures fits { IsAgreed N.opening N.first N.count self }

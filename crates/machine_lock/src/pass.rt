@@ -9,8 +9,8 @@ use ghost_map::Fragment;
 use std::marker::Model;
 
 /// The pass of one processor: its retirements and its stop, how many steps the calls with it have entered, and their
-/// last answer. Contracts see it as the processor's number and that row, which is the row that is known under the
-/// lock. Where the core is lent, there is room for what it may retire.
+/// last answer. Contracts see it as the processor's number and this row, which is the row that is known under the
+/// lock. While the core is lent, there is room for what it may retire.
 #[derive(Drop)]
 pub struct Pass<N: Run> {
     pub(crate) processor: u8,
@@ -32,15 +32,15 @@ impl<N: Run> Model for Pass<N> {
 }
 
 impl<N: Run> Pass<N> {
-    /// Makes room for what this many turns can give, if there is memory for it. So nothing is asked of the allocator
-    /// for it under the lock.
+    /// Makes room for what this many turns can give, if there is memory for it, so that none is allocated for it under
+    /// the lock.
     pub(crate) fn make_room(&mut self, turns: usize)
         ensures { self.new ≡ self.old }
     {
         self.stored.make_room(turns);
     }
 
-    /// The same, and the system has given that memory: so it is not asked for it under the lock either.
+    /// Does the same, and has the system provide that memory now, and not under the lock.
     pub(crate) fn make_warm_room(&mut self, turns: usize)
         ensures { self.new ≡ self.old }
     {

@@ -20,7 +20,7 @@ pub struct Answer {
 }
 
 /// All that a pass stores: its processor's retirements and its stop, how many steps its calls have entered, the last
-/// answer, and for how many instructions its processor's core is lent, where it is. No value of it is made.
+/// answer, and for how many instructions its processor's core is lent, if it is. No value of it is made.
 pub struct PassState {
     pub pass_events: LinkedList<PassEvent>,
     pub steps: u32,

@@ -4,8 +4,8 @@ use crate::row::PassState;
 use ghost_map::{Naming, Next};
 use std::marker::Brand;
 
-/// A run of threads on a logged machine: its table of rows, the machine's opening, the steps that were taken before,
-/// and how many processors there are. Each call of a program picks them, in proofs alone.
+/// A run of threads on a logged machine: its table of rows, the machine's opening, the steps that were taken before
+/// it, and how many processors there are. Each call of a program picks them, in proofs alone.
 pub trait Run: Naming {
     ghost use Rattle.std.specs.Prelude.{ℕ, List};
     ghost use Rattle.machine_steps.specs.Machines.{MachineLists};

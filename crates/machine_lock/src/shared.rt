@@ -24,32 +24,32 @@ use std::sync::{Mutex, MutexGuard, Wait};
 use std::thread::yield_now;
 use steps::{Outcome, Step};
 
-/// How often a thread looks for the lock, before it lets other threads run. Between two looks it waits, and each time
-/// twice as long.
+/// How often a thread tries to get the lock again before it lets other threads run. It waits before each try, and each
+/// time twice as long.
 const LOOKS: u32 = 4;
 
-/// How long it waits after its first look, in turns of a loop that does nothing: one to ten microseconds, by the
-/// processor. The machine's memory takes longer to come from one processor of the host to another than a round does,
-/// so it is better that who has it goes through many.
+/// How long it waits before the first of these tries, in turns of an empty loop: one to ten microseconds, depending on
+/// the processor. To move the machine's memory from one processor of the host to another takes longer than a round, so
+/// it is better that the thread that has it takes many.
 const WAIT: u32 = 256;
 
-/// How often it then lets others run, before it sleeps until it is called.
+/// How often it then lets others run before it sleeps until it is woken.
 const YIELDS: u32 = 16;
 
-/// A logged machine that threads share. A call waits for the lock, and then takes one step or goes through rounds, or
-/// lends a core or takes one back.
+/// A logged machine that threads share. A call waits for the lock, and then takes one step or rounds, lends a core, or
+/// takes one back.
 #[derive(Drop)]
 pub struct Shared<N: Run> {
     locked_state: Mutex<LockedState<N>>,
 }
 
 impl<N: Run> Shared<N> {
-    /// Puts a logged machine under a lock, with a pass for each processor, in order. The room is for the table of
-    /// rows, which proofs speak of.
+    /// Puts a logged machine under a lock, with a pass for each processor, in order. `room` is for the table of rows,
+    /// which exist in proofs alone.
     ///
     /// # Errors
     ///
-    /// [`LockRefusal::Memory`] where there is no memory for the passes; the logged machine is handed back as it was.
+    /// [`LockRefusal::Memory`] if there is no memory for the passes. The logged machine is handed back as it was.
     pub fn new(
         alloc: Global,
         room: NewTable<PassState>,
@@ -91,13 +91,12 @@ impl<N: Run> Shared<N> {
     }
 
     /// Takes one turn of the pass's processor, and enters it in the log unless it stalled. The pass stores the answer.
-    /// While the core is lent, it stalls, and the pass stores nothing.
+    /// While the core is lent, the turn stalls and the pass stores nothing.
     ///
     /// # Errors
     ///
-    /// [`LockRefusal::Full`] where the log has [`steps::MAX_STEPS`] steps with those that are promised, else
-    /// [`LockRefusal::Memory`] where there is no memory for a place in the pass or in the log. Each leaves all as it
-    /// was.
+    /// [`LockRefusal::Full`] if the log has [`steps::MAX_STEPS`] steps with those that are promised, else
+    /// [`LockRefusal::Memory`] if there is no memory for a place in the pass or in the log. Each leaves all as it was.
     pub fn turn<R: Wait>(&self, rt: &R, pass: &mut Pass<N>) -> Result<Outcome, LockRefusal>
         ensures answered { IfOk result (λ o. UnderLock N.first pass.old pass.new
             (λ from to. IsTurned pass.old.row.lent N.opening from o to)) }
@@ -113,13 +112,13 @@ impl<N: Run> Shared<N> {
         locked_state.turn(pass)
     }
 
-    /// Lends the core of the pass's processor: it can take this many local instructions at most, without the lock. As
+    /// Lends the core of the pass's processor: it can take at most this many local instructions without the lock. As
     /// many places are promised in the log.
     ///
     /// # Errors
     ///
-    /// [`LockRefusal::NotFree`] where the processor has a reference open, does not run, or its core is lent; else
-    /// [`LockRefusal::Full`] where the log would pass [`steps::MAX_STEPS`] steps with all that are promised; else
+    /// [`LockRefusal::NotFree`] if the processor has a reference open, does not run, or its core is lent; else
+    /// [`LockRefusal::Full`] if the log would exceed [`steps::MAX_STEPS`] steps with all that are promised; else
     /// [`LockRefusal::Memory`]. Each leaves all as it was.
     #[inline(always)]
     pub fn lend<R: Wait>(
@@ -138,18 +137,18 @@ impl<N: Run> Shared<N> {
         ensures processor { pass.new.processor ≡ pass.old.processor }
     {
         let list = Retirements::new(alloc, most).ok();
-        // (a turn of the same round has room then, too)
+        // (so a turn of the same round has room, too)
         pass.make_warm_room(most as usize + 1);
         self.take(rt).lend(pass, most, list)
     }
 
-    /// Takes a loan back that was lent on the pass: a turn of the processor is entered for each instruction that it
-    /// has retired, and stored to the pass. The places that were promised beyond these are free again. No memory is
-    /// taken.
+    /// Takes back a core that was lent on the pass: enters a turn of the processor for each instruction that it has
+    /// retired, and stores them in the pass. The places that were promised beyond these are free again. Allocates no
+    /// memory.
     ///
     /// # Errors
     ///
-    /// The loan, where the core was not lent as its record says. Then nothing is changed.
+    /// The loan, if the core was not lent as its record says. Then nothing changes.
     #[inline(always)]
     pub fn give_back<R: Wait>(
         &self,
@@ -174,9 +173,9 @@ impl<N: Run> Shared<N> {
     ///
     /// # Errors
     ///
-    /// [`LockRefusal::Unnamed`] where the step is a turn or a poke, or the machine has not each place that it names,
-    /// else [`LockRefusal::Full`] where the log has [`steps::MAX_STEPS`] steps, else [`LockRefusal::Memory`] where
-    /// there is no memory for a place in the log. Each leaves all as it was.
+    /// [`LockRefusal::Unnamed`] if the step is a turn or a poke, or names a place that the machine does not have, else
+    /// [`LockRefusal::Full`] if the log has [`steps::MAX_STEPS`] steps with those that are promised, else
+    /// [`LockRefusal::Memory`] if there is no memory for a place in the log. Each leaves all as it was.
     pub fn net<R: Wait>(
         &self,
         rt: &R,
@@ -195,10 +194,10 @@ impl<N: Run> Shared<N> {
         locked_state.net(pass, step)
     }
 
-    /// Goes through rounds, with no other thread's step between them. A round takes a turn of the pass's processor, as
-    /// [`Shared::turn`] does and then, unless that has stopped the processor, the next of these steps, as
-    /// [`Shared::net`] does. They end with one that does not leave the processor waiting, since its turn has retired
-    /// an instruction or stopped it, or something was refused, and where no step is left.
+    /// Takes rounds, with no other thread's step between them. A round takes a turn of the pass's processor, as
+    /// [`Shared::turn`] does, and then, unless that stopped the processor, the next of these steps, as [`Shared::net`]
+    /// does. The last round is one that does not leave the processor waiting, since its turn retired an instruction or
+    /// stopped the processor, or something was refused; or it is the one with the last step.
     #[inline(always)]
     pub fn rounds<R: Wait>(&self, rt: &R, pass: &mut Pass<N>, steps: &[Step]) -> Rounds
         requires some { 1 ≤ length steps.now }
@@ -214,12 +213,12 @@ impl<N: Run> Shared<N> {
         locked_state.rounds(pass, steps)
     }
 
-    /// Takes a loan back, as [`Shared::give_back`] does, and then goes through rounds, as [`Shared::rounds`] does,
-    /// with no other thread's step between them.
+    /// Takes a loan back, as [`Shared::give_back`] does, and then takes rounds, as [`Shared::rounds`] does, with no
+    /// other thread's step between them.
     ///
     /// # Errors
     ///
-    /// The loan, where the core was not lent as its record says. Then nothing is changed, and no turn is asked for.
+    /// The loan, if the core was not lent as its record says. Then nothing changes, and no turn is asked for.
     #[inline(always)]
     pub fn end_loan<R: Wait>(
         &self,
@@ -242,7 +241,7 @@ impl<N: Run> Shared<N> {
         Ok(locked_state.rounds(pass, steps))
     }
 
-    /// The locked state, once no other thread has it.
+    /// Takes the lock, as soon as no other thread has it.
     #[inline(always)]
     fn take<R: Wait>(&self, rt: &R) -> MutexGuard<'_, LockedState<N>> {
         match self.locked_state.try_lock() {
@@ -251,8 +250,8 @@ impl<N: Run> Shared<N> {
         }
     }
 
-    /// The locked state, which another thread has. It is soon given back, so a thread looks again before it sleeps: to
-    /// be called costs more than a step.
+    /// Takes the lock, which another thread has. That thread soon releases it, so this one tries again before it
+    /// sleeps: to be woken costs more than a step.
     #[inline(never)]
     fn wait<R: Wait>(&self, rt: &R) -> MutexGuard<'_, LockedState<N>> {
         for look in 0..LOOKS {
@@ -272,7 +271,7 @@ impl<N: Run> Shared<N> {
         self.locked_state.lock(rt)
     }
 
-    /// The logged machine, once all passes are back, in their order. A core that is still lent is put back as it was
+    /// Returns the logged machine after all passes are back, in order. A core that is still lent is put back as it was
     /// lent.
     pub fn gather(self, mut passes: Vec<Pass<N>>) -> (Logged, Vec<Pass<N>>)
         requires { IsWhole N.count passes.items }

@@ -12,7 +12,7 @@ use machine_steps::{Machine, machine_is_well_formed};
 use steps::Step;
 
 /// Whether a step has no message, and so stalls: no request to move or to serve, no reply to move, or none for which
-/// an open processor waits. Most steps that threads ask for are such, and one bit shows it. Others may stall too.
+/// an open processor waits. Most steps that threads ask for have none, and one bit shows it. Others may stall too.
 #[inline(always)]
 pub(crate) fn would_stall(machine: &Machine, step: Step) -> bool
     requires { is_named machine.now.config step ≡ true }
@@ -28,9 +28,9 @@ pub(crate) fn would_stall(machine: &Machine, step: Step) -> bool
     }
 }
 
-/// How many rounds of a processor with these steps find nothing, one after another: its turn no reply, for which it
-/// waits, and each step, which is one of the network that the machine has, no message. The machine is the same after
-/// them. The last step is not looked at.
+/// How many rounds of a processor with the first of these steps are idle: its turn finds no reply, for which it waits,
+/// and each step, which is one of the network that the machine has, finds no message. They do not change the machine.
+/// The last step is not looked at.
 pub(crate) fn idle_rounds(machine: &Machine, processor: u8, steps: &[Step]) -> usize
     requires processor { processor < 2 ^ machine.now.config.k }
     requires some { 1 ≤ length steps.now }
@@ -51,7 +51,7 @@ pub(crate) fn idle_rounds(machine: &Machine, processor: u8, steps: &[Step]) -> u
     last
 }
 
-/// Whether it is a step of the network that the machine has, and has no message.
+/// Whether a step is one of the network that the machine has, and has no message.
 #[inline(always)]
 fn is_idle_move(machine: &Machine, step: Step) -> bool
     ensures { result ≡ true → IsIdleMove machine.now step }
@@ -69,7 +69,7 @@ fn is_open(machine: &Machine, p: u8) -> bool
     matches!(machine.is_open(p), Some(true))
 }
 
-/// Whether no request stands before a stage on a wire, or at a module for stage `k`.
+/// Whether no request is before a stage on a wire, or at a module for stage `k`.
 #[inline(always)]
 fn has_no_request(machine: &Machine, stage: u8, wire: u8) -> bool
     requires stage { stage ≤ machine.now.config.k }
@@ -80,7 +80,7 @@ fn has_no_request(machine: &Machine, stage: u8, wire: u8) -> bool
     !machine.network().has_request(stage, wire)
 }
 
-/// Whether no reply stands before a stage on a wire, or at a module for stage `k`.
+/// Whether no reply is before a stage on a wire, or at a module for stage `k`.
 #[inline(always)]
 fn has_no_reply(machine: &Machine, stage: u8, wire: u8) -> bool
     requires stage { stage ≤ machine.now.config.k }

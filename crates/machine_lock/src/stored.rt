@@ -19,14 +19,14 @@ pub struct PassStateVec {
     pub(crate) lent: Option<u32>,
 }
 
-/// What a event is written over with that is to come.
+/// What is written where events are to come.
 const BLANK: PassEvent = PassEvent {
     event: Event::Stopped(Cause::Halt(0)),
     place: 0,
 };
 
 impl PassStateVec {
-    /// Makes room for this many events more, if there is memory for them.
+    /// Makes room for this many more events, if there is memory for them.
     pub(crate) fn make_room(&mut self, pass_events: usize)
         ensures row { row_of self.new ≡ row_of self.old }
         ensures capacity { vec_capacity self.old.pass_events ≤ vec_capacity self.new.pass_events }
@@ -34,8 +34,8 @@ impl PassStateVec {
         let _ = self.pass_events.reserve(pass_events);
     }
 
-    /// Makes room for this many events more, if there is memory for them, and writes there: the system gives memory
-    /// where it is first written, which takes as long as a dozen events, and is not to be waited for under the lock.
+    /// Makes room for this many more events, if there is memory for them, and writes to it: the system provides memory
+    /// when it is first written, which takes as long as a dozen events, and no thread should wait for it under a lock.
     pub(crate) fn make_warm_room(&mut self, pass_events: usize)
         ensures row { row_of self.new ≡ row_of self.old }
         ensures capacity { vec_capacity self.old.pass_events ≤ vec_capacity self.new.pass_events }
@@ -47,7 +47,7 @@ impl PassStateVec {
         }
     }
 
-    /// Whether there is room for this many events more.
+    /// Whether there is room for this many more events.
     #[inline(always)]
     pub(crate) fn has_room_for(&self, pass_events: usize) -> bool
         ensures { result ≡ true → vec_len self.now.pass_events + pass_events ≤ vec_capacity self.now.pass_events }
@@ -99,7 +99,7 @@ impl PassStateVec {
 }
 
 impl PassStateVec {
-    /// Stores that turns of this processor have retired these instructions, from a place on. There is room for them.
+    /// Stores that turns of this processor have retired these instructions, from this place on. There is room for them.
     #[inline(always)]
     pub(crate) fn store_retirements(&mut self, processor: u8, retired: &[Retired], place: u32)
         requires room { vec_len self.old.pass_events + length retired.now ≤ vec_capacity self.old.pass_events }

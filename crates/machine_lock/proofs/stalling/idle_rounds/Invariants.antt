@@ -3,7 +3,7 @@ use Rattle.steps.specs.declared.step.Step.{Step}
 use Rattle.machine_lock.specs.Lists.{IsIdleMove}
 use Rattle.machine_lock.proofs.stalling.idle_rounds.Given as goal
 
--- the steps that were looked at
+-- The steps that were looked at so far are idle moves.
 abbrev pub invariant-loop-place : goal.invariant-loop-place
 invariant-loop-place l = record {
   few : l.place ≤ l.last;

@@ -13,7 +13,7 @@ takes : (o : Option ℕ) (xs : List Inlet) (p : ℕ) (y d : Inlet) → p < lengt
 takes None xs p y d lt is h = map_kept taken_of xs p y d (h ∙ ap taken_of is)
 takes (Some x) xs p y d lt is h = map_put taken_of xs p y d (x ∷ []) lt (h ∙ ap (λ v. taken_of v ++ x ∷ []) is)
 
--- the same where the inlet's place is given as another number
+-- The same holds if the inlet's place is given as another number.
 takes_at : (o : Option ℕ) (xs : List Inlet) (place p : ℕ) (y d : Inlet) → place ≡ p → p < length xs → d ≡ slice_index_or xs place d
     → MatchOption o (taken_of y ≡ taken_of d) (λ x. taken_of y ≡ taken_of d ++ x ∷ [])
     → MatchOption o (map taken_of (slice_set xs place y) ≡ map taken_of xs)

@@ -10,7 +10,7 @@ use Rattle.machine_lock.specs.Rows.{with_answer, with_retirements}
 use Rattle.machine_lock.specs.Passes.{row_of}
 use Rattle.machine_lock.proofs.stored.PassStateVec.store_retirements.Goals as goal
 
--- a turn of p that retires an instruction gives one event
+-- A turn of p that retires an instruction gives one event at most.
 given_one : (p place : ℕ) (retired : Retired) → length (given_to p place (step.Turn p) (outcome.Retired retired)) ≤ 1
 given_one p place retired = at (is_turn_of p (step.Turn p))
   where
@@ -18,7 +18,7 @@ given_one p place retired = at (is_turn_of p (step.Turn p))
     at true = omega arith
     at false = omega arith
 
--- the next of the instructions is stored
+-- After the next of the instructions is stored, those after it are left to store.
 next_answer : (p : ℕ) (r : PassState) (place : ℕ) (taken : List Retired) (k : ℕ) (d : Retired) → k < length taken →
     with_retirements p (with_answer p r (step.Turn p) (outcome.Retired (get_or taken k d)) place) (suc place) (drop (suc k) taken)
     ≡ with_retirements p r place (drop k taken)
