@@ -1,4 +1,4 @@
--- Steps that are left of those that are named.
+-- The steps that are left of the named ones.
 use Rattle.std.proofs.Common.{◌≡◌, ℕ, zero, suc, ◌+◌, ◌-◌, ◌≤◌, ◌<◌, List, [], ◌∷◌, length, take, drop, min, max, refl, sym, ap, ◌∙◌, arith, length-drop}
 use Rattle.std.specs.Prelude.{◌↔◌}
 use Rattle.std.proofs.lemmas.List.{drop-take, length-take}
@@ -49,13 +49,13 @@ module _ (steps : List Step) (used named : ℕ) (within : used ≤ named) where
       let rest = length-drop used steps in
       omega (arith, taken, rest, within, all)
 
-  -- The first of them, where this many are left, and where fewer are.
+  -- If more steps are left than are wanted, those taken are as many of the first as are wanted.
   pub first_left : (most end : ℕ) → most < named - used → end ≡ used + most → take (end - used) (drop used steps) ≡ take most left
   first_left most end less e =
       ap (λ n. take n (drop used steps)) (let same : end - used ≡ most = omega (arith, e) in same)
       ∙ sym (take_few most (named - used) (drop used steps) (omega (arith, less))) ∙ ap (take most) (sym left_is)
 
-  -- If no more steps are left than are wanted, the steps taken are all that are left.
+  -- If no more steps are left than are wanted, those taken are all that are left.
   pub all_left : (most : ℕ) → named - used ≤ most → take (named - used) (drop used steps) ≡ take most left
   all_left most less =
       let few = left_few in
@@ -71,12 +71,12 @@ module _ (steps : List Step) (used named : ℕ) (within : used ≤ named) where
 
 -- ---- steps that are named
 
--- Steps of which some are left are filled up as they are.
+-- If some steps are left, they are filled as they are.
 pub filled_kept : (count : ℕ) (old : List Step) → (old ≡ [] → ⊥) → IsFilled count old old
 filled_kept count [] some = absurd (some refl)
 filled_kept count (x ∷ old) some = refl
 
--- If no step is left, as many new ones as were asked for, one at least and 512 at most, fill them up.
+-- If no step is left, as many new ones as were asked for, at least one and at most 512, fill the buffer.
 pub filled_new : (count : ℕ) (old new : List Step) → old ≡ [] → length new ≡ max 1 (min count 512) → IsFilled count old new
 filled_new count [] new none many = many
 filled_new count (x ∷ old) new none many = absurd (cc)
@@ -87,7 +87,7 @@ named_some : (count : ℕ) (old new : List Step) → IsFilled count old new → 
 named_some count [] new filled = omega (arith, filled)
 named_some count (x ∷ old) new filled = let same = ap length filled in omega (arith, same)
 
--- If steps were filled up, at least one of them is among the first, up to a number above 0.
+-- Of steps that were filled, the first ones up to a number above 0 are at least one.
 pub some_named : (count : ℕ) (old new : List Step) (most : ℕ) → IsFilled count old new → 1 ≤ most → 1 ≤ length (take most new)
 some_named count old new most filled some =
     let all = named_some count old new filled in let taken = length-take most new in omega (arith, all, some, taken)
@@ -100,7 +100,7 @@ few_named most new = let taken = length-take most new in omega (arith, taken)
 pub few_left : (most : ℕ) (new : List Step) → length (take most new) ≤ length new
 few_left most new = let taken = length-take most new in omega (arith, taken)
 
--- If some of the steps that were filled up are dropped from the front, these are used and the others are left.
+-- If some of the filled steps are dropped from the front, these are used and the others are left.
 pub has_used : (count done : ℕ) (old new : List Step) → IsFilled count old new → done ≤ length new → HasUsed done old (drop done new)
 has_used count done [] new filled few = let rest = length-drop done new in omega (arith, filled, few, rest)
 has_used count done (x ∷ old) new filled few = let rest = length-drop done new in let same = ap length filled in omega (arith, same, few, rest)

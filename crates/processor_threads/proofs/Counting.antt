@@ -23,7 +23,7 @@ module _ (t : Tally) (done : RoundsDone) (lets_run : Bool) (most : ℕ) (w : Are
   one_counts true e = absurd (cc)
   one_counts false e = let some = w.some in let idle = w.idle in omega (arith, some, idle)
 
-  -- One counts at least, where none that found nothing has.
+  -- If no idle round has counted, at least one round counts.
   one_more : t.idle ≡ false → suc t.counted ≤ (tally_after t done lets_run).counted
   one_more e = one_counts t.idle e
 
@@ -33,7 +33,7 @@ module _ (t : Tally) (done : RoundsDone) (lets_run : Bool) (most : ℕ) (w : Are
   room_kept gone [] new used fresh room = let more = one_more (fresh refl) in omega (arith, used, room, more)
   room_kept gone (s ∷ later) new used fresh room = let more = none_lost in omega (arith, used, room, more)
 
-  -- So the rounds that may follow become fewer.
+  -- The rounds that may follow become fewer.
   pub fewer_left : (budget : ℕ) (old new : List Step) → HasUsed done.rounds old new → (old ≡ [] → t.idle ≡ false) → t.counted ≤ budget →
       (tally_after t done lets_run).counted ≤ budget →
       (budget - (tally_after t done lets_run).counted) * 513 + length new < (budget - t.counted) * 513 + length old
@@ -42,20 +42,20 @@ module _ (t : Tally) (done : RoundsDone) (lets_run : Bool) (most : ℕ) (w : Are
   fewer_left budget (s ∷ later) new used fresh below below' =
       let more = none_lost in let some = w.some in omega (arith, used, more, below, below', some)
 
--- Once the thread lets others run, none that found nothing has counted since.
+-- After the thread lets others run, no idle round has counted since.
 pub fresh_after : (before lets_run : Bool) (idle : ℕ) (left : List Step) → ((lets_run ≡ true) ↔ (left ≡ [])) → left ≡ [] →
     is_idle_after lets_run before idle ≡ false
 fresh_after before true idle left same none = refl
 fresh_after before false idle left same none = let no = same.1 none in absurd (cc)
 
--- A thread that lets others run exactly if no step is left lets them run exactly if the steps are used up.
+-- A thread that lets others run exactly if no step is left does so exactly if the steps are used up.
 pub used_up : (lets_run : Bool) (left : List Step) → ((lets_run ≡ true) ↔ (left ≡ [])) → lets_run ≡ is_used_up left
 used_up true [] same = refl
 used_up true (s ∷ left) same = let no = same.0 refl in absurd (cc)
 used_up false [] same = let no = same.1 refl in absurd (cc)
 used_up false (s ∷ left) same = refl
 
--- One call more.
+-- One more call that does not stop the processor goes on from the calls before it.
 pub one_call_more : (opening : MachineLists) (first : List Step) (budget : ℕ) (old between new : ThreadState) (calls : List RoundsDone) (done : RoundsDone) →
     HaveGoneOn opening first budget old calls between → between.tally.counted < budget → done.stopped ≡ false →
     GoesOn opening first between.holds between.left (budget - between.tally.counted) (Ok done) new.holds new.left →

@@ -1,4 +1,4 @@
--- Lists of bytes: each followed by its rest, the first of them first; beginnings.
+-- Lists of bytes, each followed by its rest, one after another, and beginnings of lists.
 use Rattle.std.proofs.Common.{◌≡◌, ℕ, zero, suc, ◌+◌, ◌<◌, List, [], ◌∷◌, ◌++◌, length, map, Vec, Global, refl, sym, ap, ◌∙◌, subst, arith}
 use Rattle.std.specs.Prelude.{replicate, slice_set, slice_index_or}
 use Rattle.std.proofs.lemmas.List.{append-nil, get_or-map, length-map, map-set}
@@ -13,7 +13,7 @@ part (suc n) [] rests = []
 part (suc n) (xs ∷ lists) [] = xs ∷ lists
 part (suc n) (xs ∷ lists) (ys ∷ rests) = (xs ++ ys) ∷ part n lists rests
 
--- one more
+-- If one more list is followed by its rest, one more of the first lists are.
 pub part_more : (p : ℕ) (lists rests : List (List ℕ)) → p < length rests → length lists ≡ length rests →
     slice_set (part p lists rests) p (at (part p lists rests) p ++ at rests p) ≡ part (suc p) lists rests
 part_more zero [] [] less e = absurd (omega (arith, less))
@@ -23,7 +23,7 @@ part_more p (xs ∷ lists) [] less e = absurd (omega (arith, e))
 part_more zero (xs ∷ lists) (ys ∷ rests) less e = refl
 part_more (suc p) (xs ∷ lists) (ys ∷ rests) less e = ap (λ l. (xs ++ ys) ∷ l) (part_more p lists rests (omega (arith, less)) (omega (arith, e)))
 
--- If as many lists are followed by their rests as there are rests, each list is.
+-- If as many lists are followed by their rests as there are rests, all lists are.
 pub part_all : (lists rests : List (List ℕ)) → length lists ≡ length rests → part (length rests) lists rests ≡ joined lists rests
 part_all [] [] e = refl
 part_all [] (ys ∷ rests) e = absurd (omega (arith, e))
@@ -43,7 +43,7 @@ emptied_more p [] less = absurd (omega (arith, less))
 emptied_more zero (xs ∷ lists) less = refl
 emptied_more (suc p) (xs ∷ lists) less = ap (λ l. [] ∷ l) (emptied_more p lists (omega (arith, less)))
 
--- If as many lists are emptied as there are, each is empty.
+-- If as many lists are emptied as there are, all are empty.
 pub emptied_all : (lists : List (List ℕ)) → emptied (length lists) lists ≡ replicate (length lists) []
 emptied_all [] = refl
 emptied_all (xs ∷ lists) = ap (λ l. [] ∷ l) (emptied_all lists)
@@ -59,14 +59,14 @@ joined_beginnings [] rests e = tt
 joined_beginnings (xs ∷ lists) [] e = absurd (omega (arith, e))
 joined_beginnings (xs ∷ lists) (ys ∷ rests) e = ((ys, refl), joined_beginnings lists rests (omega (arith, e)))
 
--- Lists of which the first p are followed by their rests are beginnings of the lists that all are.
+-- If the first p lists are followed by their rests, all are beginnings of the lists that are.
 pub part_beginnings : (p : ℕ) (lists rests : List (List ℕ)) → length lists ≡ length rests → AreBeginnings (part p lists rests) (joined lists rests)
 part_beginnings zero lists rests e = joined_beginnings lists rests e
 part_beginnings (suc p) [] rests e = tt
 part_beginnings (suc p) (xs ∷ lists) [] e = absurd (omega (arith, e))
 part_beginnings (suc p) (xs ∷ lists) (ys ∷ rests) e = (([], append-nil (xs ++ ys)), part_beginnings p lists rests (omega (arith, e)))
 
--- Empty lists are beginnings of any lists, as many as they are.
+-- Empty lists are beginnings of any as many lists.
 pub empty_beginnings : (n : ℕ) (lists : List (List ℕ)) → length lists ≡ n → AreBeginnings (replicate n []) lists
 empty_beginnings zero [] e = tt
 empty_beginnings zero (xs ∷ lists) e = absurd (omega (arith, e))
@@ -78,12 +78,12 @@ empty_beginnings (suc n) (xs ∷ lists) e = ((xs, refl), empty_beginnings n list
 abbrev Bytes : Type 0
 Bytes = Vec ℕ Global
 
--- it keeps its bytes
+-- If it keeps its bytes, all lists do.
 pub kept_at : (xs : List Bytes) (place : ℕ) (y d : Bytes) → d ≡ slice_index_or xs place d → y.items ≡ d.items →
     map bytes_of (slice_set xs place y) ≡ map bytes_of xs
 kept_at xs place y d is same = map-set_same bytes_of xs place y d (same ∙ ap bytes_of is)
 
--- it has more bytes
+-- If it gets more bytes, the other lists keep theirs.
 more_at : (xs : List Bytes) (place : ℕ) (y d : Bytes) (bytes : List ℕ) → place < length xs → d ≡ slice_index_or xs place d → y.items ≡ d.items ++ bytes →
     map bytes_of (slice_set xs place y) ≡ slice_set (map bytes_of xs) place (at (map bytes_of xs) place ++ bytes)
 more_at xs place y d bytes less is more =

@@ -1,4 +1,4 @@
--- Which fault is reported of a list that grows at its end, and that a cancel hides none.
+-- Which fault is reported of a list that grows at its end, and that a cancel hides no fault.
 use Rattle.std.proofs.Common.{◌≡◌, ℕ, zero, suc, ◌<◌, true, false, List, [], ◌∷◌, ◌++◌, length, cond, refl, sym, ap, ◌∙◌, subst, arith}
 use Rattle.std.specs.Prelude.{Option, Some, None, Contains, filter_map, find, option_to_list, slice_get, slice_index_or}
 use Rattle.std.specs.Option.{option_or}
@@ -12,7 +12,7 @@ use Rattle.processor_threads.specs.Faults.{fault_of, is_of_host, is_own}
 abbrev there : List (Option RunFault) → List RunFault
 there ends = filter_map (λ end. end) ends
 
--- the one of these that is reported
+-- which of these is reported
 abbrev worst : List RunFault → Option RunFault
 worst faults = option_or (find is_of_host faults) (option_or (find is_own faults) (slice_get faults 0))
 
@@ -73,7 +73,7 @@ worst_more faults more =
     (λ i. option_or (find-append is_of_host faults more i) (option_or (find-append is_own faults more i) (first_more faults more i)))
     ∙ by_parts more (find is_of_host faults) (find is_own faults) (slice_get faults 0) (host_is faults) (own_is faults) (first_is faults)
 
--- one thread more
+-- With one more thread, the fault is that reported of the fault before and the thread's own.
 pub fault_of-last : (end : Option RunFault) (ends : List (Option RunFault)) → fault_of (ends ++ end ∷ []) ≡ fault_of (fault_of ends ∷ end ∷ [])
 fault_of-last end ends =
     ap worst (filter_map-append (λ e. e) ends (end ∷ [])) ∙ worst_more (there ends) (there (end ∷ [])) ∙ by (worst (there ends))
@@ -113,7 +113,7 @@ at_place (Some Full ∷ ends) none f k less is = absurd (cc)
 at_place (Some Loan ∷ ends) none f k less is = absurd (cc)
 at_place (Some Budget ∷ ends) none f k less is = absurd (cc)
 
--- no thread has met a fault
+-- If a cancel is reported, no thread met a fault itself.
 pub cancelled_alone : (ends : List (Option RunFault)) → fault_of ends ≡ Some Cancelled → (f : RunFault) → Contains ends (Some f) → f ≡ Cancelled
 cancelled_alone ends e f c = at_place ends (no_own (there ends) e) f c.0 c.1 c.2
 
@@ -129,7 +129,7 @@ none_there (Some f ∷ ends) e k end at = absurd (cc)
 none_there (None ∷ ends) e zero end at = cc
 none_there (None ∷ ends) e (suc k) end at = none_there ends e k end at
 
--- no thread has one
+-- If no fault is reported, no thread has one.
 pub all_none : (ends : List (Option RunFault)) → fault_of ends ≡ None → (k : ℕ) (end : Option RunFault) → slice_get ends k ≡ Some end → end ≡ None
 all_none ends e = none_there ends (first_none (there ends) (by (find is_of_host (there ends)) (find is_own (there ends)) e))
   where

@@ -1,4 +1,4 @@
--- What a call does goes with what was held and whether the processor waited.
+-- What a call does depends on what was held, and on whether the processor waited.
 use Rattle.std.proofs.Common.{◌≡◌, ℕ, ◌≤◌, ◌⊎◌, Bool, true, false, List, [], ◌∷◌, length, take, drop, get_or, refl, sym, subst, arith, inl, inr}
 use Rattle.std.specs.Prelude.{Option, Some, None, Result, Err, IfOk, IfSome, is_some, slice_get}
 use Rattle.std.proofs.lemmas.Option.{slice_get-get_or}
@@ -16,11 +16,11 @@ use Rattle.processor_threads.proofs.Buffering.{has_used}
 use Rattle.processor_threads.specs.Rounds.{AsksNet, GoesThrough, GoesWith, IsLent, IsTried, TakesTurns, Thread}
 use Rattle.processor_threads.specs.Rounds.{one_round}
 
--- the first of some steps
+-- Some steps have a first one.
 pub first_there : (steps : List Step) (other : Step) → 1 ≤ length steps → slice_get steps 0 ≡ Some (get_or steps 0 other)
 first_there steps other some = slice_get-get_or steps 0 other (omega (arith, some))
 
--- which is that of the first one alone
+-- The first of the first step alone is the first of all.
 pub first_alone : (steps : List Step) (s : Step) → slice_get (take 1 steps) 0 ≡ Some s → slice_get steps 0 ≡ Some s
 first_alone [] s e = e
 first_alone (x ∷ steps) s e = e
@@ -49,12 +49,12 @@ no_byte None e = refl
 no_byte (Some byte) e = absurd (cc)
 
 module _ (opening : MachineLists) (first : List Step) where
-  -- If no byte is held, a thread that goes through rounds with the first named steps goes on so.
+  -- If no byte is held, a thread goes on with rounds that take the first named steps.
   pub goes_without_byte : (held : Option ℕ) (old new : Thread) (named : List Step) (most : ℕ) (result : Result RoundsDone RunFault) → held ≡ None →
       GoesThrough opening first old.waits old (take most named) result new → GoesWith opening first held old named most result new
   goes_without_byte held old new named most result none goes = subst (λ h. GoesWith opening first h old named most result new) (sym none) goes
 
-  -- If a byte is held, a thread that tries it and asks for the first named step of the network goes on so.
+  -- If a byte is held, a thread goes on by trying it and asking for the first named step of the network.
   pub goes_with_byte : (held : Option ℕ) (old new : Thread) (named : List Step) (most : ℕ) (result : Result RoundsDone RunFault) (s : Step)
       (fault : Option RunFault) → is_some held ≡ true → IfSome held (λ byte. IsTried byte old.end new.end) → slice_get named 0 ≡ Some s →
       AsksNet opening first old.pass s fault new.pass → new.waits ≡ old.waits → result ≡ one_round fault →
@@ -73,7 +73,7 @@ module _ (opening : MachineLists) (first : List Step) where
   goes_lending false old new steps result answer e lent = (answer, lent)
   goes_lending true old new steps result answer e lent = absurd (cc)
 
-  -- A loan that has given a byte.
+  -- A core that ran on loan and gave a byte was taken back, and the byte is held.
   pub alone_with_byte : (loan run : LoanState) (old new : Thread) (steps : List Step) (result : Result RoundsDone RunFault) (ended : LocalEnd) (byte : ℕ)
       (s : Step) (between : Held) (fault : Option RunFault) → ended ≡ Out byte → HasGoneOn opening.code loan run ended → slice_get steps 0 ≡ Some s →
       UnderLock first old.pass between (λ from to. IsReturned opening from run.retired to) → AsksNet opening first between s fault new.pass →
@@ -96,7 +96,7 @@ module _ (opening : MachineLists) (first : List Step) where
     }));
   }
 
-  -- One that has given none.
+  -- A core that ran on loan and gave no byte was taken back, and rounds followed.
   pub alone_with_rounds : (loan run : LoanState) (old new : Thread) (steps : List Step) (result : Result RoundsDone RunFault) (ended : LocalEnd)
       (rounds : Rounds) → (ended ≡ Most) ⊎ (ended ≡ Other) → HasGoneOn opening.code loan run ended →
       UnderLock first old.pass new.pass (λ from to. HasEnded opening from run.retired steps rounds to) →
@@ -116,7 +116,7 @@ module _ (opening : MachineLists) (first : List Step) where
         (record { rounds = rounds; gone = gone; applied = applied }));
   }
 
-  -- One that is handed back.
+  -- A core that ran on loan was handed back.
   pub alone_in_vain : (loan run : LoanState) (old new : Thread) (steps : List Step) (result : Result RoundsDone RunFault) (ended : LocalEnd) →
       HasGoneOn opening.code loan run ended → result ≡ Err run_fault.Loan → new ≡ old → RunsAlone opening first loan old steps result new
   alone_in_vain loan run old new steps result ended runs e same = record { run = run; ended = ended; runs = runs; ends = inl (e, same) }

@@ -1,4 +1,4 @@
--- Passes and ends, of which the last goes and comes back.
+-- Lists of passes and ends whose last ones go and come back.
 use Rattle.std.proofs.Common.{◌≡◌, ℕ, zero, suc, List, [], ◌∷◌, ◌++◌, length, length-append, refl, sym, ap, ◌∙◌, subst, arith}
 use Rattle.std.specs.Prelude.{map, replicate, Option, Some, None, slice_get}
 use Rattle.std.proofs.lemmas.List.{map-append}
@@ -15,7 +15,7 @@ use Rattle.processor_threads.proofs.Reported.{all_none}
 -- ---- the last of a list
 
 module _ {A : Type 0} where
-  -- lists that are alike with their last elements are alike without them
+  -- Equal lists are equal without their last elements.
   pub fronts : (xs ys : List A) (x y : A) → xs ++ x ∷ [] ≡ ys ++ y ∷ [] → xs ≡ ys
   fronts [] [] x y e = refl
   fronts [] (b ∷ ys) x y e = let n = ap length e in let m = length-append ys (y ∷ []) in absurd (omega (arith, n, m))
@@ -32,7 +32,7 @@ module _ {A : Type 0} where
   lasts (a ∷ xs) [] x y e = let n = ap length e in let m = length-append xs (x ∷ []) in absurd (omega (arith, n, m))
   lasts (a ∷ xs) (b ∷ ys) x y e = let t : xs ++ x ∷ [] ≡ ys ++ y ∷ [] = cc in lasts xs ys x y t
 
--- what was sent of all but the last, and of the last
+-- If all ends sent what their passes store, all but the last did, and the last did.
 pub sent_apart : (passes : List Held) (ends : List End) (pass : Held) (end : End) → AreSent (passes ++ pass ∷ []) (ends ++ end ∷ []) →
     AreSent passes ends × (console_of pass ≡ sent_by end)
 sent_apart passes ends pass end e =
@@ -63,7 +63,7 @@ length-ended (f ∷ faults) (p ∷ passes) e = ap suc (length-ended faults passe
 
 -- ---- one more comes back
 
--- If there are no passes, all passes and ends come back, with no fault.
+-- If there are no passes, all passes and ends come back, without a fault.
 pub none_comes_back : (passes : List Held) (ends : List End) (passes' : List Held) (ends' : List End) (faults faults' : List (Option RunFault)) →
     passes ≡ [] → passes' ≡ passes → ends' ≡ ends → AreSent passes ends → faults ≡ [] → faults' ≡ faults → AllComeBack passes ends passes' ends' faults'
 none_comes_back passes ends passes' ends' faults faults' none same alike sent empty kept =
@@ -74,7 +74,7 @@ none_comes_back passes ends passes' ends' faults faults' none same alike sent em
     by [] e sent = record { processors = refl; queues = refl; sent = sent; ended = tt }
     by (p ∷ passes) e sent = absurd (cc)
 
--- If all passes and ends come back, and one pass and end more whose bytes were sent, all of these come back.
+-- If all passes and ends come back, and one more pass and end whose bytes were sent, all of these come back.
 pub one_more : (passes : List Held) (ends : List End) (pass : Held) (end : End) (passes' : List Held) (ends' : List End) (pass' : Held) (end' : End)
     (faults : List (Option RunFault)) (fault : Option RunFault) → AllComeBack passes ends passes' ends' faults → ComesBack pass end pass' end' fault →
     console_of pass' ≡ sent_by end' →
@@ -103,7 +103,7 @@ from-processors_of [] k p e = absurd (cc)
 from-processors_of (x ∷ hs) zero p e = (x, refl, cc)
 from-processors_of (x ∷ hs) (suc k) p e = from-processors_of hs k p e
 
--- Passes of the same processors in the same order are the passes of all processors again.
+-- Passes of the same processors in the same order are again the passes of all processors.
 pub whole_again : (n : ℕ) (hs now : List Held) → IsWhole n hs → processors_of now ≡ processors_of hs → IsWhole n now
 whole_again n hs now w e = record {
   many = sym (length-processors_of now) ∙ ap length e ∙ length-processors_of hs ∙ w.many;
@@ -124,7 +124,7 @@ new_sent (suc n) = map-append console_of (new_passes n) (held n new_row ∷ []) 
     more zero = refl
     more (suc n) = ap (λ bs. [] ∷ bs) (more n)
 
--- ---- where there is no fault, all have stopped
+-- ---- if there is no fault, all have stopped
 
 in_front : (ends more : List (Option RunFault)) (k : ℕ) (end : Option RunFault) → slice_get ends k ≡ Some end → slice_get (ends ++ more) k ≡ Some end
 in_front [] more k end at = absurd (cc)

@@ -1,4 +1,4 @@
--- What a call stores in a pass is sent, or is held.
+-- The console bytes that a call stores in a pass are sent or held.
 use Rattle.std.proofs.Common.{◌≡◌, ℕ, ◌+◌, ◌≤◌, Bool, true, false, List, [], ◌∷◌, ◌++◌, length, length-append}
 use Rattle.std.proofs.Common.{refl, sym, ap, ◌∙◌, subst, append_assoc, arith, eq-eqb, ◌⊎◌, inl, inr}
 use Rattle.std.specs.Prelude.{suc, ◌↔◌, OnErr, All, map, Option, Some, None, Result, Ok, Err, IfOk, OnOk, is_ok, if◌then◌else◌}
@@ -45,7 +45,7 @@ console_bytes-append [] ys = refl
 console_bytes-append (x ∷ xs) ys =
     ap (λ bs. given_by x ++ bs) (console_bytes-append xs ys) ∙ sym (append_assoc (given_by x) (console_bytes xs) (console_bytes ys))
 
--- the console bytes of what was stored before, and then of what is given
+-- The console bytes of what is stored, and then of what is given, are those of the one, then those of the other.
 more : (ns given : List PassEvent) → console_bytes (events (ns ++ given)) ≡ console_bytes (events ns) ++ console_bytes (events given)
 more ns given = ap console_bytes (map-append (λ n. n.event) ns given) ∙ console_bytes-append (events ns) (events given)
 
@@ -63,7 +63,7 @@ shown_byte place Stalled = refl
 own : (p place : ℕ) (o : Outcome) → given_to p place (step.Turn p) o ≡ shown_at place o
 own p place o = ap (λ (b : Bool). if b then shown_at place o else []) (eq-eqb p p refl)
 
--- A turn holds the byte that it gives, where none was held.
+-- If no byte was held, a turn holds the byte that it gives.
 pub turned : (opening : MachineLists) (old new : Moment) (o : Outcome) (put : List ℕ) → HasAnswered opening old (step.Turn old.pass.processor) o new →
     console_of old.pass ≡ put ++ [] → console_of new.pass ≡ put ++ held_of (byte_of o)
 turned opening old new o put t e =
@@ -95,7 +95,7 @@ turn_given : (lent : Option ℕ) (opening : MachineLists) (old new : Moment) (o 
 turn_given None opening old new o put t e = turned opening old new o put t e
 turn_given (Some most) opening old new o put t e = ap (λ (m : Moment). console_of m.pass) t.1 ∙ e ∙ ap (λ o. put ++ held_of (byte_of o)) (sym t.0)
 
--- And it stops nothing.
+-- And it does not stop the processor.
 turn_stops : (lent : Option ℕ) (opening : MachineLists) (old new : Moment) (o : Outcome) → IsTurned lent opening old o new → is_stop o ≡ true →
     EndsWithStop new.pass
 turn_stops None from old new o t e = stops from old new o t e
@@ -103,7 +103,7 @@ turn_stops (Some most) from old new o t e = let no : false ≡ true = ap is_stop
 
 -- ---- local instructions
 
--- what instructions that have retired gave the console
+-- what retired instructions gave the console
 abbrev given_by_all : List retirement.Retired → List ℕ
 given_by_all [] = []
 given_by_all (retired ∷ later) = held_of retired.out ++ given_by_all later
@@ -113,7 +113,7 @@ given_by_all-append [] ys = refl
 given_by_all-append (x ∷ xs) ys =
     ap (λ bs. held_of x.out ++ bs) (given_by_all-append xs ys) ∙ sym (append_assoc (held_of x.out) (given_by_all xs) (given_by_all ys))
 
--- A pass that stores turns has what their instructions gave.
+-- A pass that stores retirements has what their instructions gave the console.
 with_retirements_given : (p : ℕ) (r : PassState) (place : ℕ) (taken : List retirement.Retired) →
     console_of (held p (with_retirements p r place taken)) ≡ console_of (held p r) ++ given_by_all taken
 with_retirements_given p r place [] = sym (append-nil (console_of (held p r)))
@@ -131,7 +131,7 @@ quiet (retired ∷ later) all =
     let first : retired.out ≡ None = all 0 retired (omega arith) in
     (λ i. held_of (first i) ++ given_by_all later) ∙ quiet later (λ k d less. all (suc k) d (omega (arith, less)))
 
--- what a run of local instructions gives that has ended so
+-- what a run of local instructions that ended in this way gave the console
 abbrev given_at : LocalEnd → List ℕ
 given_at (Out byte) = byte ∷ []
 given_at Most = []
@@ -147,7 +147,7 @@ run_given (Out byte) s code taken p list ends =
 run_given Most s code taken p list ends = quiet taken ends.0
 run_given Other s code taken p list ends = quiet taken ends.0
 
--- Once a loan is back that has run once, the pass holds what the run gave.
+-- After a loan that has run once is back, the pass has what the run gave.
 module _ (opening : MachineLists) (old new : Moment) (loan gone : LoanState) (end : LocalEnd) (none : loan.retired ≡ [])
     (run : HasGoneOn opening.code loan gone end) (back : IsReturned opening old gone.retired new) where
   returned : console_of new.pass ≡ console_of old.pass ++ given_at end
@@ -157,14 +157,14 @@ module _ (opening : MachineLists) (old new : Moment) (loan gone : LoanState) (en
       ∙ with_retirements_given old.pass.processor old.pass.row (length old.log) gone.retired
       ∙ ap (λ bs. console_of old.pass ++ bs) (ap given_by_all taken ∙ run_given end _ opening.code run.run.taken _ _ run.run.ends)
 
-  -- a byte, which is held then, where none was
+  -- If that is a byte, and no byte was held, the byte is held.
   pub byte_held : (byte : ℕ) (e : End) → end ≡ Out byte → e.held ≡ None → console_of old.pass ≡ sent_by e →
       console_of new.pass ≡ sent_by (record e { held = Some byte })
   byte_held byte e out nothing sent =
       returned
       ∙ (λ i. (sent ∙ ap (λ held. put_of e.sender ++ held_of held) nothing ∙ append-nil (put_of e.sender)) i ++ given_at (out i))
 
-  -- or nothing
+  -- Otherwise it is nothing.
   pub nothing_given : (end ≡ Most) ⊎ (end ≡ Other) → console_of new.pass ≡ console_of old.pass
   nothing_given (inl most) = returned ∙ ap (λ x. console_of old.pass ++ given_at x) most ∙ append-nil (console_of old.pass)
   nothing_given (inr other) = returned ∙ ap (λ x. console_of old.pass ++ given_at x) other ∙ append-nil (console_of old.pass)
@@ -185,7 +185,7 @@ of_network c (step.Serve m) e = refl
 of_network c (step.Down s w) e = refl
 of_network c (step.Poke poke) e = absurd (e refl)
 
--- A step of the network gives the processor nothing.
+-- A step of the network gives the console nothing.
 pub netted : (opening : MachineLists) (old new : Moment) (s : Step) (o : Outcome) → (is_net opening.config s ≡ false → ⊥) → HasAnswered opening old s o new →
     console_of new.pass ≡ console_of old.pass
 netted opening old new s o net t =
@@ -196,20 +196,20 @@ netted opening old new s o net t =
 
 -- ---- a turn, and then a step of the network
 
--- What is asked for after the turn gives the processor nothing.
+-- What is asked for after the turn gives the console nothing.
 asked : (opening : MachineLists) (turn : Outcome) (old new : Moment) (s : Step) (net : Option (Result Outcome LockRefusal)) →
     IsAsked opening turn old s net new → console_of new.pass ≡ console_of old.pass
 asked opening turn old new s None a = ap (λ (m : Moment). console_of m.pass) a.1
 asked opening turn old new s (Some (Ok o)) a = let yes = a.1 in netted opening old new s o (λ no. absurd (cc)) a.2
 asked opening turn old new s (Some (Err e)) a = ap (λ (m : Moment). console_of m.pass) a.3
 
--- A round holds the byte that its turn gives, where none was held.
+-- If no byte was held, a round holds the byte that its turn gives.
 turned_round : (opening : MachineLists) (old new : Moment) (o : Outcome) (s : Step) (net : Option (Result Outcome LockRefusal)) (put : List ℕ) →
     TurnAndStep opening old o s net new → console_of old.pass ≡ put ++ [] → console_of new.pass ≡ put ++ held_of (byte_of o)
 turned_round opening old new o s net put t e =
     asked opening o t.between new s net t.net_is ∙ turn_given old.pass.row.lent opening old t.between o put t.turn_is e
 
--- After a turn that stops the processor nothing is asked for.
+-- After a turn that stops the processor, nothing is asked for.
 none_asked : (opening : MachineLists) (turn : Outcome) (old new : Moment) (s : Step) (net : Option (Result Outcome LockRefusal)) →
     IsAsked opening turn old s net new → is_stop turn ≡ true → new ≡ old
 none_asked opening turn old new s None a stop = a.1
@@ -225,14 +225,14 @@ stops_round opening old new o s net t stop =
 
 -- ---- the answer to a round
 
--- What was given is sent or held once the answer is applied, where nothing was held before.
+-- If nothing was held before, what was given is sent or held after the answer is applied.
 applied : (opening : MachineLists) (old new : Moment) (answer : Result Round LockRefusal) (s : Step) (end : End) →
     GoesOnWith opening old answer s new → end.held ≡ None → console_of old.pass ≡ sent_by end → console_of new.pass ≡ sent_by (end_after answer end)
 applied opening old new (Ok r) s end on none sent =
     turned_round opening old new r.turn s r.net (put_of end.sender) on (sent ∙ ap (λ held. put_of end.sender ++ held_of held) none)
 applied opening old new (Err refusal) s end on none sent = ap (λ (m : Moment). console_of m.pass) on ∙ sent
 
--- A round that stops the processor.
+-- A round that stops the processor ends its list with the stop.
 applied_stop : (opening : MachineLists) (old new : Moment) (answer : Result Round LockRefusal) (s : Step) →
     GoesOnWith opening old answer s new → stops_of answer ≡ true → EndsWithStop new.pass
 applied_stop opening old new (Ok r) s on stop = stops_round opening old new r.turn s r.net on stop
@@ -270,7 +270,7 @@ waits_given opening old new [] idle w = ap (λ (m : Moment). console_of m.pass) 
 waits_given opening old new (s ∷ steps) idle w =
     waits_given opening w.1 new steps w.2 w.6 ∙ wait_given opening old w.1 w.0 s w.3 w.5
 
--- No more rounds find nothing than there are.
+-- No more rounds are idle than there are.
 at_most_one : (b : Bool) (n : ℕ) → n ≤ 1 → (if b then n else 0) ≤ 1
 at_most_one true n less = less
 at_most_one false n less = omega arith
@@ -302,7 +302,7 @@ end_queues (Ok r) end = refl
 end_queues (Err refusal) end = refl
 
 module _ (opening : MachineLists) (old new : Moment) (steps : List Step) (r : Rounds) (gone : HaveGone opening old steps r new) where
-  -- What was given is sent or held once it is applied, where nothing was held before.
+  -- If nothing was held before, what was given is sent or held after the answer is applied.
   given_all : (end : End) → end.held ≡ None → console_of old.pass ≡ sent_by end → console_of new.pass ≡ sent_by (end_after r.answer end)
   given_all end none sent =
       applied opening gone.between new r.answer gone.last end gone.round none
@@ -314,7 +314,7 @@ module _ (opening : MachineLists) (old new : Moment) (steps : List Step) (r : Ro
       let same = faultless (fault_of_round r.answer) _ done e in
       applied_stop opening gone.between new r.answer gone.last gone.round (sym (ap (λ (d : RoundsDone). d.stopped) same) ∙ stop)
 
-  -- There is one at least, and no more than there are steps.
+  -- At least one round was taken, and no more than there are steps.
   within_all : IfOk (result_of r) (λ done. AreWithin done (length steps))
   within_all =
       let all : length steps ≡ length gone.earlier + length (gone.last ∷ gone.later) = ap length gone.steps_are
@@ -328,7 +328,7 @@ module _ (opening : MachineLists) (old new : Moment) (steps : List Step) (r : Ro
 
 module _ (opening : MachineLists) (old new : Moment) (steps : List Step) (r : Rounds) (gone : HaveGone opening old steps r new) (end : End) (waits : Bool)
     (result : Result RoundsDone RunFault) (end' : End) (waits' : Bool) (is : IsApplied r end waits result end' waits') where
-  -- If no byte was held, and what the pass gave the console was sent, so it is after the answer, sent or held.
+  -- If no byte was held, and what the pass gave the console was sent, it is sent or held after the answer too.
   pub applied_all : end.held ≡ None → console_of old.pass ≡ sent_by end → console_of new.pass ≡ sent_by end'
   applied_all none sent = given_all opening old new steps r gone end none sent ∙ ap sent_by (sym is.end_is)
 
@@ -336,25 +336,25 @@ module _ (opening : MachineLists) (old new : Moment) (steps : List Step) (r : Ro
   pub applied_end : (done : RoundsDone) → result ≡ Ok done → done.stopped ≡ true → EndsWithStop new.pass
   applied_end done e stop = stops_all opening old new steps r gone done (sym is.result_is ∙ e) stop
 
-  -- If the result is no fault, one round at least was done, and no more than there are steps.
+  -- If the result is no fault, at least one round was done, and no more than there are steps.
   pub applied_count : IfOk result (λ done. AreWithin done (length steps))
   applied_count = subst (λ x. IfOk x (λ done. AreWithin done (length steps))) (sym is.result_is) (within_all opening old new steps r gone)
 
--- An end has the same queue after an answer is applied to it.
+-- An end still has the same queue after an answer is applied to it.
 pub applied_queues : (r : Rounds) (end : End) (waits : Bool) (result : Result RoundsDone RunFault) (end' : End) (waits' : Bool) →
     IsApplied r end waits result end' waits' → end_queue end' ≡ end_queue end
 applied_queues r end waits result end' waits' is = ap end_queue is.end_is ∙ end_queues r.answer end
 
 -- ---- a step of the network alone
 
--- What a call with a step of the network ensures of the pass, for its answer or refusal, holds of its result.
+-- What a call with a step of the network ensures of the pass, if answered or refused, holds of its result.
 pub net_answered : (opening : MachineLists) (first : List Step) (old new : Held) (s : Step) (answer : Result Outcome LockRefusal) →
     IfOk answer (λ o. UnderLock first old new (λ from to. HasAnswered opening from s o to)) → OnErr answer (new ≡ old) →
     NetAnswered answer opening first old s new
 net_answered opening first old new s (Ok o) has_answered same = has_answered
 net_answered opening first old new s (Err refusal) has_answered same = same
 
--- It gives the processor nothing.
+-- Such a call gives the console nothing.
 pub net_gives : (opening : MachineLists) (first : List Step) (old new : Held) (s : Step) (answer : Result Outcome LockRefusal) →
     ((answer ≡ Err Unnamed) ↔ (is_net opening.config s ≡ false)) → NetAnswered answer opening first old s new → console_of new ≡ console_of old
 net_gives opening first old new s (Ok o) named has_answered =

@@ -11,7 +11,7 @@ use Rattle.console_monitor.specs.declared.monitor.End.{End}
 use Rattle.ghost_map.specs.atomic_table.Seated.{TableId}
 use Rattle.machine_lock.specs.Passes.{Held}
 
--- what an event gives the console
+-- the byte that an event gives the console, if any
 abbrev pub given_by : Event → List ℕ
 given_by (event.Retired retired) = held_of retired.out
 given_by (event.Stopped cause) = []
@@ -29,7 +29,7 @@ console_of h = console_bytes (map (λ n. n.event) h.row.pass_events)
 abbrev pub end_queue : End → TableId
 end_queue e = sender_queue e.sender
 
--- Each list is a beginning of the one beside it.
+-- Each list is a beginning of the one at the same place.
 abbrev pub AreBeginnings : List (List ℕ) → List (List ℕ) → Type 0
 AreBeginnings [] [] = Unit {0}
 AreBeginnings (xs ∷ xss) (ys ∷ yss) = ((rest : List ℕ) × (xs ++ rest ≡ ys)) × AreBeginnings xss yss

@@ -10,7 +10,7 @@ use Rattle.processor_threads.specs.declared.fault.RunFault.{RunFault}
 use Rattle.processor_threads.specs.declared.fault.RunFault.TheVariants.{Memory, Console}
 use Rattle.processor_threads.specs.Consoles.{console_of, end_queue}
 
--- The last that the pass has stored is the stop of its processor.
+-- The last event that the pass has stored is the stop of its processor.
 pub record EndsWithStop (h : Held) : Type 0 where
   pub before : List PassEvent
   pub place : ℕ
@@ -19,8 +19,8 @@ pub record EndsWithStop (h : Held) : Type 0 where
 
 -- ---- one thread
 
--- What a thread was given comes back: the pass is of the same processor, and the end of the same queue. Where the
--- thread has no fault, its processor has stopped.
+-- What a thread was given comes back: the pass is of the same processor, and the end of the same queue. If the thread
+-- has no fault, its processor has stopped.
 pub record ComesBack (pass : Held) (end : End) (pass' : Held) (end' : End) (fault : Option RunFault) : Type 0 where
   pub processor : pass'.processor ≡ pass.processor
   pub queue : end_queue end' ≡ end_queue end
@@ -31,11 +31,11 @@ pub record ComesBack (pass : Held) (end : End) (pass' : Held) (end' : End) (faul
 abbrev pub processors_of : List Held → List ℕ
 processors_of hs = map (λ h. h.processor) hs
 
--- what stands in the passes was sent
+-- Each end sent the console bytes that its pass stores.
 abbrev pub AreSent : List Held → List End → Type 0
 AreSent passes ends = map console_of passes ≡ map sent_by ends
 
--- There is one fault, or none, for each processor, in their order. A processor whose thread has none has stopped.
+-- Each processor's thread has a fault, or has none and has stopped the processor, in order.
 abbrev pub AreEnded : List (Option RunFault) → List Held → Type 0
 AreEnded [] [] = Unit {0}
 AreEnded (fault ∷ faults) (pass ∷ passes) = (fault ≡ None → EndsWithStop pass) × AreEnded faults passes
@@ -52,10 +52,10 @@ pub record AllComeBack (passes : List Held) (ends : List End) (passes' : List He
 
 -- ---- a run
 
--- Passes were made: there is one processor at least.
+-- Passes were made, at least for one processor.
 abbrev pub WereMade : List Held → Type 0
 WereMade passes = passes ≡ [] → ⊥
 
--- There was no memory to begin.
+-- The run was out of memory before it began.
 abbrev pub IsOfMemory : Option RunFault → Type 0
 IsOfMemory fault = (fault ≡ Some Memory) ⊎ (fault ≡ Some Console)

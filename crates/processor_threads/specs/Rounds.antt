@@ -24,28 +24,28 @@ use Rattle.processor_threads.specs.Consoles.{byte_of, end_queue}
 
 -- ---- the steps that are named ahead
 
--- Where none is left the arbiter names as many as it is asked for, one at least and 512 at most. Else they are as they
--- were.
+-- If no step is left, the arbiter names as many as it is asked for, at least one and at most 512. Else the steps are as
+-- they were.
 abbrev pub IsFilled : (count : ℕ) → (old new : List Step) → Type 0
 IsFilled count [] new = length new ≡ max 1 (min count 512)
 IsFilled count (s ∷ later) new = new ≡ s ∷ later
 
--- This many steps are used; where none was left, more were named before.
+-- This many steps are used. If none was left, more were named first.
 abbrev pub HasUsed : ℕ → (old new : List Step) → Type 0
 HasUsed count [] new = count + length new ≤ 512
 HasUsed count (s ∷ later) new = count + length new ≡ length (s ∷ later)
 
 -- ---- what answers lead to
 
--- The fault with which a thread ends whose turn, or step of the network, was refused so. Where the machine has not
--- what was named, it goes on.
+-- The fault with which a thread ends after a turn, or a step of the network, was refused. If the machine does not have
+-- what was named, the thread goes on.
 abbrev pub fault_of_refusal : LockRefusal → Option RunFault
 fault_of_refusal refused.Memory = Some run_fault.Memory
 fault_of_refusal refused.Full = Some run_fault.Full
 fault_of_refusal refused.Unnamed = None
 fault_of_refusal refused.NotFree = None
 
--- the same of a loan: a full log ends none either, since there may be room for a turn
+-- the same after a loan was refused: a full log does not end the thread either, since there may be room for a turn
 abbrev pub fault_of_no_loan : LockRefusal → Option RunFault
 fault_of_no_loan refused.Memory = Some run_fault.Memory
 fault_of_no_loan refused.Full = None
@@ -61,17 +61,17 @@ abbrev pub fault_of_round : Result Round LockRefusal → Option RunFault
 fault_of_round (Ok round) = fault_of_net round.net
 fault_of_round (Err refusal) = fault_of_refusal refusal
 
--- a round whose turn stops the processor
+-- whether a round's turn stopped the processor
 abbrev pub stops : Result Round LockRefusal → Bool
 stops (Ok round) = is_stop round.turn
 stops (Err refusal) = false
 
--- A thread goes on, unless it has a fault.
+-- what a call returns: the rounds that were done, or the thread's fault
 abbrev pub unless_fault : Option RunFault → RoundsDone → Result RoundsDone RunFault
 unless_fault None done = Ok done
 unless_fault (Some fault) done = Err fault
 
--- one round with no turn, or with a loan that gives a byte
+-- what a call returns after one round without a turn, or with a loan that gives a byte
 abbrev pub one_round : Option RunFault → Result RoundsDone RunFault
 one_round fault = unless_fault fault (record { rounds = 1; idle = 0; stopped = false })
 
@@ -82,7 +82,7 @@ result_of r = unless_fault (fault_of_round r.answer) (record {
   stopped = stops r.answer;
 })
 
--- the end of a console's queue after a round, which holds the byte that the turn gives
+-- the end of a console's queue after a round: it holds the byte that the turn gives
 abbrev pub end_after : Result Round LockRefusal → End → End
 end_after (Ok round) end = record end { held = byte_of round.turn }
 end_after (Err refusal) end = end
@@ -94,7 +94,7 @@ waits_after (Err refusal) waits = waits
 
 -- ---- how rounds are counted
 
--- Rounds were done: one at least, this many at most. Some found nothing.
+-- At least one round was done, and at most this many. Some of them may have been idle.
 pub record AreWithin (done : RoundsDone) (most : ℕ) : Type 0 where
   pub some : 1 ≤ done.rounds
   pub few : done.rounds ≤ most
@@ -103,7 +103,7 @@ pub record AreWithin (done : RoundsDone) (most : ℕ) : Type 0 where
 abbrev pub new_tally : Tally
 new_tally = record { counted = 0; idle = false }
 
--- of the rounds that find nothing the first counts, and no other until the thread lets others run
+-- how many idle rounds count: the first, and no other until the thread lets others run
 abbrev pub idle_counts : (before : Bool) → (idle : ℕ) → ℕ
 idle_counts true idle = 0
 idle_counts false idle = min 1 idle
@@ -119,7 +119,7 @@ tally_after t done lets_run = record {
   idle = is_idle_after lets_run t.idle done.idle;
 }
 
--- A thread lets others run once none of the named steps is left.
+-- whether none of the named steps is left, so that the thread lets others run
 abbrev pub is_used_up : (left : List Step) → Bool
 is_used_up [] = true
 is_used_up (s ∷ later) = false
@@ -135,7 +135,7 @@ pub record Thread : Type 0 where
 abbrev pub thread : Held → End → Bool → Thread
 thread pass end waits = record { pass = pass; end = end; waits = waits }
 
--- how a thread stands between two calls
+-- the state of a thread between two calls
 pub record ThreadState : Type 0 where
   pub holds : Thread
   pub left : List Step
@@ -144,7 +144,7 @@ pub record ThreadState : Type 0 where
 abbrev pub begin : Thread → ThreadState
 begin holds = record { holds = holds; left = []; tally = new_tally }
 
--- The answer to rounds is applied to what the thread holds beside the pass.
+-- The answer to rounds is applied to what the thread holds besides the pass.
 pub record IsApplied (r : Rounds) (end : End) (waits : Bool) (result : Result RoundsDone RunFault) (new_end : End)
     (now_waits : Bool) : Type 0 where
   pub end_is : new_end ≡ end_after r.answer end
@@ -165,25 +165,25 @@ pub record AsksNet (opening : MachineLists) (first : List Step) (old : Held) (s 
   pub has_answered : NetAnswered answer opening first old s new
   pub fault_is : fault ≡ fault_of_net (Some answer)
 
--- A byte that was held is put into the queue, or stays held, which it does only once there may be no place.
+-- A held byte is put into the queue, or stays held, which it does only if the queue can be full.
 abbrev pub IsTried : (byte : ℕ) → (old new : End) → Type 0
 IsTried byte old new = (end_queue new ≡ end_queue old)
     × (((new.held ≡ None) × (put_of new.sender ≡ put_of old.sender ++ byte ∷ []))
     ⊎ ((new.held ≡ Some byte) × ComesBack (put_of old.sender) (put_of new.sender)))
 
 module _ (opening : MachineLists) (first : List Step) where
-  -- Rounds are gone through with the first of these steps, one for each.
+  -- Rounds are taken with the first of these steps, one for each.
   pub record TakesTurns (old : Thread) (steps : List Step) (result : Result RoundsDone RunFault)
       (new : Thread) : Type 0 where
     pub rounds : Rounds
     pub gone : UnderLock first old.pass new.pass (λ from to. HaveGone opening from steps rounds to)
     pub applied : IsApplied rounds old.end old.waits result new.end new.waits
 
-  -- A loan is handed back: the thread ends.
+  -- A loan is handed back, and the thread ends.
   abbrev pub IsHandedBack : Thread → Result RoundsDone RunFault → Thread → Type 0
   IsHandedBack old result new = (result ≡ Err run_fault.Loan) × (new ≡ old)
 
-  -- A loan ends that has given the console a byte: it is held, and the step of the network is asked for.
+  -- A loan that gave the console a byte ends: the byte is held, and the first step of the network is asked for.
   pub record HoldsByte (byte : ℕ) (retired : List Retired) (old : Thread) (steps : List Step)
       (result : Result RoundsDone RunFault) (new : Thread) :
       Type 0 where
@@ -197,7 +197,7 @@ module _ (opening : MachineLists) (first : List Step) where
     pub waits : new.waits ≡ old.waits
     pub result_is : result ≡ one_round fault
 
-  -- Another goes on with rounds.
+  -- A loan that gave no byte ends, and rounds follow.
   pub record GoesOnAlone (retired : List Retired) (old : Thread) (steps : List Step)
       (result : Result RoundsDone RunFault) (new : Thread) : Type 0 where
     pub rounds : Rounds
@@ -218,13 +218,13 @@ module _ (opening : MachineLists) (first : List Step) where
     pub runs : HasGoneOn opening.code loan run ended
     pub ends : IsHandedBack old result new ⊎ EndsLoan ended run.retired old steps result new
 
-  -- No loan: the thread ends with a fault, or takes turns.
+  -- Without a loan, the thread ends with a fault, or takes turns.
   abbrev pub HasNoLoan : Option RunFault → (old : Thread) → (steps : List Step) → Result RoundsDone RunFault →
       (new : Thread) → Type 0
   HasNoLoan (Some fault) old steps result new = (result ≡ Err fault) × (new ≡ old)
   HasNoLoan None old steps result new = TakesTurns old steps result new
 
-  -- The core was asked for, for 64 instructions, and this was answered.
+  -- The thread asked for a loan of the core for 64 instructions, and got this answer.
   abbrev pub IsLent : Result LoanState LockRefusal → (old : Thread) → (steps : List Step) →
       Result RoundsDone RunFault → (new : Thread) → Type 0
   IsLent (Ok loan) old steps result new = (lent : Held) × IsLentOn old.pass 64 loan lent
@@ -237,7 +237,7 @@ module _ (opening : MachineLists) (first : List Step) where
   GoesThrough true old steps result new = TakesTurns old steps result new
   GoesThrough false old steps result new = (answer : Result LoanState LockRefusal) × IsLent answer old steps result new
 
-  -- A round in which a held byte is tried, and the next step of the network is asked for: no turn is taken.
+  -- In a round, a held byte is tried, and the next step of the network is asked for. No turn is taken.
   pub record TriesByte (byte : ℕ) (old : Thread) (steps : List Step) (result : Result RoundsDone RunFault)
       (new : Thread) : Type 0 where
     pub s : Step
@@ -253,8 +253,8 @@ module _ (opening : MachineLists) (first : List Step) where
   GoesWith (Some byte) old steps most result new = TriesByte byte old steps result new
   GoesWith None old steps most result new = GoesThrough old.waits old (take most steps) result new
 
-  -- Rounds, this many at most, each with the next of the steps that are named. Those are filled up before, and these
-  -- are left.
+  -- At most this many rounds are taken, each with the next of the named steps. More steps are named first if none is
+  -- left, and these are left after.
   pub record GoesOn (old : Thread) (left : List Step) (most : ℕ) (result : Result RoundsDone RunFault) (new : Thread)
       (left' : List Step) : Type 0 where
     pub count : ℕ
@@ -265,8 +265,8 @@ module _ (opening : MachineLists) (first : List Step) where
 
   -- ---- the rounds of a thread
 
-  -- Calls went on, one after another, none of which stopped the processor, as long as the rounds that count were below
-  -- the budget.
+  -- Calls were made, one after another. None of them stopped the processor, and before each, the rounds that count were
+  -- below the budget.
   abbrev pub HaveGoneOn : (budget : ℕ) → (old : ThreadState) → List RoundsDone → (new : ThreadState) → Type 0
   HaveGoneOn budget old [] new = new ≡ old
   HaveGoneOn budget old (done ∷ more) new = (between : ThreadState) × (old.tally.counted < budget)
@@ -274,7 +274,7 @@ module _ (opening : MachineLists) (first : List Step) where
       × GoesOn old.holds old.left (budget - old.tally.counted) (Ok done) between.holds between.left
       × (between.tally ≡ tally_after old.tally done (is_used_up between.left)) × HaveGoneOn budget between more new
 
-  -- After such calls one stops the processor.
+  -- After such calls, one stops the processor.
   pub record HasStopped (budget : ℕ) (old : ThreadState) (new : Thread) : Type 0 where
     pub calls : List RoundsDone
     pub between : ThreadState
@@ -285,8 +285,8 @@ module _ (opening : MachineLists) (first : List Step) where
     pub stops : last.stopped ≡ true
     pub goes : GoesOn between.holds between.left (budget - between.tally.counted) (Ok last) new left
 
-  -- Or one has this fault; the budget is the fault where the rounds that count have come to it. Or the thread is
-  -- cancelled between two.
+  -- The rounds that count have reached the budget, or the thread is cancelled between two calls, or a call has this
+  -- fault.
   abbrev pub HasFault : (budget : ℕ) → (fault : RunFault) → (old : ThreadState) → (new : Thread) → Type 0
   HasFault budget fault old new =
       ((fault ≡ run_fault.Budget) × (old.tally.counted ≡ budget) × (new ≡ old.holds))

@@ -1,4 +1,4 @@
-//! What holds for all threads of a run.
+//! What all threads of a run share.
 
 ghost use Rattle.std.specs.Prelude.{◌≡◌, ◌≤◌};
 
@@ -13,23 +13,23 @@ use std::thread::Parker;
 pub(crate) struct RunContext {
     /// The stages of the machine's network.
     pub(crate) stages: u8,
-    /// How many rounds a thread has.
+    /// How many rounds a thread may take.
     pub(crate) budget: u32,
-    /// Where loans have their memory.
+    /// Where loans get their memory.
     pub(crate) alloc: Global,
-    /// The thread that could not be started, of several the last. What it was to do is called all the same, to give
-    /// back what it was given.
+    /// The thread that could not be started; of several, the last. Its function is called all the same, to give back
+    /// what it was given.
     unstarted: AtomicU64,
     /// Whether a fault has decided how the run ends.
     cancelled: AtomicBool,
     /// Whether the threads of all processors have ended.
     ended: AtomicBool,
-    /// Where the thread that listens sleeps, until there is something to listen to.
+    /// Where the listener's thread sleeps until there is something to listen to.
     bell: Parker,
     ghost few: { stages ≤ 6 },
 }
 
-/// The number of the thread that listens, which is no processor's.
+/// The number of the listener's thread, which is no processor's.
 pub(crate) const LISTENER: u8 = 254;
 
 /// The number of no thread.
@@ -51,7 +51,7 @@ impl RunContext {
         }
     }
 
-    /// The thread of this number could not be started.
+    /// Reports that the thread of this number could not be started.
     pub(crate) fn report_unstarted(&self, thread: u8) {
         self.unstarted.store(u64::from(thread), Ordering::SeqCst);
     }
@@ -61,7 +61,8 @@ impl RunContext {
         self.unstarted.load(Ordering::SeqCst) == u64::from(thread)
     }
 
-    /// A thread ends with this fault. If it decides how the run ends, the other threads stop before their next round.
+    /// Reports that a thread ends with this fault. If the fault decides how the run ends, the other threads stop before
+    /// their next round.
     pub(crate) fn report(&self, fault: RunFault) {
         if fault.ends_the_run() {
             self.cancelled.store(true, Ordering::SeqCst);
@@ -73,23 +74,23 @@ impl RunContext {
         self.cancelled.load(Ordering::SeqCst)
     }
 
-    /// The threads of all processors have ended.
+    /// Reports that the threads of all processors have ended.
     pub(crate) fn report_end(&self) {
         self.ended.store(true, Ordering::SeqCst);
         self.call_listener();
     }
 
-    /// Whether they have.
+    /// Whether the threads of all processors have ended.
     pub(crate) fn have_ended(&self) -> bool {
         self.ended.load(Ordering::SeqCst)
     }
 
-    /// Wakes the thread that listens. Where it does not sleep, it will not the next time.
+    /// Wakes the listener's thread. If it does not sleep, it will not sleep the next time either.
     pub(crate) fn call_listener(&self) {
         self.bell.unpark();
     }
 
-    /// Sleeps until who listens is called, or has been since it slept last.
+    /// Sleeps until the listener is called. Returns at once if it was called since it last slept.
     pub(crate) fn wait_for_call<R: Wait>(&self, rt: &R) {
         self.bell.park(rt);
     }

@@ -5,22 +5,22 @@ ghost use Rattle.processor_threads.specs.Faults.{fault_of, is_of_host, is_own};
 
 use thiserror::Error;
 
-/// Why a thread ended before its processor had stopped, and so a run: or what it wanted.
+/// Why a thread ended before its processor had stopped, and so why a run did.
 #[derive(Clone, Copy, Debug, PartialEq, Eq, Drop, Error)]
 pub enum RunFault {
-    /// There was no memory for a step in the log, for what a pass stores, or for a loan.
+    /// Out of memory for a step in the log, for what a pass stores, or for a loan.
     #[error("memory")]
     Memory,
     /// The log has [`steps::MAX_STEPS`] steps.
     #[error("L2")]
     Full,
-    /// A core was not taken back that a thread had on loan.
+    /// A core that a thread had on loan was not taken back.
     #[error("L4")]
     Loan,
-    /// There was no memory for the bytes of a console.
+    /// Out of memory for the bytes of a console.
     #[error("memory")]
     Console,
-    /// A thread has gone through all rounds of the budget.
+    /// A thread has used up all rounds of the budget.
     #[error("budget")]
     Budget,
     /// A thread could not be started.
@@ -32,7 +32,7 @@ pub enum RunFault {
 }
 
 impl RunFault {
-    /// Whether the machine that runs the threads is at fault, and not the run.
+    /// Whether the host, which runs the threads, is at fault, and not the run.
     fn is_of_host(self) -> bool
         ensures { result ≡ is_of_host self }
     {
@@ -46,14 +46,14 @@ impl RunFault {
         !matches!(self, RunFault::Cancelled)
     }
 
-    /// Whether it decides how the run ends, so that the other threads need not go on. Each thread has a budget of its
-    /// own, so one that has used it up stops no other.
+    /// Whether the fault decides how the run ends, so that the other threads need not go on. Each thread has its own
+    /// budget, so one that has used it up stops no other.
     pub(crate) fn ends_the_run(self) -> bool {
         !matches!(self, RunFault::Budget | RunFault::Cancelled)
     }
 }
 
-/// The fault that is reported of two, the second of which is of a later thread.
+/// The fault that is reported of two. The second is of a later thread.
 pub(crate) fn graver_of(first: Option<RunFault>, second: Option<RunFault>) -> Option<RunFault>
     ensures { result ≡ fault_of (first ∷ second ∷ []) }
 {
@@ -69,7 +69,7 @@ pub(crate) fn graver_of(first: Option<RunFault>, second: Option<RunFault>) -> Op
     }
 }
 
-/// The fault that is reported of threads that ended so, in their order.
+/// The fault that is reported after threads ended in these ways, in order.
 pub(crate) fn fault_of(ends: &[Option<RunFault>]) -> Option<RunFault>
     ensures { result ≡ fault_of ends.now }
 {

@@ -21,34 +21,34 @@ use std::alloc::Global;
 use std::sync::Wait;
 use steps::{Outcome, Step};
 
-/// How many instructions a core is lent for at most.
+/// The most instructions for which a core is lent.
 const MOST: u32 = 64;
 
-/// Rounds that a thread has gone through.
+/// Rounds that a thread has taken.
 #[derive(Clone, Copy, Debug, PartialEq, Eq, Drop)]
 pub(crate) struct RoundsDone {
     /// How many.
     pub(crate) rounds: usize,
-    /// How many of them found nothing: their turn stalled, and so did their step of the network.
+    /// How many of them were idle: their turn stalled, and so did their step of the network.
     pub(crate) idle: usize,
-    /// Whether the last of them has stopped the processor.
+    /// Whether the last of them stopped the processor.
     pub(crate) stopped: bool,
 }
 
-/// The pass of a processor, and the end of its console's queue. All that the pass has stored is sent: it was put into
-/// the queue, but for one byte that is held at most.
+/// The pass of a processor, and the end of its console's queue. All console bytes that the pass stores were put into
+/// the queue, except at most one, which is held.
 #[derive(Drop)]
 pub(crate) struct ProcessorHandle<N: Run> {
     pub(crate) pass: Pass<N>,
     pub(crate) end: End,
-    /// Whether the last turn has begun a reference, or has stalled: then the processor has no local instruction to
+    /// Whether the last turn has begun a reference, or has stalled. Then the processor has no local instruction to
     /// take.
     pub(crate) waits: bool,
     ghost sent: { console_of pass ≡ sent_by end },
 }
 
 impl<N: Run> ProcessorHandle<N> {
-    /// Tries to put the byte that is held into the queue, and calls who listens. It stays held where the queue is full.
+    /// Tries to put the held byte into the queue, and calls the listener. The byte stays held if the queue is full.
     pub(crate) fn put<R: Wait>(&mut self, rt: &R, context: &RunContext)
         ensures pass { self.new.pass ≡ self.old.pass }
         ensures waits { self.new.waits ≡ self.old.waits }
@@ -61,15 +61,15 @@ impl<N: Run> ProcessorHandle<N> {
         }
     }
 
-    /// Takes local instructions with the core on loan, where there may be some, and then, unless one has given the
-    /// console a byte, a turn of the processor. Unless that has stopped it, it asks for the first of these steps of
-    /// the network too. As long as the processor waits, it goes on with rounds that take a turn and ask for the next
-    /// of these steps. A byte for the console is held then.
+    /// Takes local instructions with the core on loan, if there may be some, and then, unless one gave the console a
+    /// byte, a turn of the processor. Unless that stopped the processor, asks for the first of these steps of the
+    /// network too. As long as the processor waits, goes on with rounds that take a turn and ask for the next of these
+    /// steps. A byte for the console is held.
     ///
     /// # Errors
     ///
-    /// [`RunFault::Full`] where the log is full, [`RunFault::Memory`], and [`RunFault::Loan`] where a loan is handed
-    /// back.
+    /// [`RunFault::Full`] if the log is full, [`RunFault::Memory`] if out of memory, and [`RunFault::Loan`] if a loan
+    /// is handed back.
     pub(crate) fn rounds<R: Wait>(
         &mut self,
         rt: &R,
@@ -99,8 +99,8 @@ impl<N: Run> ProcessorHandle<N> {
         }
     }
 
-    /// Takes local instructions with a core that was lent on the pass, and gives it back. Unless the last of them has
-    /// given the console a byte, which is held then, turns follow, as [`ProcessorHandle::turns`] takes them.
+    /// Takes local instructions with a core that was lent on the pass, and gives it back. If the last of them gave the
+    /// console a byte, that is held; else turns follow, as [`ProcessorHandle::turns`] takes them.
     ///
     /// # Errors
     ///
@@ -142,12 +142,13 @@ impl<N: Run> ProcessorHandle<N> {
         }
     }
 
-    /// Takes a turn of the processor. A byte for the console is held then. Unless it has stopped, it asks for the
-    /// first of these steps of the network too, and as long as the processor waits, it goes on so with the next.
+    /// Takes a turn of the processor, and holds a byte that it gives the console. Unless the processor has stopped,
+    /// asks for the first of these steps of the network too, and as long as the processor waits, does the same with the
+    /// next.
     ///
     /// # Errors
     ///
-    /// [`RunFault::Full`] where the log is full, and [`RunFault::Memory`].
+    /// [`RunFault::Full`] if the log is full, and [`RunFault::Memory`] if out of memory.
     #[inline(always)]
     fn turns<R: Wait>(
         &mut self,
@@ -168,8 +169,8 @@ impl<N: Run> ProcessorHandle<N> {
         apply_answer(&mut self.end, &mut self.waits, rounds)
     }
 
-    /// Asks for a step of the network, and answers the fault with which the thread ends, if any. A step that names a
-    /// place which the machine has not is no fault.
+    /// Asks for a step of the network, and returns the fault with which the thread ends, if any. A step that names a
+    /// place that the machine does not have is no fault.
     pub(crate) fn net<R: Wait>(
         &mut self,
         rt: &R,
@@ -185,8 +186,7 @@ impl<N: Run> ProcessorHandle<N> {
     }
 }
 
-/// Applies the answer to rounds: holds the byte that the last round's turn has given, and notes whether its processor
-/// waits.
+/// Applies the answer to rounds: holds the byte that the last round's turn gave, and notes whether its processor waits.
 ///
 /// # Errors
 ///
@@ -218,7 +218,7 @@ fn apply_answer(end: &mut End, waits: &mut bool, rounds: Rounds) -> Result<Round
     }
 }
 
-/// A thread goes on that has no fault.
+/// The rounds that were done, unless the thread has a fault.
 ///
 /// # Errors
 ///
@@ -233,7 +233,7 @@ fn unless_fault(fault: Option<RunFault>, done: RoundsDone) -> Result<RoundsDone,
     }
 }
 
-/// One round of a thread, with no turn, or with a loan that has given a byte.
+/// One round of a thread, without a turn, or with a loan that gave a byte.
 ///
 /// # Errors
 ///
@@ -249,8 +249,8 @@ pub(crate) fn one_round(fault: Option<RunFault>) -> Result<RoundsDone, RunFault>
     unless_fault(fault, done)
 }
 
-/// The fault of a thread whose turn or step of the network was refused: none where it named a place that the machine
-/// has not.
+/// The fault of a thread whose turn or step of the network was refused: none if it named a place that the machine does
+/// not have.
 fn fault_of_refusal(refusal: LockRefusal) -> Option<RunFault>
     ensures { result ≡ fault_of_refusal refusal }
 {
@@ -261,7 +261,7 @@ fn fault_of_refusal(refusal: LockRefusal) -> Option<RunFault>
     }
 }
 
-/// The fault of a thread that is lent no core: none where a turn may be taken all the same.
+/// The fault of a thread that is lent no core: none if it may take a turn all the same.
 fn fault_of_no_loan(refusal: LockRefusal) -> Option<RunFault>
     ensures { result ≡ fault_of_no_loan refusal }
 {
@@ -271,7 +271,7 @@ fn fault_of_no_loan(refusal: LockRefusal) -> Option<RunFault>
     }
 }
 
-/// The fault of a thread whose step of the network was answered so, if one was asked for.
+/// The fault of a thread whose step of the network had this answer, if it asked for one.
 fn fault_of_net(net: Option<Result<Outcome, LockRefusal>>) -> Option<RunFault>
     ensures { result ≡ fault_of_net net }
 {

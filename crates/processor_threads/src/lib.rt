@@ -2,7 +2,7 @@
 //!
 //! [`run_threads`] takes a logged machine, puts it under the lock (`machine_lock`), and runs a thread for each
 //! processor, which takes its turns and asks for steps of the network, and one that listens to what they send to the
-//! console (`console_monitor`). Once all threads have ended, the log, what the passes store and the consoles agree,
+//! console (`console_monitor`). After all threads have ended, the log, what the passes store and the consoles agree,
 //! however the threads ran side by side.
 #![tactic(auto)]
 

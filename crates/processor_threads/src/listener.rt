@@ -11,7 +11,7 @@ use console_monitor::{ConsoleRefusal, End, Monitor, Sender, console};
 use std::alloc::{AllocError, Global};
 use std::sync::Wait;
 
-/// What takes the bytes of all consoles, with what it has taken.
+/// Takes the bytes of all consoles, and keeps what it has taken.
 #[derive(Drop)]
 pub(crate) struct Listener {
     pub(crate) monitor: Monitor,
@@ -23,7 +23,7 @@ pub(crate) struct Listener {
     ghost own: { is_of_listener fault ≡ true },
 }
 
-/// The consoles of this many processors: an end for each, and what listens to them.
+/// The consoles of this many processors: an end for each, and their listener.
 pub(crate) fn consoles(
     alloc: Global,
     processors: u8,
@@ -68,8 +68,8 @@ fn empty_lists(alloc: Global, count: u8) -> Result<Vec<Vec<u8>>, AllocError>
 }
 
 impl Listener {
-    /// Takes bytes until the threads of all processors have ended, or there is no memory for a byte; none where the
-    /// thread could not be started. A fault ends the run: a processor whose queue is full would wait for ever.
+    /// Takes bytes until the threads of all processors have ended, or there is no memory for a byte. Takes none if its
+    /// own thread could not be started. A fault ends the run: a processor whose queue is full would wait for ever.
     pub(crate) fn listen<R: Wait>(mut self, rt: &R, context: &RunContext) -> Self
         ensures { queues_of result.monitor ≡ queues_of self.monitor }
     {
@@ -100,7 +100,7 @@ impl Listener {
         Ok(())
     }
 
-    /// Takes a byte of each processor that has sent one, and answers whether any has.
+    /// Takes a byte from each processor that has sent one, and returns whether any has.
     fn take_of_each(&mut self) -> Result<bool, AllocError>
         ensures { queues_of self.new.monitor ≡ queues_of self.old.monitor }
     {
@@ -111,7 +111,7 @@ impl Listener {
         Ok(any)
     }
 
-    /// Takes a byte of a processor, if it has sent one. There is room for it before it is taken, so none is lost.
+    /// Takes a byte from a processor, if it has sent one. Makes room before it takes the byte, so none is lost.
     fn take(&mut self, p: u8) -> Result<bool, AllocError>
         requires there { p < self.old.processors }
         ensures queues { queues_of self.new.monitor ≡ queues_of self.old.monitor }
@@ -128,9 +128,9 @@ impl Listener {
         }
     }
 
-    /// The consoles of all processors, once their threads have ended: what was taken of each, then what still stands
-    /// in its queue, and the byte that it still held. Where there is no memory for these, the fault says so, and the
-    /// lists are beginnings.
+    /// The consoles of all processors after their threads have ended: what was taken from each, then what is still in
+    /// its queue, and the byte that it still held. If there is no memory for these, the fault says so, and the lists
+    /// are beginnings.
     pub(crate) fn finish<R: Wait>(
         self,
         rt: &R,
@@ -161,7 +161,7 @@ impl Listener {
     }
 }
 
-/// Appends its rest to each list. Where there is no memory for one, it and those after it stay as they are.
+/// Appends its rest to each list. If there is no memory for one, that list and those after it stay as they are.
 fn append_each(lists: &mut Vec<Vec<u8>>, rests: &[Vec<u8>]) -> Result<(), AllocError>
     requires { vec_len lists.old ≡ length rests.now }
     ensures whole { OnOk result (map bytes_of lists.new.items

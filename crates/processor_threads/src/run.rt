@@ -30,27 +30,27 @@ use std::thread::Threads;
 pub struct Ended<N: Run> {
     /// The logged machine.
     pub logged: Logged,
-    /// The passes of all processors, in order; none where there was no memory to begin.
+    /// The passes of all processors, in order; none if there was no memory to begin.
     pub passes: Vec<Pass<N>>,
     /// The bytes that each processor sent to the console.
     pub consoles: Vec<Vec<u8>>,
-    /// The fault of each processor's thread, in order. A thread that has none has stopped its processor.
+    /// The fault of each processor's thread, in order. A thread that has none stopped its processor.
     pub faults: Vec<Option<RunFault>>,
-    /// That of the thread that listens to the consoles: [`RunFault::Console`] or [`RunFault::Start`].
+    /// The fault of the thread that listens to the consoles: [`RunFault::Console`] or [`RunFault::Start`].
     pub listener: Option<RunFault>,
     /// The fault of the run: of the faults above, the listener's last, the first that is of the host, which is out of
     /// memory or could not start a thread; if there is none, the first of all. That a thread was cancelled is reported
-    /// only where there is no other fault.
+    /// only if there is no other fault.
     pub fault: Option<RunFault>,
 }
 
 /// Runs a logged machine on threads: one for each processor, with an arbiter of its own, and one that listens to the
-/// consoles. A thread goes through at most as many rounds as the budget allows. In a round it tries to send the byte
-/// that it holds for the console, if any, else it calls the gate, takes up to 64 local instructions with the
-/// processor's core on loan, where there may be some, and then, unless it holds a byte now, a turn; then it asks its
+/// consoles. A thread takes at most as many rounds as the budget allows. In a round it tries to send the byte that it
+/// holds for the console, if any. If it holds none, it calls the gate, takes up to 64 local instructions with the
+/// processor's core on loan, if there may be some, and then, unless it now holds a byte, a turn. Then it asks its
 /// arbiter for a step of the network, and asks the machine to take it.
 ///
-/// A thread ends where its processor stops, or with a fault. Any fault but that of a budget ends the run: each other
+/// A thread ends when its processor stops, or with a fault. Any fault except that of a budget ends the run: each other
 /// thread that has not stopped its processor by then stops before its next round ([`RunFault::Cancelled`]).
 pub fn run_threads<
     N: Run + Send + Sync,
@@ -119,7 +119,7 @@ fn size(logged: &Logged) -> Config
     logged.machine().config()
 }
 
-/// A run that was not begun.
+/// A run that did not begin.
 fn refused<N: Run>(alloc: Global, logged: Logged, fault: RunFault) -> Ended<N>
     ensures logged { result.logged ≡ logged }
     ensures passes { result.passes.items ≡ [] }
@@ -138,7 +138,7 @@ fn refused<N: Run>(alloc: Global, logged: Logged, fault: RunFault) -> Ended<N>
     }
 }
 
-/// A run for which all is made that it begins with.
+/// Runs threads after all that they begin with was made.
 fn run_made<
     N: Run + Send + Sync,
     A: Arbiter + Send + Drop,

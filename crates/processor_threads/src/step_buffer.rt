@@ -7,7 +7,7 @@ use schedules::Arbiter;
 use std::marker::Model;
 use steps::Step;
 
-/// How many steps an arbiter is asked for at once, at most.
+/// The most steps for which an arbiter is asked at once.
 pub(crate) const MOST: usize = 512;
 
 /// Steps that an arbiter has named, and that its thread has not asked for yet. Contracts see them as a list, in order.
@@ -32,7 +32,7 @@ impl Model for StepBuffer {
 }
 
 impl StepBuffer {
-    /// None yet.
+    /// No steps yet.
     pub(crate) fn new() -> Self
         ensures { result ≡ [] }
     {
@@ -43,7 +43,7 @@ impl StepBuffer {
         }
     }
 
-    /// Asks the arbiter for this many steps where none is left: for one at least, and for [`MOST`] at most.
+    /// If no step is left, asks the arbiter for this many: for at least one, and for at most [`MOST`].
     pub(crate) fn fill<A: Arbiter>(&mut self, arbiter: &mut A, stages: u8, count: usize)
         requires { stages ≤ 6 }
         ensures { IsFilled count self.old self.new }
@@ -68,7 +68,7 @@ impl StepBuffer {
         self.used = 0;
     }
 
-    /// The first of those that are left, this many at most.
+    /// The first of the steps that are left, at most this many.
     pub(crate) fn steps(&self, most: usize) -> &[Step]
         ensures { result.now ≡ take most self.now }
     {
@@ -80,14 +80,14 @@ impl StepBuffer {
         &self.steps[self.used..end]
     }
 
-    /// Whether none is left.
+    /// Whether no step is left.
     pub(crate) fn is_empty(&self) -> bool
         ensures { (result ≡ true) ↔ (self.now ≡ []) }
     {
         self.used == self.named
     }
 
-    /// The thread has asked for this many of them.
+    /// Removes the first of the steps that are left, this many, after the thread has asked for them.
     pub(crate) fn advance(&mut self, count: usize)
         requires { count ≤ length self.old }
         ensures { self.new ≡ drop count self.old }
@@ -96,7 +96,7 @@ impl StepBuffer {
     }
 }
 
-/// How many steps are asked for where this many are wanted.
+/// How many steps are asked for if this many are wanted.
 fn clamp(count: usize) -> usize
     ensures { result ≡ max 1 (min count 512) }
 {

@@ -5,16 +5,16 @@ ghost use Rattle.processor_threads.specs.Rounds.{new_tally, tally_after};
 
 use crate::handle::RoundsDone;
 
-/// How many rounds count. Of those that find nothing the first counts, and no other until the thread lets others run.
+/// How many rounds count. Of idle ones the first counts, and no other until the thread lets others run.
 #[derive(Drop)]
 pub(crate) struct Tally {
     pub(crate) counted: u32,
-    /// Whether one that found nothing has counted since the thread let others run.
+    /// Whether an idle round has counted since the thread last let others run.
     pub(crate) idle: bool,
 }
 
 impl Tally {
-    /// None yet.
+    /// No rounds yet.
     pub(crate) fn new() -> Self
         ensures { result ≡ new_tally }
     {

@@ -18,13 +18,13 @@ use schedules::Arbiter;
 use std::sync::Wait;
 use std::thread::yield_now;
 
-/// How many rounds a thread goes through, at least, between two reports of how far it is.
+/// The fewest rounds that a thread takes between two reports of its progress.
 const ROUNDS_REPORTED: u64 = 1024;
 
-/// How far a thread is.
+/// How far a thread has got.
 #[derive(Clone, Copy, Debug, PartialEq, Eq, Drop)]
 struct Progress {
-    /// The rounds that it has gone through, whether they count against its budget or not.
+    /// The rounds that it has taken, whether they count against its budget or not.
     rounds: u64,
     /// The instructions that its processor has retired.
     retired: u64,
@@ -47,10 +47,9 @@ pub(crate) struct Back<N: Run> {
 }
 
 impl<N: Run, A: Arbiter + Drop> Worker<N, A> {
-    /// Goes through rounds until the processor stops, a call is refused, the budget is used up, or the fault of
-    /// another thread has decided how the run ends; through none where the thread could not be started. The steps that
-    /// the arbiter names lie on the thread's own stack: who starts the threads does so by a recursion, and moves each
-    /// worker more than once.
+    /// Takes rounds until the processor stops, a call is refused, the budget is used up, or the fault of another thread
+    /// has decided how the run ends. Takes none if the thread could not be started. The steps that the arbiter names
+    /// are on the thread's own stack: threads are started by a recursion, which moves each worker more than once.
     pub(crate) fn run<G: Gate, R: Wait>(
         mut self,
         rt: &R,
@@ -76,15 +75,15 @@ impl<N: Run, A: Arbiter + Drop> Worker<N, A> {
         }
     }
 
-    /// Goes through rounds, until the processor stops. Each time that all steps are asked for which the arbiter has
-    /// named, it lets other threads run: where the host has fewer processors than there are threads, or has other
-    /// work, a processor that waits for another one would use up its budget while that one's thread does not run. For
-    /// the same reason rounds that find nothing count once for each time that it lets others run.
+    /// Takes rounds until the processor stops. Each time that all steps that the arbiter has named are used up, lets
+    /// other threads run: if the host has fewer processors than there are threads, or has other work, a processor that
+    /// waits for another one would use up its budget while that one's thread does not run. For the same reason, idle
+    /// rounds count once for each time that the thread lets others run.
     ///
     /// # Errors
     ///
-    /// Those of [`ProcessorHandle::rounds`], [`RunFault::Budget`] where the rounds that count have come to the budget,
-    /// and [`RunFault::Cancelled`] where the fault of another thread has decided how the run ends.
+    /// Those of [`ProcessorHandle::rounds`], [`RunFault::Budget`] if the rounds that count have reached the budget, and
+    /// [`RunFault::Cancelled`] if the fault of another thread has decided how the run ends.
     fn rounds<G: Gate, R: Wait>(
         &mut self,
         rt: &R,
@@ -134,7 +133,7 @@ impl<N: Run, A: Arbiter + Drop> Worker<N, A> {
         Err(RunFault::Budget)
     }
 
-    /// Reports, once enough rounds are gone since it did last. Answers what is reported then.
+    /// Reports, if enough rounds were taken since the last report. Returns the progress that is reported by now.
     fn report_if_due<G: Gate>(&self, gone: u64, reported: Progress, gate: &G) -> Progress
         requires { reported.rounds ≤ gone }
         ensures { result.rounds ≤ gone }
@@ -145,8 +144,8 @@ impl<N: Run, A: Arbiter + Drop> Worker<N, A> {
         self.report(gone, reported, gate)
     }
 
-    /// Reports to the gate the rounds that are gone, and the instructions that were retired in them, but for those
-    /// that were reported before. Answers how far the thread is now.
+    /// Reports to the gate the rounds that were taken, and the instructions that were retired in them, except those
+    /// that were reported before. Returns how far the thread has got.
     fn report<G: Gate>(&self, gone: u64, reported: Progress, gate: &G) -> Progress
         ensures { result.rounds ≡ gone }
     {
@@ -167,11 +166,11 @@ impl<N: Run, A: Arbiter + Drop> Worker<N, A> {
         }
     }
 
-    /// Goes through rounds, at least one and at most this many. In a round, where a byte is held, it tries to put it,
-    /// else it passes the gate and takes local instructions and a turn; then it asks for the step of the network that
-    /// its arbiter names, unless the processor has stopped. The arbiter, which does not see what a turn answers, is
-    /// asked before, so that the turn and the step are taken with one lock; and so are those of the next rounds while
-    /// the processor waits, as many as the gate lets pass at once.
+    /// Takes rounds, at least one and at most this many. In a round, if a byte is held, the thread tries to put it; if
+    /// none is, it passes the gate and takes local instructions and a turn. Then it asks for the step of the network
+    /// that its arbiter names, unless the processor has stopped. The arbiter does not see what a turn answers, so it is
+    /// asked first, and the turn and the step are taken under one lock. So are those of the next rounds while the
+    /// processor waits, as many as the gate lets pass at once.
     ///
     /// # Errors
     ///

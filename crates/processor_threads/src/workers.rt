@@ -1,4 +1,4 @@
-//! A thread for each processor, and the one that listens to their consoles.
+//! A thread for each processor, and one that listens to their consoles.
 
 ghost use Rattle.std.specs.Prelude.{◌≡◌, ◌+◌, ◌≤◌, ◌<◌, [], ◌∷◌, ◌++◌, IfErr, IfOk, IfSome, IfNone, vec_capacity};
 ghost use Rattle.std.specs.Prelude.{vec_len, map};
@@ -19,8 +19,8 @@ use std::sync::Wait;
 use std::thread;
 use std::thread::{Promise, PromisedHandle, Threads};
 
-/// What the threads of processors begin with, and what is left of them: for each its pass, the end of its console's
-/// queue and its arbiter, and once it has ended its fault, in order.
+/// What the threads of processors begin with, and what is left of them. For each, in order: its pass, the end of its
+/// console's queue and its arbiter, and after it has ended, its fault.
 #[derive(Drop)]
 pub(crate) struct Workers<N: Run, A: Drop> {
     pub(crate) passes: Vec<Pass<N>>,
@@ -29,7 +29,7 @@ pub(crate) struct Workers<N: Run, A: Drop> {
     pub(crate) faults: Vec<Option<RunFault>>,
 }
 
-/// The promise that what a thread was given comes back.
+/// A promise that what a thread was given comes back.
 #[derive(Drop)]
 pub(crate) struct Returns<N: Run>(Snapshot<ProcessorHandle<N>>);
 
@@ -39,7 +39,7 @@ impl<N: Run> Promise<Back<N>> for Returns<N> {
     ghost kept_by = { λ p b. ComesBack p.0.value.pass p.0.value.end b.handle.pass b.handle.end b.fault };
 }
 
-/// The promise that a listener comes back.
+/// A promise that a listener comes back.
 #[derive(Drop)]
 pub(crate) struct Listens(Snapshot<Listener>);
 
@@ -51,7 +51,7 @@ impl Promise<Listener> for Listens {
 }
 
 impl<N: Run, A: Arbiter + Drop> Workers<N, A> {
-    /// What the last thread begins with, which leaves the workers.
+    /// Removes and returns what the last thread begins with.
     fn pop(&mut self) -> Option<Worker<N, A>>
         requires ends { vec_len self.old.ends ≡ vec_len self.old.passes }
         requires arbiters { vec_len self.old.arbiters ≡ vec_len self.old.passes }
@@ -84,7 +84,7 @@ impl<N: Run, A: Arbiter + Drop> Workers<N, A> {
         })
     }
 
-    /// Puts back what has come back. There is room for it.
+    /// Puts back what came back from a thread. There is room for it.
     fn push_reserved(&mut self, back: Back<N>)
         requires passes { vec_len self.old.passes < vec_capacity self.old.passes }
         requires ends { vec_len self.old.ends < vec_capacity self.old.ends }
@@ -102,7 +102,7 @@ impl<N: Run, A: Arbiter + Drop> Workers<N, A> {
     }
 }
 
-/// Starts the thread of a processor. Where none can be made, what it was to have comes back at once.
+/// Starts the thread of a processor. If it cannot be started, what it was to have comes back at once.
 fn start<
     's,
     E,
@@ -141,7 +141,7 @@ fn start<
     }
 }
 
-/// Runs the thread of each processor, and puts back in its place what comes back, with the thread's fault.
+/// Runs the thread of each processor, and puts what comes back in its place, with the thread's fault.
 #[tactic(auto, using(crate::proofs::Rows::none_comes_back))]
 pub(crate) fn run_all<
     's,
@@ -183,7 +183,7 @@ pub(crate) fn run_all<
     workers.push_reserved(back);
 }
 
-/// Starts the thread that listens. Where none can be made, the listener comes back at once.
+/// Starts the listener's thread. If it cannot be started, the listener comes back at once.
 fn start_listener<'s, E, R: Threads + Wait + Sync>(
     rt: &'s R,
     scope: &thread::Scope<'s, E>,
