@@ -1,9 +1,9 @@
-//! Runs a program on all processors of a machine by the sweep, and says how long a step takes.
+//! Runs a program on all processors of a machine by the sweep, and measures how long a step takes.
 //!
 //! `bench steps K RUNS`: each processor of a machine of `K` stages adds 1 to one shared word a hundred
-//! times, writes a byte to the console and halts; that is done RUNS times, on a new machine each time.
-//! With no arguments it is done once, with two stages. Standard output has what the run came to, standard
-//! error the time of the steps that did something, which does not have that of making the machines.
+//! times, writes a byte to the console and halts. That is done RUNS times, each time on a new machine.
+//! Without arguments it is done once, with two stages. Standard output has the result of the first run, and standard
+//! error the time of all steps that did something, without the time to make the machines.
 ghost use Rattle.std.specs.Prelude.{◌≡◌};
 
 use anyhow::bail;
@@ -41,8 +41,8 @@ impl Counts {
     }
 }
 
-/// The steps of a row that may do something.
-// A part of its caller, for each kind of row, as in the sweep.
+/// Takes the steps of a row that may do something.
+// Inlined into its caller for each kind of row, as in the sweep.
 #[inline(always)]
 fn take_row<R: Row>(machine: &mut Machine, counts: &mut Counts, row: &R)
     requires there { R.is_there row.now machine.old.config.k }
@@ -56,7 +56,7 @@ fn take_row<R: Row>(machine: &mut Machine, counts: &mut Counts, row: &R)
     }
 }
 
-/// One round of the sweep: each of its steps that may do something.
+/// Takes one round of the sweep: each of its steps that may do something.
 fn take_round(machine: &mut Machine, counts: &mut Counts) {
     take_row(machine, counts, &Turns);
     take_ups(machine, counts);
@@ -64,7 +64,7 @@ fn take_round(machine: &mut Machine, counts: &mut Counts) {
     take_downs(machine, counts);
 }
 
-/// The requests move up, those before the last stage first.
+/// Moves the requests up, those before the last stage first.
 fn take_ups(machine: &mut Machine, counts: &mut Counts) {
     let stages = machine.config().k;
     for passed in 0..stages {
@@ -75,7 +75,7 @@ fn take_ups(machine: &mut Machine, counts: &mut Counts) {
     }
 }
 
-/// The replies move down, those after the first stage first.
+/// Moves the replies down, those after the first stage first.
 fn take_downs(machine: &mut Machine, counts: &mut Counts) {
     for stage in 0..machine.config().k {
         take_row(machine, counts, &Downs { stage });
@@ -87,7 +87,7 @@ fn is_running(machine: &Machine) -> bool {
     (0..64u8).any(|p| machine.status(p) == Some(Status::Running))
 }
 
-/// Rounds of the sweep, until no processor runs.
+/// Takes rounds of the sweep until no processor runs.
 fn sweep(machine: &mut Machine, counts: &mut Counts) {
     for _ in 0..MAX_ROUNDS {
         if !is_running(machine) {
@@ -106,7 +106,7 @@ fn image(alloc: Global, config: &Config) -> anyhow::Result<Image> {
     Ok(read_image(alloc, &mut reader, config)?)
 }
 
-/// How many stages the machines have, and how many are run.
+/// How many stages the machines have, and how many machines are run.
 fn asked(arguments: &[String]) -> anyhow::Result<(u8, u32)> {
     match arguments {
         [] => Ok((2, 1)),
@@ -115,7 +115,7 @@ fn asked(arguments: &[String]) -> anyhow::Result<(u8, u32)> {
     }
 }
 
-/// Tells what a run came to.
+/// Prints the result of a run.
 fn tell_result(rt: &HostRuntime, machine: &Machine, counts: &Counts) -> anyhow::Result<()> {
     let word = machine.word(0).unwrap_or(0);
     println!(rt;
@@ -127,7 +127,7 @@ fn tell_result(rt: &HostRuntime, machine: &Machine, counts: &Counts) -> anyhow::
     Ok(())
 }
 
-/// The time of a run of a machine. The first says its result.
+/// The time of a run of a machine. The first run prints its result.
 fn time_of(
     rt: &HostRuntime,
     machine: &mut Machine,
@@ -148,7 +148,7 @@ fn new_machine(alloc: Global, config: Config) -> anyhow::Result<Machine> {
     Ok(Machine::new(alloc, image(alloc, &config)?, config)?)
 }
 
-/// Runs this many machines, and says how long that took.
+/// Runs this many machines, and prints how long that took.
 fn measure(rt: &HostRuntime, config: Config, runs: u32) -> anyhow::Result<()> {
     let mut counts = Counts {
         moved: 0,
@@ -169,7 +169,7 @@ fn measure(rt: &HostRuntime, config: Config, runs: u32) -> anyhow::Result<()> {
     Ok(())
 }
 
-/// Runs machines as these words ask for, and says what that came to.
+/// Runs machines as these arguments ask, and prints the results.
 pub fn run(rt: &HostRuntime, arguments: &[String]) -> anyhow::Result<()> {
     let (k, runs) = asked(arguments)?;
     let config = Config {

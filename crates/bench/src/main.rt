@@ -1,6 +1,6 @@
 //! What the scripts of `bench/` measure: moves of messages, steps of machines, and the assembler.
 //!
-//! `bench moves`, `bench steps` and `bench assemble` do one of these; with no arguments a little of each is done.
+//! `bench moves`, `bench steps` and `bench assemble` do one of these. Without arguments, a little of each is done.
 #![tactic(auto)]
 
 mod machines;

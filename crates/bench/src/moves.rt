@@ -1,11 +1,10 @@
-//! Moves messages through a network of six stages, and prints how many moves that took.
+//! Moves messages through a network of six stages, and measures how long the moves take.
 //!
-//! `bench moves KIND ROUNDS`: in each round 64 processors send a request, and each message is moved
-//! until all have their replies. KIND is `one`, where all add 1 to one word and combine at each stage,
-//! or `each`, where each adds 1 to a word of its own module. With no arguments it does 10 rounds of both.
-//! Standard output has what the rounds came to, standard error the time of the moves, which has nothing of
-//! the other calls: before a request or a reply is put in it is asked whom the network names, which looks
-//! through all of it.
+//! `bench moves KIND ROUNDS`: in each round 64 processors send a request, and each message is moved until all have
+//! their replies. If KIND is `one`, all add 1 to one word and combine at each stage; if it is `each`, each adds 1 to
+//! a word of its own module. Without arguments it does 10 rounds of both. Standard output has the counts of the
+//! rounds, and standard error the time of the moves alone: before a request or a reply is put in, the network is
+//! asked whom it names, and a search through all of it answers.
 ghost use Rattle.std.specs.Prelude.{◌<◌, ◌≤◌};
 
 use anyhow::bail;
@@ -16,7 +15,7 @@ use std::alloc::{AllocError, Global};
 use std::io;
 use std::time::{Clock, Duration, Instant};
 
-/// How many stages the network has: the most that there may be.
+/// How many stages the network has: the most that are possible.
 const STAGES: u8 = 6;
 
 /// How many processors and modules there are.
@@ -47,7 +46,7 @@ impl Kind {
         }
     }
 
-    /// From one wire before a stage on which a message stands to the next: paths to one module meet.
+    /// The distance between two wires at a depth that carry messages: paths to one module meet.
     fn step(self, depth: u8) -> usize
         requires { depth ≤ 6 }
         ensures { 0 < result }
@@ -82,7 +81,7 @@ impl Bench {
         })
     }
 
-    /// Each processor's reference, from its request to its reply.
+    /// Carries out each processor's reference, from its request to its reply.
     fn round(&mut self, clock: &impl Clock, kind: Kind) -> io::Result<()> {
         for processor in 0..WIRES {
             self.inject(processor, kind.word(processor));
@@ -102,7 +101,7 @@ impl Bench {
         Ok(())
     }
 
-    /// All requests go to their modules.
+    /// Moves all requests to their modules.
     fn all_up(&mut self, kind: Kind) {
         for stage in 0..STAGES {
             for wire in (0..WIRES).step_by(kind.step(stage)) {
@@ -111,7 +110,7 @@ impl Bench {
         }
     }
 
-    /// All replies go to their processors.
+    /// Moves all replies to their processors.
     fn all_down(&mut self, kind: Kind) {
         for stage in (0..STAGES).rev() {
             for wire in (0..WIRES).step_by(kind.step(stage + 1)) {
@@ -186,7 +185,7 @@ impl Bench {
     }
 }
 
-/// What the rounds of a kind did.
+/// Does rounds of a kind, and returns what they did.
 fn run_rounds(alloc: Global, clock: &impl Clock, kind: Kind, rounds: u32) -> anyhow::Result<Bench> {
     let mut bench = Bench::new(alloc)?;
     for _ in 0..rounds {
@@ -195,7 +194,7 @@ fn run_rounds(alloc: Global, clock: &impl Clock, kind: Kind, rounds: u32) -> any
     Ok(bench)
 }
 
-/// Which kinds of moves are measured, and how many rounds.
+/// Which kinds of rounds are measured, and how many rounds.
 fn asked(arguments: &[String]) -> anyhow::Result<(&'static [Kind], u32)> {
     match arguments {
         [] => Ok((&[Kind::One, Kind::Each], 10)),
@@ -205,7 +204,7 @@ fn asked(arguments: &[String]) -> anyhow::Result<(&'static [Kind], u32)> {
     }
 }
 
-/// Tells what rounds came to.
+/// Prints what the rounds did.
 fn tell(rt: &HostRuntime, kind: Kind, rounds: u32, bench: &Bench) -> anyhow::Result<()> {
     println!(rt;
         "{}: {} rounds, {} moves, {} replies, their sum {}",
@@ -223,7 +222,7 @@ fn tell(rt: &HostRuntime, kind: Kind, rounds: u32, bench: &Bench) -> anyhow::Res
     Ok(())
 }
 
-/// Moves messages as these words ask for, and says what that came to.
+/// Moves messages as these arguments ask, and prints what that did.
 pub fn run(rt: &HostRuntime, arguments: &[String]) -> anyhow::Result<()> {
     let (kinds, rounds) = asked(arguments)?;
     for kind in kinds {

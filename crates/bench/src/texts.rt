@@ -1,4 +1,4 @@
-//! Assembles the text on standard input, and prints where it begins and how many bytes each section has.
+//! Assembles the text on standard input, and prints its entry and how many bytes each section has.
 use assembler::assemble;
 use std::io;
 

@@ -1,4 +1,4 @@
-//! Adds to one word, and the steps by which four of them combine.
+//! Adds to one word, and the steps in which four of them combine.
 
 use crate::openings::{log_of, machine_of};
 use flat_machine::{CODE_START, Config, Poke, Retired, SHARED_START};
@@ -19,12 +19,12 @@ fn register(processor: u8, register: u8, value: u32) -> Step {
     })
 }
 
-/// The writes by which word 0 is this byte, and each of these processors has its addend in `a1` and the word's address
-/// in `a2`.
+/// Pokes that put this byte into word 0, and for each of these processors its addend into `a1` and the word's address
+/// into `a2`.
 ///
 /// # Errors
 ///
-/// There is no memory for them.
+/// [`AllocError`] if there is no memory for them.
 pub fn add_pokes(alloc: Global, word: u8, addends: &[(u8, u32)]) -> Result<Vec<Step>, AllocError> {
     let word = Poke::Shared {
         address: SHARED_START,
@@ -37,7 +37,7 @@ pub fn add_pokes(alloc: Global, word: u8, addends: &[(u8, u32)]) -> Result<Vec<S
     Ok(pokes)
 }
 
-/// Refuses the step where what it did is not what is wanted of it.
+/// Fails if the step did anything but what it should.
 fn expect(step: Step, found: Outcome, wanted: Outcome) -> Result<(), Fail> {
     if found == wanted {
         return Ok(());
@@ -45,7 +45,7 @@ fn expect(step: Step, found: Outcome, wanted: Outcome) -> Result<(), Fail> {
     Err(Fail::new(format_args!("{step:?}: {found:?}, and not {wanted:?}")))
 }
 
-/// Takes these writes.
+/// Takes these pokes.
 fn poke_all(machine: &mut Machine, pokes: &[Step]) -> Result<(), Fail> {
     for poke in pokes {
         expect(*poke, machine.apply(*poke), Outcome::Poked)?;
@@ -53,7 +53,7 @@ fn poke_all(machine: &mut Machine, pokes: &[Step]) -> Result<(), Fail> {
     Ok(())
 }
 
-/// Takes and enters a step, which does this.
+/// Takes and enters a step. Fails if it has another outcome than this.
 fn enter(log: &mut Logged, step: Step, wanted: Outcome) -> Result<(), Fail> {
     match log.step(step) {
         Ok(found) => expect(step, found, wanted),
@@ -61,7 +61,7 @@ fn enter(log: &mut Logged, step: Step, wanted: Outcome) -> Result<(), Fail> {
     }
 }
 
-/// Takes and enters these writes.
+/// Takes and enters these pokes.
 fn enter_pokes(log: &mut Logged, pokes: &[Step]) -> Result<(), Fail> {
     for poke in pokes {
         enter(log, *poke, Outcome::Poked)?;
@@ -69,11 +69,11 @@ fn enter_pokes(log: &mut Logged, pokes: &[Step]) -> Result<(), Fail> {
     Ok(())
 }
 
-/// Takes and enters this many writes of one shared byte.
+/// Takes and enters this many pokes of one shared byte.
 ///
 /// # Errors
 ///
-/// That a write stalls, or is refused.
+/// If a poke stalls, or is refused.
 pub fn poke_often(log: &mut Logged, count: u32) -> Result<(), Fail> {
     for number in 0..count {
         let poke = Poke::Shared {
@@ -85,11 +85,11 @@ pub fn poke_often(log: &mut Logged, count: u32) -> Result<(), Fail> {
     Ok(())
 }
 
-/// The machine of a text, after the writes of [`add_pokes`].
+/// The machine of a text, after the pokes of [`add_pokes`].
 ///
 /// # Errors
 ///
-/// Those of [`machine_of`], and that a write stalls.
+/// Those of [`machine_of`], and if a poke stalls.
 pub fn adders(
     alloc: Global,
     text: &str,
@@ -103,11 +103,11 @@ pub fn adders(
     Ok(machine)
 }
 
-/// The log of a text, whose steps are the writes of [`add_pokes`].
+/// The log of a text, whose steps are the pokes of [`add_pokes`].
 ///
 /// # Errors
 ///
-/// Those of [`log_of`], and that a write stalls or is refused.
+/// Those of [`log_of`], and if a poke stalls or is refused.
 pub fn adders_log(
     alloc: Global,
     text: &str,
@@ -121,10 +121,10 @@ pub fn adders_log(
     Ok(log)
 }
 
-/// Four processors add 1, 2, 4 and 8 to word 0, which is 10.
+/// Four processors that add 1, 2, 4 and 8 to word 0, which is 10.
 pub static FOUR_ADDENDS: [(u8, u32); 4] = [(0, 1), (1, 2), (2, 4), (3, 8)];
 
-/// The steps of these four adds, of which each pair combines, and then both pairs.
+/// The steps of these four adds: two pairs combine, and then the pairs do.
 pub static COMBINED_ADDS: [Step; 18] = [
     Step::Turn(0),
     Step::Turn(1),
@@ -147,7 +147,7 @@ pub static COMBINED_ADDS: [Step; 18] = [
 ];
 
 /// What the step at this place of [`COMBINED_ADDS`] does: the requests are sent and combine, one service answers all,
-/// and each processor finds what those before it in the order 0, 2, 1, 3 have left.
+/// and each processor finds what those before it in the order 0, 2, 1, 3 left.
 pub fn combined_add(place: usize) -> Outcome {
     match place {
         0..=3 => Outcome::Issued,
@@ -166,11 +166,11 @@ pub fn combined_add(place: usize) -> Outcome {
     }
 }
 
-/// Takes and enters the first this many of [`COMBINED_ADDS`], each of which does what it is to do.
+/// Takes and enters the first of [`COMBINED_ADDS`], this many of them.
 ///
 /// # Errors
 ///
-/// That a step does anything else, or is refused.
+/// If a step does anything but its [`combined_add`], or is refused.
 pub fn enter_adds(log: &mut Logged, count: usize) -> Result<(), Fail> {
     for (place, step) in COMBINED_ADDS.iter().enumerate().take(count) {
         enter(log, *step, combined_add(place))?;
@@ -188,7 +188,7 @@ fn answering(second: u8) -> Outcome {
     }
 }
 
-/// What `amoadd.w a0, a1, (a2)` retires as, at the code's first place, where it found this word.
+/// The retirement of `amoadd.w a0, a1, (a2)` at the first address of code, after it found this word.
 pub fn add_that_found(word: u32) -> Retired {
     Retired {
         pc: CODE_START,

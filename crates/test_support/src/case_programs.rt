@@ -10,7 +10,7 @@ use std::test::Fail;
 /// What an image is made of.
 #[derive(Clone, Copy, Drop)]
 pub struct Program<'a> {
-    /// Where each processor begins.
+    /// The address at which each processor begins.
     pub entry: u32,
     /// The words of code.
     pub code: &'a [u32],
@@ -51,7 +51,7 @@ impl Program<'_> {
     ///
     /// # Errors
     ///
-    /// Where the program does not fit its regions, what the image is refused for, and out of memory.
+    /// If the program does not fit its regions, if the image is refused, and if out of memory.
     pub fn image(&self, alloc: Global, config: &Config) -> Result<Image, Fail> {
         let layout = layout_of(alloc, self)?;
         if layout.code.len() > 0x0001_0000
@@ -70,7 +70,7 @@ impl Program<'_> {
     ///
     /// # Errors
     ///
-    /// Those of [`Program::image`], and what the size is refused for.
+    /// Those of [`Program::image`], and if the size is refused.
     pub fn machine(&self, alloc: Global, config: Config) -> Result<Machine, Fail> {
         let image = self.image(alloc, &config)?;
         Ok(Machine::new(alloc, image, config)?)

@@ -1,15 +1,15 @@
 //! What the words of a case mean for a machine.
 //!
-//! - Steps: `turn P`, `up S W`, `serve M`, `down S W`, `poke P R V` of register R, or of `pc` as 32, `poke_local P A
-//! V`, `poke_shared A V`.
+//! - Steps: `turn P`, `up S W`, `serve M`, `down S W`, `poke P R V` of register R, or of `pc` as 32,
+//!   `poke_local P A V`, `poke_shared A V`.
 //! - What they do: `issued`, `moved`, `combined FIRST SECOND`, `served LEADER`, `answered TO`, `answered_two TO TO`,
 //!   `answered_three TO TO TO`, `poked`, `stalled`;
-//!   `wrote A W V` where the instruction at A, whose word is W, has retired and written V to a register, `retired A W`
-//!   where it has written none, `printed A W V` where it has given V to the console; `halted V`, `faulted N`.
-//! - Further calls: `whole P` takes a whole instruction, `drain` drains at once, `drain_by_steps` by the steps that the
-//!   machine names; `next` is the step that a drain takes next.
+//!   `wrote A W V` if the instruction at A, whose word is W, retired and wrote V to a register, `retired A W` if it
+//!   wrote none, `printed A W V` if it gave V to the console; `halted V`, `faulted N`.
+//! - Further calls: `whole P` takes a whole instruction, `drain` drains at once, `drain_by_steps` drains by the steps
+//!   that the machine names; `next` is the step that a drain takes next.
 //! - Readers: `pc P`, `register P R`, `status P`, `byte P A`, `word I`, `idle`, and `blank P`, whether all registers
-//! of a processor are 0.
+//!   of a processor are 0.
 
 use crate::words::{Words, low, said};
 use decode::encode;
@@ -69,7 +69,7 @@ pub(crate) fn outcome_words(outcome: Outcome) -> Words<'static> {
     }
 }
 
-/// Who is answered beside a leader.
+/// The processors that are answered besides a leader.
 fn seconds_words(seconds: Seconds) -> Words<'static> {
     match seconds {
         Seconds::One(a) => said("answered", [u32::from(a), 0, 0, 0]),
@@ -81,7 +81,7 @@ fn seconds_words(seconds: Seconds) -> Words<'static> {
     }
 }
 
-/// What an instruction that retired says.
+/// An instruction that retired.
 fn retired_words(retired: &Retired) -> Words<'static> {
     let word = encode(&retired.insn);
     match (retired.out, retired.result) {
@@ -99,7 +99,7 @@ pub(crate) fn number_words(number: Option<u32>) -> Words<'static> {
     }
 }
 
-/// Whether something is so.
+/// `yes` or `no`.
 pub(crate) fn truth_words(is_so: bool) -> Words<'static> {
     said(if is_so { "yes" } else { "no" }, [0; 4])
 }
@@ -114,7 +114,7 @@ pub(crate) fn status_words(status: Option<Status>) -> Words<'static> {
     }
 }
 
-/// A step that a drain takes next, which is a turn or a move, or that there is none.
+/// The step that a drain takes next, or that there is none.
 pub(crate) fn next_words(step: Option<Step>) -> Words<'static> {
     match step {
         Some(Step::Turn(p)) => said("turn", [u32::from(p), 0, 0, 0]),

@@ -16,23 +16,23 @@ const A0: u8 = 10;
 
 const A1: u8 = 11;
 
-/// A machine, what it is asked, and what it has to answer. The texts are of words: a verb and numbers, with commas
+/// A machine, what it is asked, and what it has to answer. The texts consist of words: a verb and numbers, with commas
 /// between calls (`words.rt`).
 #[derive(Clone, Copy, Drop)]
 pub struct Case {
     /// What the case shows.
     pub name: &'static str,
-    /// `machine`, and its `k`, `c`, `b` and number of shared words. Its `r` is 1, that of `machine_2` is 2, and that
-    /// of `machine_3` 3.
+    /// `machine`, and its `k`, `c`, `b` and number of shared words. Its `r` is 1; with `machine_2` it is 2, and with
+    /// `machine_3` it is 3.
     pub machine: &'static str,
     /// The program that it opens on.
     pub program: &'static Program<'static>,
-    /// What is poked before all else. Beside the pokes of steps, `word I V` writes shared word I, byte by byte.
+    /// What is poked before all else. Besides the pokes of steps, `word I V` writes shared word I, byte by byte.
     pub pokes: &'static [&'static str],
-    /// Lines of what is asked, with the answer that each call of the line has to have after a colon. Where a step
-    /// stalls, nothing that is seen of the machine may change.
+    /// Lines of what is asked. After a colon comes the answer that each call of the line has to have. If a step stalls,
+    /// nothing that is seen of the machine may change.
     pub calls: &'static [&'static str],
-    /// The serial order that the outcomes of all steps say, as turns and pokes. A drain at once says of none.
+    /// The serial order that the outcomes of all steps give, as turns and pokes. A drain at once gives no outcomes.
     pub order: &'static str,
 }
 
@@ -40,7 +40,7 @@ pub struct Case {
 ///
 /// # Errors
 ///
-/// The first answer that is not the wanted one, what a case cannot be read for, and out of memory.
+/// If an answer is not the wanted one (the first is reported), if a case cannot be read, and if out of memory.
 pub fn check(alloc: Global, cases: &[Case]) -> Result<(), Fail> {
     for case in cases {
         run(alloc, case)?;
@@ -48,8 +48,8 @@ pub fn check(alloc: Global, cases: &[Case]) -> Result<(), Fail> {
     Ok(())
 }
 
-/// Runs each of these cases, which consist of steps and of what changes nothing. Then a machine lists the serial order
-/// of the same steps, and is left as the one that took them one by one.
+/// Runs each of these cases, which consist of steps and of calls that change nothing. Then another machine lists the
+/// serial order of the same steps, and has to end as the one that took them one by one.
 ///
 /// # Errors
 ///
@@ -61,7 +61,7 @@ pub fn check_orders(alloc: Global, cases: &[Case]) -> Result<(), Fail> {
     Ok(())
 }
 
-/// Refuses the case at which the two differ, and says them.
+/// Fails if the two differ, with both and their case.
 fn same<T: PartialEq + Debug, A: Debug>(found: &T, wanted: &T, at: &A) -> Result<(), Fail> {
     if found == wanted {
         return Ok(());
@@ -75,7 +75,7 @@ fn run_both_ways(alloc: Global, case: &Case) -> Result<(), Fail> {
     same(&found.as_slice(), &wanted.as_slice(), &case.name)
 }
 
-/// Runs a case. Gives what is seen of the machine at its end.
+/// Runs a case. Returns what is seen of the machine at its end.
 fn run(alloc: Global, case: &Case) -> Result<Vec<Words<'static>>, Fail> {
     let mut watched = Watched::new(alloc, opened(alloc, case)?);
     ask_all(alloc, &mut watched, case)?;
@@ -118,7 +118,7 @@ fn config_of(text: &str) -> Result<Config, Fail> {
     })
 }
 
-/// The machine is the opening of a case, and gets its pokes.
+/// Checks that the machine is the opening of a case, and gives it the case's pokes.
 fn prepare(machine: &mut Machine, case: &Case) -> Result<(), Fail> {
     let config = config_of(case.machine)?;
     let name = case.name;
@@ -202,7 +202,7 @@ fn ask(alloc: Global, watched: &mut Watched, asked: Words) -> Result<Words<'stat
     })
 }
 
-/// Takes a step. One that stalls has to leave all that is seen of the machine.
+/// Takes a step. One that stalls must not change what is seen of the machine.
 fn take(alloc: Global, watched: &mut Watched, step: Step) -> Result<Words<'static>, AllocError> {
     let before = seen(alloc, &watched.machine)?;
     let observed_step = watched.apply(step)?;
@@ -223,7 +223,7 @@ fn seen(alloc: Global, machine: &Machine) -> Result<Vec<Words<'static>>, AllocEr
     Ok(answers)
 }
 
-/// What is seen of a processor, and the shared word of its number.
+/// What is seen of a processor, and the shared word with its number.
 fn seen_of(machine: &Machine, p: u32) -> [Words<'static>; 6] {
     [
         read(machine, said("pc", [p, 0, 0, 0])),
@@ -261,7 +261,8 @@ fn is_blank(machine: &Machine, p: u8) -> bool {
     true
 }
 
-/// Gives the steps of a case to a machine as a list, which answers the case's order. Gives what is seen of it then.
+/// Gives the steps of a case to a machine as a list, checks the order that it returns, and returns what is then seen of
+/// it.
 fn run_as_list(alloc: Global, case: &Case) -> Result<Vec<Words<'static>>, Fail> {
     let mut machine = opened(alloc, case)?;
     list_order(alloc, &mut machine, case)?;

@@ -10,7 +10,7 @@ pub static EBREAK: [u8; 88] = [
     0x01, 0x00, 0x00, 0x00, 0x73, 0x00, 0x10, 0x00,
 ];
 
-/// An image of this many bytes with other bytes from a place on, as far as it goes.
+/// The image with these bytes in place of its own from a place on, as far as it goes.
 pub fn with_bytes(mut image: [u8; 88], place: usize, bytes: &[u8]) -> [u8; 88] {
     let (_, rest) = image.split_at_mut(place.min(88));
     let count = bytes.len().min(rest.len());

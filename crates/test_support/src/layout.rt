@@ -6,12 +6,12 @@ use elf_image::Layout;
 use std::alloc::{AllocError, Global};
 use std::fmt::Write;
 
-/// Tells what a layout places: the words of code, the bytes of local and of shared memory where there are any, and the
-/// entry where it is not 0x00010000. All are hex digits, with `*N` after a word or a byte that stands N times in turn.
+/// The text of what a layout places: the words of code, the bytes of local and of shared memory if there are any, and
+/// the entry if it is not 0x00010000. All are hex digits, with `*N` after a word or a byte that comes N times in a row.
 ///
 /// # Errors
 ///
-/// There is no memory for the text.
+/// [`AllocError`] if there is no memory for the text.
 pub fn layout_text(alloc: Global, layout: &Layout) -> Result<String, AllocError> {
     let mut text = String::new(alloc);
     push_runs(&mut text, 4, layout.code.as_slice())?;
@@ -20,12 +20,12 @@ pub fn layout_text(alloc: Global, layout: &Layout) -> Result<String, AllocError>
     if layout.entry != 0x0001_0000 {
         write!(text, "entry {:08x} ", layout.entry)?;
     }
-    // The blank after the last.
+    // The blank at the end.
     let _ = text.pop();
     Ok(text)
 }
 
-/// Tells the bytes of a section, where there are any.
+/// Appends the bytes of a section, if there are any.
 fn push_section(text: &mut String, name: &str, bytes: &[u8]) -> Result<(), AllocError> {
     if bytes.is_empty() {
         return Ok(());
@@ -34,7 +34,7 @@ fn push_section(text: &mut String, name: &str, bytes: &[u8]) -> Result<(), Alloc
     push_runs(text, 1, bytes)
 }
 
-/// Tells pieces of this many bytes, equal ones once.
+/// Appends pieces of this many bytes, equal ones in a row once.
 fn push_runs(text: &mut String, size: usize, bytes: &[u8]) -> Result<(), AllocError>
     requires { 0 < size }
 {
@@ -51,7 +51,7 @@ fn push_runs(text: &mut String, size: usize, bytes: &[u8]) -> Result<(), AllocEr
     push_run(text, last, count)
 }
 
-/// Tells a piece that stands this many times, its highest byte first.
+/// Appends a piece that comes this many times, its highest byte first.
 fn push_run(text: &mut String, piece: &[u8], count: u32) -> Result<(), AllocError> {
     for byte in piece.iter().rev() {
         write!(text, "{byte:02x}")?;

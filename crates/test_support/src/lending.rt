@@ -1,7 +1,7 @@
 //! Values that are lent.
 
-/// What a body answers that looks at a value, which is dropped after that. A function that owns a machine or a log
-/// pays in each of its comparisons for having to drop it, and one that borrows it does not.
+/// Lends a value to a body, drops the value, and returns what the body returned. A function that owns a machine or a
+/// log pays in each of its comparisons for having to drop it, and one that borrows it does not.
 pub fn lend<T: Drop, A, F: FnOnce(&mut T) -> A>(mut value: T, body: F) -> A
     requires { F.IsAlwaysCallable body }
 {
@@ -10,7 +10,7 @@ pub fn lend<T: Drop, A, F: FnOnce(&mut T) -> A>(mut value: T, body: F) -> A
     answer
 }
 
-/// A value once a body has changed it, or the body's error.
+/// A value after a body has changed it, or the body's error.
 ///
 /// # Errors
 ///

@@ -1,14 +1,13 @@
 //! What tests are made of.
 //!
-//! Devices: they take or give one byte at a call, fail at one call, or have no end or no room ([`Sink`], [`Source`]).
-//! Beside them what a command comes to on such devices ([`Ran`]), what a layout places as a text, images, traces, and
-//! how tests compare and lend.
+//! Devices that take or give one byte a call, fail at one call, or have no end or no room ([`Sink`], [`Source`]). With
+//! them, what a command does on such devices ([`Ran`]), what a layout places as a text, images, traces, and how tests
+//! compare and lend.
 //!
 //! Programs of words ([`Program`]), a machine whose steps are watched, and cases, each of which says what a machine is
-//! asked and what it has to answer. [`check`] and what stands below it are proved safe once, however many cases there
-//! are.
+//! asked and what it has to answer. [`check`] and what it calls are proved safe once, however many cases there are.
 //!
-//! Machines and logs that open on texts of the assembler, the sizes that they have, and adds that combine in them.
+//! Machines and logs that open on texts of the assembler, their sizes, and adds that combine in them.
 #![tactic(auto)]
 
 mod adds;

@@ -1,4 +1,4 @@
-//! What opens on a text.
+//! Images, machines and logs that open on a text.
 
 ghost use Rattle.std.specs.Prelude.{◌≡◌, [], IfOk};
 ghost use Rattle.machine_steps.specs.Machines.{AreHome, IsIdle};
@@ -16,7 +16,7 @@ use std::test::Fail;
 ///
 /// # Errors
 ///
-/// The text's fault, or out of memory.
+/// If the text has a fault, or if out of memory.
 pub fn image_of(alloc: Global, text: &str) -> Result<Vec<u8>, Fail> {
     Ok(assemble(alloc, text)?.to_elf(alloc)?)
 }
@@ -25,7 +25,7 @@ pub fn image_of(alloc: Global, text: &str) -> Result<Vec<u8>, Fail> {
 ///
 /// # Errors
 ///
-/// What the text, its image or the size is refused for, or out of memory.
+/// If the text, its image or the size is refused, or if out of memory.
 pub fn machine_of(alloc: Global, text: &str, config: Config) -> Result<Machine, Fail>
     ensures config { IfOk result (λ m. m.config ≡ config) }
     ensures idle { IfOk result (λ m. IsIdle m) }

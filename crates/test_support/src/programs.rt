@@ -4,8 +4,8 @@ use std::alloc::Global;
 use std::fmt::Write;
 use std::test::Fail;
 
-/// Each processor adds 1 to one shared word a hundred times, writes `A` to the console and halts. It stops
-/// by EBREAK where the word has less than its own adds.
+/// Each processor adds 1 to one shared word a hundred times, writes `A` to the console and halts. It stops by EBREAK
+/// if the word is less than the number of its own adds.
 pub const HUNDRED_ADDS: &str = "start: lui x5, 0x80000
  addi x6, x0, 100
  addi x7, x0, 1
@@ -24,13 +24,13 @@ loop: amoadd.w x8, x7, (x5)
 bad: ebreak
 ";
 
-/// The report of [`HUNDRED_ADDS`] on this many processors, which come to this sum. Three instructions at the
-/// beginning, three for each of the hundred adds, and eight after them, of which the last halts and does not retire:
-/// 311. `ecall` stands at 0x00010038.
+/// The report of [`HUNDRED_ADDS`] on this many processors, whose adds give this sum. Each processor retires 311
+/// instructions: three at the beginning, three for each of the hundred adds, and eight before the `ecall` at
+/// 0x00010038, which halts.
 ///
 /// # Errors
 ///
-/// That there is no memory for it.
+/// If there is no memory for it.
 pub fn report_of_hundred_adds(alloc: Global, processors: u8, sum: &str) -> Result<String, Fail> {
     let mut report = String::new(alloc);
     for p in 0..processors {

@@ -1,27 +1,28 @@
-//! What a command comes to.
+//! What a command does on devices.
 
 use crate::sink::Taken;
 use std::test::Fail;
 
-/// The exit status of a command, and what it has written on two devices.
+/// The exit status of a command, and what it wrote to two devices.
 #[derive(Drop)]
 pub struct Ran<W: Drop, E: Drop = Vec<u8>> {
     /// The exit status.
     pub status: u8,
     /// Standard output.
     pub out: W,
-    /// Whether a call on standard output has failed.
+    /// Whether a call on standard output failed.
     pub has_failed: bool,
     /// Standard error.
     pub err: E,
 }
 
 impl<W: Taken + Drop, E: Taken + Drop> Ran<W, E> {
-    /// Compares all that it came to: the exit status, what standard output has taken, and the text on standard error.
+    /// Compares all that the command did: its exit status, the bytes on standard output, and the text on standard
+    /// error.
     ///
     /// # Errors
     ///
-    /// Both, where they differ.
+    /// Both, if they differ.
     pub fn comes_to(self, status: u8, out: &[u8], err: &str) -> Result<(), Fail> {
         let found = self.observed_step();
         let wanted = Observed { status, err, out };
@@ -31,11 +32,11 @@ impl<W: Taken + Drop, E: Taken + Drop> Ran<W, E> {
         Err(Fail::new(format_args!("{found:?}, and not {wanted:?}")))
     }
 
-    /// Compares the same where there was memory. Else it reported that there was none, and has written nothing.
+    /// Compares the same if there was enough memory. If not, the command has to report that, and write nothing.
     ///
     /// # Errors
     ///
-    /// Both, where they differ.
+    /// Both, if they differ.
     pub fn comes_to_or_lacks_memory(self, status: u8, out: &[u8], err: &str) -> Result<(), Fail> {
         if self.status == 4 {
             return self.comes_to(4, &[], "ultra: memory\n");
@@ -43,7 +44,7 @@ impl<W: Taken + Drop, E: Taken + Drop> Ran<W, E> {
         self.comes_to(status, out, err)
     }
 
-    /// What it says: on standard error a text.
+    /// What the command did, with standard error as a text.
     fn observed_step(&self) -> Observed<'_> {
         Observed {
             status: self.status,
@@ -53,7 +54,7 @@ impl<W: Taken + Drop, E: Taken + Drop> Ran<W, E> {
     }
 }
 
-/// What a command says.
+/// What a command did, as tests print it.
 #[derive(Clone, Copy, Debug, PartialEq, Eq, Drop)]
 struct Observed<'a> {
     status: u8,
@@ -61,8 +62,8 @@ struct Observed<'a> {
     out: &'a [u8],
 }
 
-/// What a command comes to with these devices for standard output and standard error. The command is a call with two
-/// writers, which stand between bars.
+/// What a command does with these devices as standard output and standard error. The command is a call with two
+/// writers, whose names are between bars.
 #[macro_export]
 macro_rules! ran {
     ($out_device:expr, $err_device:expr, |$out:ident, $err:ident| $command:expr) => {{

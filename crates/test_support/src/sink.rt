@@ -19,19 +19,19 @@ impl Taken for Vec<u8> {
     }
 }
 
-/// Takes one byte at a call, and fails at one call.
+/// A writer that takes one byte a call, and fails at one call.
 #[derive(Drop)]
 pub struct Sink {
     /// The bytes that it has taken.
     pub bytes: Vec<u8>,
     /// How many calls there were.
     pub calls: usize,
-    /// The number of the call that fails, from 1. None fails where this is 0.
+    /// The number of the call that fails, from 1. If it is 0, none fails.
     pub fails_at: usize,
 }
 
 impl Sink {
-    /// A sink that has these bytes, of which this call fails.
+    /// A sink that has taken these bytes, and fails at this call.
     pub fn new(bytes: Vec<u8>, fails_at: usize) -> Self
         ensures bytes { result.bytes.items ≡ bytes.items }
         ensures calls { result.calls ≡ 0 }

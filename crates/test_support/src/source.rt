@@ -7,19 +7,19 @@ ghost use Rattle.std.specs.Io.KnownBytes.{ReadConsumes};
 use std::io;
 use std::io::{ErrorKind, Read};
 
-/// Gives one byte at a call, and fails at one call.
+/// A reader that gives one byte a call, and fails at one call.
 #[derive(Drop)]
 pub struct Source<'a> {
     /// The bytes that it has left.
     pub bytes: &'a [u8],
     /// How many calls there were.
     pub calls: usize,
-    /// The number of the call that fails, from 1. None fails where this is 0.
+    /// The number of the call that fails, from 1. If it is 0, none fails.
     pub fails_at: usize,
 }
 
 impl<'a> Source<'a> {
-    /// A source of these bytes, of which this call fails.
+    /// A source of these bytes, which fails at this call.
     pub fn new(bytes: &'a [u8], fails_at: usize) -> Self
         ensures bytes { result.bytes.now ≡ bytes.now }
         ensures calls { result.calls ≡ 0 }

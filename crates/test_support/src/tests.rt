@@ -5,7 +5,7 @@ use std::fmt::Debug;
 use std::io::{Read, Write};
 use std::process::Abort;
 
-/// Ends the test where the two differ, and says them and the case that they are of ([`assert_same!`]).
+/// Fails the test if the two differ, and prints them and their case ([`assert_same!`]).
 fn same<T: PartialEq + Debug, A: Debug>(rt: &impl Abort, found: &T, wanted: &T, at: &A) {
     assert_eq!(rt; found, wanted, "{at:?}");
 }
@@ -39,7 +39,7 @@ fn takes_a_byte_at_a_call(rt: HostRuntime) {
     assert!(rt; Full.flush().is_ok());
 }
 
-/// The body sees and changes the value, and its answer is handed on.
+/// The body sees and changes the value, and its answer is returned.
 #[test]
 fn lends_a_value(rt: HostRuntime) {
     let answer = lend(1, |number| {

@@ -44,7 +44,7 @@ pub const FOUR_ADDS: [[u8; 12]; 27] = [
 ///
 /// # Errors
 ///
-/// There is no memory for it.
+/// [`AllocError`] if there is no memory for it.
 pub fn trace_of(
     alloc: Global,
     (k, c, b): (u8, u8, u8),

@@ -1,4 +1,4 @@
-//! A machine, and what the outcomes of its steps say: the serial order, and what retired.
+//! A machine, and what the outcomes of its steps give: the serial order, and what retired.
 
 ghost use Rattle.std.specs.Prelude.{◌<◌};
 
@@ -9,27 +9,27 @@ use machine_steps::Machine;
 use std::alloc::{AllocError, Global};
 use steps::{Outcome, Step};
 
-/// An instruction that retired: on which processor, where it stands, and what it wrote to a register.
+/// An instruction that retired: its processor, its address, and what it wrote to a register.
 #[derive(Clone, Copy, Debug, PartialEq, Eq, Drop)]
 pub struct Shown {
     /// The processor.
     pub processor: u8,
-    /// Where the instruction stands.
+    /// The instruction's address.
     pub pc: u32,
     /// What it wrote, if it did.
     pub result: Option<u32>,
 }
 
-/// A machine of at most eight processors, whose steps are watched from where no reference was open in it.
+/// A machine of at most eight processors, whose steps are watched from a state in which no reference was open.
 #[derive(Drop)]
 pub struct Watched {
     /// The machine.
     pub machine: Machine,
-    /// Whether each processor is open.
+    /// Whether each processor has a reference open.
     is_open: [bool; 8],
-    /// Of each leader of a group of requests, the last of the group.
+    /// For each leader of a group of requests, the last of the group.
     last: [u8; 8],
-    /// Of each processor of a group but its last, the one that follows.
+    /// For each processor of a group but its last, the next one.
     next: [u8; 8],
     /// The serial order so far.
     pub order: Vec<Entry>,
@@ -45,7 +45,7 @@ fn place(processor: u8) -> usize
 }
 
 impl Watched {
-    /// A machine in which no reference is open.
+    /// Watches a machine in which no reference is open.
     pub fn new(alloc: Global, machine: Machine) -> Self {
         Watched {
             machine,
@@ -57,9 +57,9 @@ impl Watched {
         }
     }
 
-    /// Takes a step, and learns from its outcome, which it says. Each step has a part of the serial order: a turn
-    /// whose instruction retires at once, or that stops the processor, the processor; a service the
-    /// group of its leader; a poke itself; all others nothing.
+    /// Takes a step, enters what it adds to the serial order, and returns its outcome as words. A turn adds its
+    /// processor, if its instruction retires at once or it stops the processor; a service adds the group of its leader;
+    /// a poke adds itself; all other steps add nothing.
     pub fn apply(&mut self, step: Step) -> Result<Words<'static>, AllocError> {
         let outcome = self.machine.apply(step);
         match step {
@@ -74,7 +74,7 @@ impl Watched {
         Ok(outcome_words(outcome))
     }
 
-    /// Takes a whole instruction, and learns from its outcome, which it says.
+    /// Takes a whole instruction, enters it in the serial order, and returns its outcome as words.
     pub(crate) fn one(&mut self, p: u8) -> Result<Words<'static>, AllocError> {
         let outcome = self.machine.one(p);
         match outcome {
@@ -116,7 +116,7 @@ impl Watched {
         Ok(())
     }
 
-    /// The group of the second leader follows that of the first.
+    /// Puts the group of the second leader after that of the first.
     fn join(&mut self, first: u8, second: u8) {
         self.next[place(self.last[place(first)])] = second;
         self.last[place(first)] = self.last[place(second)];
@@ -136,8 +136,8 @@ impl Watched {
         Ok(())
     }
 
-    /// Takes the steps that the machine names until it names none, and gives how many there were.
-    /// Where no step of 10,000 is the last, it gives 10,000.
+    /// Takes the steps that the machine names until it names none, and returns how many there were. Gives up after
+    /// 10,000.
     pub fn drain_by_steps(&mut self) -> Result<u32, AllocError> {
         for moves in 0..10_000u32 {
             if !self.drain_one()? {
@@ -147,7 +147,7 @@ impl Watched {
         Ok(10_000)
     }
 
-    /// Takes the step that the machine names. Tells whether it names one.
+    /// Takes the step that the machine names. Returns whether it names one.
     fn drain_one(&mut self) -> Result<bool, AllocError> {
         match self.machine.drain_step() {
             Some(step) => {

@@ -1,5 +1,5 @@
-//! Words of cases: a verb and numbers, decimal ones, or hex digits after `0x`. A line of a case is what is asked, with
-//! commas between calls, and after a colon what each is to answer.
+//! Words of cases: a verb and numbers, in decimal or in hex digits after `0x`. A line of a case is what is asked, with
+//! commas between calls, and after a colon what each has to answer.
 
 use std::num::ParseIntError;
 use std::test::Fail;
@@ -18,11 +18,11 @@ pub fn said(verb: &str, numbers: [u32; 4]) -> Words<'_> {
     Words { verb, numbers }
 }
 
-/// Reads a verb and up to four numbers. No text is the empty verb.
+/// Reads a verb and up to four numbers. An empty text is the empty verb.
 ///
 /// # Errors
 ///
-/// A number that cannot be read.
+/// If a number cannot be read.
 pub fn read_words(text: &str) -> Result<Words<'_>, Fail> {
     let mut pieces = text.split_whitespace();
     let verb = pieces.next().unwrap_or("");
@@ -33,7 +33,7 @@ pub fn read_words(text: &str) -> Result<Words<'_>, Fail> {
     Ok(said(verb, [a, b, c, d]))
 }
 
-/// The number that is written there. None stands for 0.
+/// The number that is written there, or 0 if there is none.
 fn number_of(piece: Option<&str>) -> Result<u32, ParseIntError> {
     let piece = piece.unwrap_or("0");
     match piece.strip_prefix("0x") {

@@ -11,7 +11,7 @@ use std::os::unix::fs::MetadataExt;
 use std::rt::Files;
 use std::{fs, io};
 
-/// Opens a file that is to be read. A read that fails leaves why.
+/// Opens a file to read it. A read that fails leaves its error in `reason`.
 pub(crate) fn open<'a, 'r, R: Files>(
     files: &R,
     path: &'a str,
@@ -23,8 +23,8 @@ pub(crate) fn open<'a, 'r, R: Files>(
     }
 }
 
-/// Opens the image of a trace's run. That it cannot be opened is reported by the command, after what is wrong with the
-/// trace, and leaves why.
+/// Opens the image of a trace's run. If it cannot be opened, the error is left in `reason`, and the command reports it
+/// after what is wrong with the trace.
 pub(crate) fn open_image<'r, R: Files>(
     files: &R,
     path: &str,
@@ -39,7 +39,7 @@ pub(crate) fn open_image<'r, R: Files>(
     }
 }
 
-/// Opens a file that is to be read, where it is another than OUT, which is to be written.
+/// Opens a file to read it, unless it is OUT, which is to be written.
 pub(crate) fn open_beside<'a, 'r, R: Files>(
     files: &R,
     path: &'a str,
@@ -52,7 +52,7 @@ pub(crate) fn open_beside<'a, 'r, R: Files>(
     open(files, path, reason)
 }
 
-/// A writer to OUT, which is opened by the first write to it. A write that fails leaves why.
+/// A writer to OUT, which the first write opens. A write that fails leaves its error in `reason`.
 pub(crate) fn writer_to<'a, R: Files>(
     files: &'a R,
     path: &'a str,
@@ -64,7 +64,7 @@ pub(crate) fn writer_to<'a, R: Files>(
     Meter::new(Explained { device, reason })
 }
 
-/// A writer to OUT, where a trace is asked for.
+/// A writer to OUT, if a trace is asked for.
 pub(crate) fn trace_to<'a, R: Files>(
     files: &'a R,
     path: Option<&'a str>,
@@ -78,7 +78,7 @@ pub(crate) fn trace_to<'a, R: Files>(
     }
 }
 
-/// Whether two paths name one regular file, so that a write to one would lose what is read at the other.
+/// Whether two paths name the same regular file, so that a write to one would lose what is read at the other.
 pub(crate) fn are_one_file<R: Files>(files: &R, one: &str, other: &str) -> bool {
     let (Ok(one), Ok(other)) = (fs::metadata(files, one), fs::metadata(files, other)) else {
         return false;

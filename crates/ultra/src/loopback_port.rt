@@ -1,4 +1,4 @@
-//! Where a debugger comes in: a port of this machine.
+//! Where a debugger connects: a port of this machine.
 
 ghost use Rattle.std.specs.Prelude.{◌≡◌, false, IfOk, ⊤};
 
@@ -9,12 +9,12 @@ use std::io;
 use std::io::Write;
 use std::net::{Net, OpenListener, OpenStream, TcpListener};
 
-/// A port of 127.0.0.1 at which one connection is awaited, and who is reported once it can be made.
+/// A port of 127.0.0.1 that waits for one connection, and the writer that reports when the connection can be made.
 #[derive(Drop)]
 pub(crate) struct LoopbackPort<'a, R: Net, W: Write> {
     pub(crate) net: &'a R,
     pub(crate) port: u16,
-    /// What the system says where there is no connection.
+    /// The system's error if there is no connection.
     pub(crate) reason: &'a Reason,
     pub(crate) out: &'a mut W,
 }
@@ -26,13 +26,12 @@ impl<R: Net, W: Write> Connect for LoopbackPort<'_, R, W> {
 
     ghost gives = { λ loopback_port link. ⊤ };
 
-    /// Listens at the port, says so, and waits for one connection.
+    /// Listens at the port, reports it, and waits for one connection.
     fn connect(&mut self) -> Result<(Meter<R::Stream>, Meter<R::Stream>), Failed> {
         match self.streams() {
             Ok((reader, writer)) => Ok((Meter::new(reader), Meter::new(writer))),
             Err(error) => {
-                // Where it is standard output that failed, that is the reason, and not what the meter says of it
-                // afterwards.
+                // If standard output failed, its error is the reason, and not the one that the meter gives afterwards.
                 if self.reason.get().is_none() {
                     self.reason.set(Some(error));
                 }
@@ -49,7 +48,7 @@ impl<R: Net, W: Write> LoopbackPort<'_, R, W> {
         announce(self.port, self.out)?;
         self.out.flush()?;
         let (stream, _) = listener.accept()?;
-        // A reply is one line, and whoever debugs waits for it.
+        // A reply is one line, and the debugger waits for it.
         stream.set_nodelay(true)?;
         Ok((stream.try_clone()?, stream))
     }

@@ -62,8 +62,8 @@ fn main(rt: HostRuntime) -> ExitCode {
     ExitCode::from(status)
 }
 
-/// Does what the command line asks for, and answers the exit status. Standard error may be a terminal. A call that
-/// fails leaves why.
+/// Does what the command line asks for, and returns the exit status. `terminal` says whether standard error is a
+/// terminal. A call that fails leaves its error in `reason`.
 fn carry_out<
     R: Env + Files + Net + Threads + Wait + Clock + Eprint + Sync + AllocGlobal,
     W: LinkWrite,
@@ -99,7 +99,7 @@ fn carry_out_words<
     }
 }
 
-/// Does what settings ask for, and says in a second line which file a fault is of.
+/// Does what settings ask for, and reports in a second line which file is at fault.
 fn execute_and_report<
     R: Files + Net + Threads + Wait + Clock + Eprint + Sync + AllocGlobal,
     W: LinkWrite,
@@ -196,8 +196,8 @@ fn execute<
     }
 }
 
-/// Opens a trace, and then the image of its run, and says of its steps. That the image cannot be opened is reported by
-/// the command, after what is wrong with the trace.
+/// Opens a trace, and then the image of its run, and reports on its steps. If the image cannot be opened, the command
+/// reports it after what is wrong with the trace.
 fn tell_steps<'a, A: TraceReport, R: Files + AllocGlobal, W: LinkWrite, E: Write>(
     rt: &R,
     replay: &Replay<'a>,
@@ -214,7 +214,7 @@ fn tell_steps<'a, A: TraceReport, R: Files + AllocGlobal, W: LinkWrite, E: Write
     Ok(trace_command(rt.alloc(), trace, file, words, trace_report, out, err))
 }
 
-/// Does what `run FILE` asks for. OUT is opened by the first write to it.
+/// Does what `run FILE` asks for. The first write to OUT opens it.
 fn run_file<
     'a,
     R: Files + Threads + Wait + Clock + Eprint + Sync + AllocGlobal,
@@ -235,7 +235,7 @@ fn run_file<
     Ok(run_image(rt, file, run, terminal, &mut trace, out, err))
 }
 
-/// Runs an image: on threads, or by the sweep. How far the threads are is reported on a terminal.
+/// Runs an image, on threads or by the sweep. The progress of threads is reported on a terminal.
 fn run_image<
     F: Read + Drop,
     T: LinkWrite,
@@ -270,7 +270,7 @@ fn run_image<
     }
 }
 
-/// The machine's size, of the command line's.
+/// The size of the machine, from that of the command line.
 fn config_of(sizes: &Sizes) -> Config
     ensures network { (result.k ≡ sizes.now.k) × (result.c ≡ sizes.now.c) × (result.b ≡ sizes.now.b)
         × (result.r ≡ sizes.now.r) }
@@ -285,7 +285,7 @@ fn config_of(sizes: &Sizes) -> Config
     }
 }
 
-/// Does what `explore FILE` asks for. OUT is opened by the first write to it.
+/// Does what `explore FILE` asks for. The first write to OUT opens it.
 fn explore_file<'a, R: Files + Clock + Eprint + AllocGlobal, W: LinkWrite, E: Write>(
     rt: &R,
     explore: &Explore<'a>,
@@ -307,7 +307,7 @@ fn explore_file<'a, R: Files + Clock + Eprint + AllocGlobal, W: LinkWrite, E: Wr
     Ok(explore_image(rt, file, explore, terminal, &mut trace, out, err))
 }
 
-/// Explores an image. How far the search is is reported on a terminal.
+/// Explores an image. The progress of the search is reported on a terminal.
 fn explore_image<
     F: Read + Drop,
     T: LinkWrite,
@@ -361,7 +361,7 @@ fn explore_watched<F: Read + Drop, T: LinkWrite, G: SearchObserver, W: LinkWrite
     }
 }
 
-/// Does what `hunt FILE` asks for. Each trace is opened by the first write to it. How far the hunt is is reported on a
+/// Does what `hunt FILE` asks for. The first write to a trace opens it. The progress of the hunt is reported on a
 /// terminal.
 fn hunt_file<'a, R: Files + Clock + Eprint + AllocGlobal, W: LinkWrite, E: Write>(
     rt: &R,
@@ -418,7 +418,7 @@ fn hunt_file<'a, R: Files + Clock + Eprint + AllocGlobal, W: LinkWrite, E: Write
     })
 }
 
-/// Does what `debug FILE` asks for. OUT is opened by the first write to it.
+/// Does what `debug FILE` asks for. The first write to OUT opens it.
 fn debug_file<'a, R: Files + Net + Wait + AllocGlobal, W: Write, E: Write>(
     rt: &R,
     session: &Session<'a>,
@@ -457,7 +457,7 @@ fn texts<'a>(alloc: Global, arguments: &'a [String]) -> Result<Vec<&'a str>, All
     Ok(texts)
 }
 
-/// Tells that the arguments could not be read: one of them is no text, or there is no memory.
+/// Reports that the arguments could not be read: one of them is not UTF-8, or there is no memory.
 fn refuse_arguments<E: Write>(kind: ErrorKind, err: &mut E) -> u8 {
     if kind == ErrorKind::OutOfMemory {
         return report_fault(Fault::Memory, err);
@@ -465,8 +465,8 @@ fn refuse_arguments<E: Write>(kind: ErrorKind, err: &mut E) -> u8 {
     refuse("an argument is not UTF-8", err)
 }
 
-/// Tells why the command line is refused, in the words of the command line's parser. Help that was
-/// asked for goes to standard output.
+/// Reports why the command line is refused, in the words of its parser. Help that was asked for goes to standard
+/// output.
 fn refuse_words<W: Write, E: Write>(error: &Error, out: &mut W, err: &mut E) -> u8 {
     let status = status_of(error);
     if status != REFUSED {

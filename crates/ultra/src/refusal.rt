@@ -1,24 +1,24 @@
-//! Why a command is not begun.
+//! Why a command does not begin.
 
 use crate::reports::{Place, report_place};
 use command_io::{Fault, REFUSED, report_fault};
 use std::io::{self, Write};
 
-/// Why a command is not begun.
+/// Why a command does not begin.
 #[derive(Clone, Copy, Debug, Drop)]
 pub(crate) enum Refusal<'a> {
-    /// The file of this path cannot be opened, and this is what the system says of it.
+    /// The file at this path cannot be opened, with this error of the system.
     Closed(&'a str, io::Error),
-    /// OUT is the file that is to be read. Neither is opened.
+    /// OUT is the same file as the one to read. Neither is opened.
     SameFile,
-    /// A witness is asked for, and not where its trace goes, or the other way round.
+    /// A witness is asked for without a file for its trace, or the other way round.
     Half,
-    /// A witness is asked for, and every size.
+    /// A witness and every size are asked for.
     Every,
 }
 
 impl Refusal<'_> {
-    /// Reports it on standard error, and answers the exit status.
+    /// Reports the refusal on standard error, and returns the exit status.
     pub(crate) fn report_fault<E: Write>(self, err: &mut E) -> u8 {
         match self {
             Refusal::Closed(path, error) => {
@@ -33,9 +33,9 @@ impl Refusal<'_> {
     }
 }
 
-/// Tells what is wrong with the command line.
+/// Reports what is wrong with the command line, and returns the exit status.
 pub(crate) fn refuse<E: Write>(what: &str, err: &mut E) -> u8 {
-    // Where standard error fails too, the exit status alone reports it.
+    // If standard error fails too, the exit status alone reports it.
     let _ = writeln!(err, "error: {what}");
     REFUSED
 }

@@ -1,14 +1,14 @@
-//! What is reported of files: which of them a fault is of, and what the system says of it.
+//! What is reported of files: which of them is at fault, and the system's error.
 
 use settings::{Replay, Settings};
 use std::cell::Cell;
 use std::fmt::{self, Display};
 use std::io::{self, ErrorKind, Read, Write};
 
-/// Why the last call on a file failed, as the system says it.
+/// The system's error of the last call on a file that failed.
 pub(crate) type Reason = Cell<Option<io::Error>>;
 
-/// A file or standard output, which leaves why a call on it failed.
+/// A file or standard output. A call on it that fails leaves its error in `reason`.
 #[derive(Drop)]
 pub(crate) struct Explained<'a, T> {
     pub(crate) device: T,
@@ -53,7 +53,7 @@ impl<T: Write> Write for Explained<'_, T> {
     }
 }
 
-/// Standard error, which keeps the first letter of the code that a command reports there.
+/// Standard error. It keeps the first letter of the code that a command reports there.
 #[derive(Drop)]
 pub(crate) struct Reports<'a, E> {
     pub(crate) err: &'a mut E,
@@ -62,7 +62,7 @@ pub(crate) struct Reports<'a, E> {
 
 impl<E: Write> Write for Reports<'_, E> {
     fn write(&mut self, buf: &[u8]) -> io::Result<usize> {
-        // A command writes the line of a code by one call.
+        // A command writes the line of a code in one call.
         if let Some(code) = buf.strip_prefix(b"ultra: ".as_slice()) {
             self.letter = code.first().copied();
         }
@@ -74,7 +74,7 @@ impl<E: Write> Write for Reports<'_, E> {
     }
 }
 
-/// What a fault is of.
+/// What is at fault.
 #[derive(Clone, Copy, Debug, PartialEq, Eq, Drop)]
 pub(crate) enum Place<'a> {
     File(&'a str),
@@ -92,17 +92,17 @@ impl Display for Place<'_> {
     }
 }
 
-/// Says in a second line what a fault is of, and what the system says of it.
+/// Reports in a second line what is at fault, with the system's error if there is one.
 pub(crate) fn report_place<E: Write>(place: Place<'_>, reason: Option<io::Error>, err: &mut E) {
-    // Where standard error fails, the exit status alone reports the fault.
+    // If standard error fails, the exit status alone reports the fault.
     let _ = match reason {
         Some(error) => writeln!(err, "  {place}: {error}"),
         None => writeln!(err, "  {place}"),
     };
 }
 
-/// What the code of this letter is of: a text (A, V), an image (I), a trace (X), or what cannot be opened or read
-/// (`link`). Nothing is said of the others, which are of no file.
+/// What is at fault by the first letter of a code: a text (A, V), an image (I), a trace (X), or what cannot be opened
+/// or read (`link`). None for other codes, which concern no file.
 pub(crate) fn place_of<'a>(settings: &Settings<'a>, letter: u8) -> Option<Place<'a>> {
     match (letter, settings) {
         (b'V' | b'l', Settings::Words(words)) => Some(Place::File(words.file)),
@@ -127,7 +127,7 @@ pub(crate) fn place_of<'a>(settings: &Settings<'a>, letter: u8) -> Option<Place<
     }
 }
 
-/// What the code of this letter is of, where a trace is read and then the image of its run.
+/// What is at fault by the first letter of a code, if a trace is read and then the image of its run.
 fn place_of_replay<'a>(replay: &Replay<'a>, letter: u8) -> Option<Place<'a>> {
     match letter {
         b'X' => Some(Place::File(replay.trace)),
@@ -136,7 +136,7 @@ fn place_of_replay<'a>(replay: &Replay<'a>, letter: u8) -> Option<Place<'a>> {
     }
 }
 
-/// The file of a path, if there is one.
+/// The file at a path, if there is one.
 fn file(path: Option<&str>) -> Option<Place<'_>> {
     match path {
         Some(path) => Some(Place::File(path)),

@@ -1,4 +1,4 @@
-//! Where a hunt's traces go: files of this machine.
+//! The files of this machine to which a hunt's traces go.
 
 ghost use Rattle.std.specs.Prelude.{◌≡◌, ⊤, false, IfOk};
 
@@ -11,27 +11,27 @@ use std::fs::{self, File};
 use std::io::{self, ErrorKind, Write};
 use std::rt::Files;
 
-/// Files whose names are a text, the number of a run and `.trace`.
+/// Files whose names are a prefix, the number of a run and `.trace`.
 #[derive(Drop)]
 pub(crate) struct TraceFiles<'a, R: Files> {
     pub(crate) alloc: Global,
     pub(crate) files: &'a R,
-    /// The image, which no trace is to be written over.
+    /// The image, which no trace may overwrite.
     pub(crate) image: &'a str,
     pub(crate) prefix: &'a str,
-    /// Whether a trace may be written over a file that exists.
+    /// Whether a trace may overwrite a file that exists.
     pub(crate) overwrite: bool,
 }
 
 impl<R: Files> TraceFiles<'_, R> {
-    /// Where the trace of the run of a number goes.
+    /// The path for the trace of the run with this number.
     fn path_of(&self, number: u32) -> Result<String, AllocError> {
         format!(in self.alloc; "{}{number}.trace", self.prefix)
     }
 }
 
-/// A file that is created, or emptied where it may be overwritten, where it is opened. Where it is the image itself it
-/// cannot be opened.
+/// A file that is created when it is opened, or emptied if it may be overwritten. If it is the image itself, it cannot
+/// be opened.
 #[derive(Drop)]
 pub(crate) struct CreateNamed<'a, R> {
     files: &'a R,
@@ -43,12 +43,12 @@ pub(crate) struct CreateNamed<'a, R> {
 impl<'a, R: Files> Open for CreateNamed<'a, R> {
     type Device = R::File;
 
-    // What a file has is known to no contract.
+    // No contract knows what a file holds.
     ghost opens = { λ c file. ⊤ };
 
     fn open(&mut self) -> io::Result<R::File> {
         if !self.overwrite {
-            // So a file that has come since it was looked for is not lost.
+            // So a file that was created after the check is not lost.
             return File::create_new(self.files, self.path.as_str());
         }
         if are_one_file(self.files, self.image, self.path.as_str()) {
@@ -61,7 +61,7 @@ impl<'a, R: Files> Open for CreateNamed<'a, R> {
 impl<'a, R: Files> Traces for TraceFiles<'a, R> {
     type Writer = Meter<OnFirstWrite<CreateNamed<'a, R>>>;
 
-    // Which files there are, and what they have, is known to no contract.
+    // No contract knows which files there are, and what they hold.
     ghost finds = { λ traces number is_there. ⊤ };
 
     ghost opens = { λ traces number writer after. ⊤ };
@@ -78,7 +78,7 @@ impl<'a, R: Files> Traces for TraceFiles<'a, R> {
 
     fn tell_there<E: Write>(&self, number: u32, err: &mut E) {
         let prefix = self.prefix;
-        // Where standard error fails too, the exit status alone reports it.
+        // If standard error fails too, the exit status alone reports it.
         let _ = writeln!(err, "error: {prefix}{number}.trace exists: use --overwrite");
     }
 
