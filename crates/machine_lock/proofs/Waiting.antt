@@ -154,7 +154,7 @@ module _ (opening : MachineLists) where
       let sum : idle + more ≡ first + (rest + more) = omega (arith, before) in
       (w.0, w.1, rest + more, w.3, sum, w.5, waited_more w.1 between new earlier rest s answer w.6 waits on)
 
-  -- Rounds that leave the processor waiting, and then others that do, are such rounds together.
+  -- If rounds leave the processor waiting, and others after them do, all of them together do.
   waited_on : (old between new : Moment) (earlier later : List Step) (i j : ℕ) → HaveWaited opening old earlier i between →
       HaveWaited opening between later j new → HaveWaited opening old (earlier ++ later) (i + j) new
   waited_on old between new [] later i j w on =

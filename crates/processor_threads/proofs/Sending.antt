@@ -308,7 +308,7 @@ module _ (opening : MachineLists) (old new : Moment) (steps : List Step) (r : Ro
       applied opening gone.between new r.answer gone.last end gone.round none
       (waits_given opening old gone.between gone.earlier gone.idle_earlier gone.waited ∙ sent)
 
-  -- Rounds that are said to have stopped the processor have done so.
+  -- If the result says that the processor has stopped, the pass ends with its stop.
   stops_all : (done : RoundsDone) → result_of r ≡ Ok done → done.stopped ≡ true → EndsWithStop new.pass
   stops_all done e stop =
       let same = faultless (fault_of_round r.answer) _ done e in

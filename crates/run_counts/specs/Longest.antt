@@ -4,7 +4,7 @@ use Rattle.run_counts.specs.declared.longest.Held.{Held}
 use Rattle.run_counts.specs.declared.longest.Held.TheVariants.{Requests, Records, Replies}
 use Rattle.run_counts.specs.declared.longest.Longest.{Longest}
 
--- the numbers for lists that were always empty
+-- all numbers 0, as before the first step
 abbrev pub no_longest : Longest
 no_longest = record { requests = replicate 6 0; records = replicate 6 0; replies = replicate 6 0 }
 

@@ -30,7 +30,7 @@ pub struct Longest {
 }
 
 impl Longest {
-    /// The numbers for lists that were always empty.
+    /// All numbers 0, as before the first step.
     pub fn none() -> Self
         ensures { result ≡ no_longest }
     {

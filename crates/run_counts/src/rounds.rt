@@ -50,7 +50,7 @@ fn after(begun: Begun, step: &Step) -> Begun
     }
 }
 
-/// Whether a round asks for such a step.
+/// Whether a round asks for the step at all.
 fn is_asked(step: &Step) -> bool
     ensures { result ≡ is_asked step.now }
 {
