@@ -45,7 +45,7 @@ fn push_advice(alloc: Global, text: &mut String, hint: &Hint<'_>) -> Result<(), 
         Hint::Colon => text.push_str("there is no such instruction; a label ends with a colon"),
         Hint::Operands(form) => write!(text, "the operands are {form}"),
         Hint::Comma(form) => write!(text, "a comma is missing; the operands are {form}"),
-        Hint::NoOperand => text.push_str("no operand stands here"),
+        Hint::NoOperand => text.push_str("no operand belongs here"),
         Hint::Wants(wanted) => push_wanted(text, wanted),
         Hint::Bracket => text.push_str("a bracket is missing; an address is i(rs1) or (rs1)"),
         Hint::OutOfRange(wanted) => push_out_of_range(text, wanted),
@@ -59,7 +59,7 @@ fn push_place(alloc: Global, text: &mut String, hint: &Hint<'_>) -> Result<(), A
 {
     match *hint {
         Hint::UpperBits(upper) => push_upper(text, upper),
-        Hint::OutsideCode => text.push_str("instructions stand in .code alone"),
+        Hint::OutsideCode => text.push_str("instructions belong in .code"),
         Hint::Unaligned(address) => push_unaligned(alloc, text, address),
         Hint::Odd => text.push_str("the distance of a target is even"),
         _ => push_label(alloc, text, hint),
@@ -95,7 +95,7 @@ fn push_upper(text: &mut String, upper: u64) -> Result<(), AllocError>
 fn upper_front() -> &'static str
     ensures { result.now ≡ upper_front }
 {
-    "20 bits stand here, 0 to 1048575; the upper ones of this word are "
+    "this takes 20 bits, 0 to 1048575; the upper 20 of this word are "
 }
 
 /// Appends how far away a label is.
@@ -116,7 +116,7 @@ fn push_distance(text: &mut String, distance: u64, wanted: Wanted) -> Result<(),
 fn push_line_of(text: &mut String, line: usize) -> Result<(), AllocError>
     ensures { OnOk result (string_bytes text.new ≡ string_bytes text.old ++ label_text (StandsOn line)) }
 {
-    push_count_between(text, "the label stands on line ", line, " already")
+    push_count_between(text, "line ", line, " has this label already")
 }
 
 /// Appends a label with a similar name.
@@ -138,7 +138,7 @@ fn push_room(text: &mut String, section: Section, room: u32, taken: u64) -> Resu
         room,
         " bytes, and ",
         taken,
-        " stand there before",
+        " are used before this",
     )
 }
 
@@ -172,17 +172,17 @@ fn push_wanted(text: &mut String, wanted: Wanted) -> Result<(), AllocError>
         Wanted::Register => text.push_str(
             "there is no such register; registers are x0 to x31 and names such as a0",
         ),
-        Wanted::Lower => push_range(text, "a number", wanted, " or %lo(label) stands here"),
-        Wanted::Upper => push_range(text, "a number", wanted, " or %hi(label) stands here"),
-        Wanted::Address => text.push_str("an address stands here, i(rs1)"),
-        Wanted::Base => text.push_str("a register in brackets stands here, (rs1)"),
-        Wanted::Branch => push_range(text, "a label or a number", wanted, " stands here"),
-        Wanted::Jump => push_range(text, "a label or a number", wanted, " stands here"),
-        Wanted::Word => push_range(text, "a label or a number", wanted, " stands here"),
-        Wanted::Shift => push_range(text, "a number", wanted, " stands here"),
-        Wanted::Fence => push_range(text, "a number", wanted, " stands here"),
-        Wanted::Byte => push_range(text, "a number", wanted, " stands here"),
-        Wanted::Count => push_range(text, "a number", wanted, " stands here"),
+        Wanted::Lower => push_range(text, "a number", wanted, " or %lo(label) belongs here"),
+        Wanted::Upper => push_range(text, "a number", wanted, " or %hi(label) belongs here"),
+        Wanted::Address => text.push_str("an address belongs here, i(rs1)"),
+        Wanted::Base => text.push_str("a register in brackets belongs here, (rs1)"),
+        Wanted::Branch => push_range(text, "a label or a number", wanted, " belongs here"),
+        Wanted::Jump => push_range(text, "a label or a number", wanted, " belongs here"),
+        Wanted::Word => push_range(text, "a label or a number", wanted, " belongs here"),
+        Wanted::Shift => push_range(text, "a number", wanted, " belongs here"),
+        Wanted::Fence => push_range(text, "a number", wanted, " belongs here"),
+        Wanted::Byte => push_range(text, "a number", wanted, " belongs here"),
+        Wanted::Count => push_range(text, "a number", wanted, " belongs here"),
     }
 }
 

@@ -109,8 +109,8 @@ foreign_advice DotGlobl = not_needed (codes "all names are the text's own")
 foreign_advice DotGlobal = not_needed (codes "all names are the text's own")
 foreign_advice DotAlign = not_needed (codes "data go on where they ended")
 foreign_advice DotOption = not_needed (codes "each line has the instruction that it names")
-foreign_advice DotType = not_needed (codes "names stand for places alone")
-foreign_advice DotSize = not_needed (codes "names stand for places alone")
+foreign_advice DotType = not_needed (codes "a label names only a place")
+foreign_advice DotSize = not_needed (codes "a label names only a place")
 
 abbrev pub foreigners : List Foreign
 foreigners =

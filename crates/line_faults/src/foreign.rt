@@ -231,7 +231,7 @@ impl Foreign {
             }
             Foreign::DotAlign => Hint::NotNeeded("data go on where they ended"),
             Foreign::DotOption => Hint::NotNeeded("each line has the instruction that it names"),
-            Foreign::DotType | Foreign::DotSize => Hint::NotNeeded("names stand for places alone"),
+            Foreign::DotType | Foreign::DotSize => Hint::NotNeeded("a label names only a place"),
         }
     }
 

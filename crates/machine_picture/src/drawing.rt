@@ -71,7 +71,7 @@ fn push_head(text: &mut String, view: &MachineView) -> Result<(), AllocError> {
     text.push_str(STYLE)?;
     write!(
         text,
-        "<text x=\"10\" y=\"15\">the machine behind {steps} steps; k {k} c {c} b {b} r {r}</text>"
+        "<text x=\"10\" y=\"15\">the machine after {steps} steps; k {k} c {c} b {b} r {r}</text>"
     )?;
     text.push('\n')
 }

@@ -74,14 +74,14 @@ static ONE_FAULT: [(&str, &str); 40] = [
         "add a0 a1, a2",
         "line 1 column 5: A2 a0 a1: a comma is missing; the operands are rd, rs1, rs2",
     ),
-    ("ecall a0", "line 1 column 7: A2 a0: no operand stands here"),
+    ("ecall a0", "line 1 column 7: A2 a0: no operand belongs here"),
     (
         "lw a0, 4(sp",
         "line 1 column 8: A2 4(sp: a bracket is missing; an address is i(rs1) or (rs1)",
     ),
     (
         "lw a0, 4",
-        "line 1 column 8: A2 4: an address stands here, i(rs1)",
+        "line 1 column 8: A2 4: an address belongs here, i(rs1)",
     ),
     (
         "lw a0, 4( s12 )",
@@ -89,29 +89,29 @@ static ONE_FAULT: [(&str, &str); 40] = [
     ),
     (
         "amoadd.w a0, a1, 0(a2)",
-        "line 1 column 18: A2 0: a register in brackets stands here, (rs1)",
+        "line 1 column 18: A2 0: a register in brackets belongs here, (rs1)",
     ),
     (
         "addi a0, a1, +1",
-        "line 1 column 14: A2 +1: a number from -2048 to 2047 or %lo(label) stands here",
+        "line 1 column 14: A2 +1: a number from -2048 to 2047 or %lo(label) belongs here",
     ),
     (
         "lui a0, start",
-        "line 1 column 9: A2 start: a number from 0 to 1048575 or %hi(label) stands here",
+        "line 1 column 9: A2 start: a number from 0 to 1048575 or %hi(label) belongs here",
     ),
     (
         "jal ra, 8x",
-        "line 1 column 9: A2 8x: a label or a number from -1048576 to 1048574 stands here",
+        "line 1 column 9: A2 8x: a label or a number from -1048576 to 1048574 belongs here",
     ),
     (
         ".byte 1, start",
-        "line 1 column 10: A2 start: a number from -128 to 255 stands here",
+        "line 1 column 10: A2 start: a number from -128 to 255 belongs here",
     ),
     (
         ".local\nebreak",
-        "line 2 column 1: A2 ebreak: instructions stand in .code alone",
+        "line 2 column 1: A2 ebreak: instructions belong in .code",
     ),
-    (".code 1", "line 1 column 7: A2 1: no operand stands here"),
+    (".code 1", "line 1 column 7: A2 1: no operand belongs here"),
     // Ranges.
     (
         "addi a0, a0, 2048",
@@ -127,7 +127,7 @@ static ONE_FAULT: [(&str, &str); 40] = [
     ),
     (
         "lui a0, 0x12345678",
-        "line 1 column 9: A3 0x12345678: 20 bits stand here, 0 to 1048575; the upper ones of this word are 74565",
+        "line 1 column 9: A3 0x12345678: this takes 20 bits, 0 to 1048575; the upper 20 of this word are 74565",
     ),
     (
         ".word 1, 4294967296",
@@ -160,7 +160,7 @@ static ONE_FAULT: [(&str, &str); 40] = [
     // Labels and room.
     (
         "a: ebreak\n\n a : ebreak",
-        "line 3 column 2: A4 a: the label stands on line 1 already",
+        "line 3 column 2: A4 a: line 1 has this label already",
     ),
     (
         "loop: jal ra, lop",
@@ -176,7 +176,7 @@ static ONE_FAULT: [(&str, &str); 40] = [
     ),
     (
         ".zero 65535\n.zero 2",
-        "line 2 column 1: A6 .zero: .code has room for 65536 bytes, and 65535 stand there before",
+        "line 2 column 1: A6 .zero: .code has room for 65536 bytes, and 65535 are used before this",
     ),
 ];
 
@@ -235,8 +235,8 @@ static NOT_NEEDED: [(&str, &str); 6] = [
     (".global", "all names are the text's own"),
     (".align", "data go on where they ended"),
     (".option", "each line has the instruction that it names"),
-    (".type", "names stand for places alone"),
-    (".size", "names stand for places alone"),
+    (".type", "a label names only a place"),
+    (".size", "a label names only a place"),
 ];
 
 #[test]
@@ -301,11 +301,11 @@ again:  addi a0, x0, 5
 static MANY_FAULTS: &str = "\
 line 1 column 21: A2 x32: there is no such register; registers are x0 to x31 and names such as a0
 line 2 column 17: A5 start: there is no such label
-line 4 column 1: A4 again: the label stands on line 2 already
+line 4 column 1: A4 again: line 2 has this label already
 line 6 column 21: A3 again: the distance of a target is even
 line 7 column 1: A1 \\xc3\\xa9dit:: a label's name is a letter or _, and then letters, digits and _
-line 8 column 9: A6 .zero: .code has room for 65536 bytes, and 16 stand there before
-line 9 column 9: A6 ebreak: .code has room for 65536 bytes, and 65552 stand there before
+line 8 column 9: A6 .zero: .code has room for 65536 bytes, and 16 are used before this
+line 9 column 9: A6 ebreak: .code has room for 65536 bytes, and 65552 are used before this
 7 faults
 ";
 
@@ -316,8 +316,8 @@ fn lists_each_line(rt: HostRuntime) -> Result<(), Fail> {
 
 /// A label that stands on three lines: both of the later ones are reported the first.
 static ON_THREE_LINES: &str = "\
-line 2 column 1: A4 a: the label stands on line 1 already
-line 3 column 1: A4 a: the label stands on line 1 already
+line 2 column 1: A4 a: line 1 has this label already
+line 3 column 1: A4 a: line 1 has this label already
 2 faults
 ";
 

@@ -110,7 +110,7 @@ fn behind_all(rt: HostRuntime) -> Result<(), Fail> {
     let image = image_of(alloc, ADD_AT_X12)?;
     let trace = trace_of(alloc, (2, 4, 4), &FOUR_ADDS)?;
     let all = run(alloc, trace.as_slice(), Ok(image.as_slice()), 1, None);
-    assert!(rt; str::from_utf8(all.out.as_slice())?.contains("behind 27 steps; k 2 c 4 b 4 r 1<"));
+    assert!(rt; str::from_utf8(all.out.as_slice())?.contains("after 27 steps; k 2 c 4 b 4 r 1<"));
     for step in [27, 28, u32::MAX] {
         let Ran { out, status, .. } = run(
             alloc,
