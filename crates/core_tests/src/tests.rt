@@ -1,4 +1,4 @@
-//! Values from the RISC-V manual, and worked out by hand.
+//! Expected values come from the RISC-V manual, or are worked out by hand.
 
 mod decoding;
 mod functions;
@@ -13,7 +13,7 @@ mod turns;
 use std::fmt::Debug;
 use std::process::Abort;
 
-/// Ends the test where the two differ, and says them and the case that they are of ([`assert_same!`]).
+/// Fails the test if the two values differ, and prints both and their case ([`assert_same!`]).
 fn same<T: PartialEq + Debug, A: Debug>(rt: &impl Abort, found: &T, wanted: &T, at: &A) {
     assert_eq!(rt; found, wanted, "{at:?}");
 }

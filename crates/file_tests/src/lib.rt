@@ -1,7 +1,7 @@
-//! Tests of links, images and traces: devices that fail at each call in turn, images and traces by hand, and what is
-//! refused of them.
+//! Tests of links, images and traces: devices that fail at each call in turn, and images and traces made by hand, both
+//! accepted and refused.
 //!
-//! They stand in a crate of their own, so that what stands on these parts need not wait for them.
+//! The tests are a crate of their own, so that crates above these parts need not wait for them.
 #![tactic(auto)]
 
 #[cfg(test)]

@@ -1,7 +1,7 @@
-//! Tests of texts: lines of the assembler's language, images of them and the lines of code,
-//! the list of a text's faults, and what all commands print.
+//! Tests of texts: lines of the assembly language, the images of texts and their disassembly, the list of a text's
+//! faults, and what all commands print.
 //!
-//! They stand in a crate of their own, so that what stands on these parts need not wait for them.
+//! The tests are a crate of their own, so that crates above these parts need not wait for them.
 #![tactic(auto)]
 
 #[cfg(test)]

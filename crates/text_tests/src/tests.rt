@@ -1,4 +1,4 @@
-//! Texts and what becomes of them are worked out by hand.
+//! Texts, with expected images and messages worked out by hand.
 
 mod asm;
 mod assembling;
@@ -15,7 +15,7 @@ use std::alloc::Global;
 use std::fmt::Debug;
 use std::process::Abort;
 
-/// Ends the test where the two differ, and says them and the case that they are of ([`assert_same!`]).
+/// Fails the test if the two values differ, and prints both and their case ([`assert_same!`]).
 fn same<T: PartialEq + Debug, A: Debug>(rt: &impl Abort, found: &T, wanted: &T, at: &A) {
     assert_eq!(rt; found, wanted, "{at:?}");
 }

@@ -1,4 +1,4 @@
-//! Words of the manual, and others assembled by hand from its formats.
+//! Words from the manual, and others encoded by hand from its formats.
 
 ghost use Rattle.std.specs.Prelude.{◌≡◌, ◌<◌};
 
@@ -124,7 +124,7 @@ fn memory(rt: HostRuntime) {
     }
 }
 
-/// Offsets of branches and jumps count steps of two bytes.
+/// The immediate of a branch or a jump counts units of two bytes.
 #[test]
 fn control(rt: HostRuntime) {
     let jal = Insn::Jal {

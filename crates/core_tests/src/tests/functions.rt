@@ -1,4 +1,4 @@
-//! Values of the functions at the ends of the signed and the unsigned words, and compositions.
+//! Values of functions at the limits of signed and unsigned words, and compositions of functions.
 
 ghost use Rattle.std.specs.Prelude.{◌≤◌, ◌≤ℤ◌};
 
@@ -225,7 +225,7 @@ fn ranges_keep_their_ends(rt: HostRuntime) {
 #[test]
 fn compositions_are_of_the_kind_said(rt: HostRuntime) {
     let rows = [
-        // One kind.
+        // Both functions are of one kind.
         (Phi::Add(0xFFFF_FFFF), Phi::Add(1), Some(Phi::Add(0))),
         (
             Phi::Add(0x4000_0000),
@@ -259,7 +259,7 @@ fn compositions_are_of_the_kind_said(rt: HostRuntime) {
             clamp_unsigned(7, 9),
             Some(clamp_unsigned(7, 8)),
         ),
-        // Two kinds, where one is an identity or constant.
+        // Two kinds, and one function is an identity or a constant.
         (Phi::Add(0), clamp(-4, 4), Some(clamp(-4, 4))),
         (Phi::Add(5), clamp(9, 9), Some(clamp(9, 9))),
         (Phi::Add(5), clamp_unsigned(0, u32::MAX), Some(Phi::Add(5))),
@@ -268,7 +268,7 @@ fn compositions_are_of_the_kind_said(rt: HostRuntime) {
             Phi::Add(5),
             Some(Phi::Bits { and: 0, xor: 2 }),
         ),
-        // Two kinds, and neither is.
+        // Two kinds, and neither function is an identity or a constant.
         (clamp(-2_147_483_648, 3), Phi::Add(1), None),
         (Phi::Add(1), clamp(-2_147_483_648, 3), None),
         (

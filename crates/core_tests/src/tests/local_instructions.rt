@@ -1,4 +1,4 @@
-//! Runs of local instructions on a core by itself. The words come from the manual, and what they do is worked out by
+//! Runs of local instructions on a single core. The words come from the manual, and their results are worked out by
 //! hand.
 
 use flat_machine::{CODE_START, Cause, Setting, Status};
@@ -31,7 +31,7 @@ struct Rig {
     core: Core,
 }
 
-/// Processor 0 of two with four shared words, before the first of these words. Its registers are 0.
+/// Processor 0 of two, with four shared words, about to execute the first of these words. Its registers are 0.
 fn before(rt: &(impl Abort + AllocGlobal), words: &[u32]) -> Result<Rig, Fail> {
     let setting = Setting {
         number: 0,
@@ -54,7 +54,7 @@ impl Rig {
     }
 }
 
-/// Looks at all retirements: where each stood, what it wrote to a register, and what it gave to the console.
+/// Compares all retirements with these rows: the `pc` of each, its result and its byte for the console.
 fn are_listed(rt: &impl Abort, list: &Retirements, rows: &[(u32, Option<u32>, Option<u8>)]) {
     assert_same!(rt; list.len(), rows.len());
     for (retired, &(pc, result, out)) in list.as_slice().iter().zip(rows) {
@@ -64,7 +64,7 @@ fn are_listed(rt: &impl Abort, list: &Retirements, rows: &[(u32, Option<u32>, Op
     }
 }
 
-/// A reference to a shared word is not taken, and what stands before it only once.
+/// A run ends before a reference to a shared word. A second run retires nothing more.
 #[test]
 fn a_shared_word_ends_it(rt: HostRuntime) -> Result<(), Fail> {
     let mut rig = before(&rt, &ADDS)?;
@@ -84,7 +84,7 @@ fn a_shared_word_ends_it(rt: HostRuntime) -> Result<(), Fail> {
     Ok(())
 }
 
-/// So does a list that is full, and a byte for the console, where both do the byte.
+/// A run also ends if the list is full, and after a byte for the console. If both hold, it reports the byte.
 #[test]
 fn bytes_and_full_lists_end_it(rt: HostRuntime) -> Result<(), Fail> {
     let mut rig = before(&rt, &PRINTS)?;
@@ -115,7 +115,7 @@ fn bytes_and_full_lists_end_it(rt: HostRuntime) -> Result<(), Fail> {
     Ok(())
 }
 
-/// What stops a processor is not taken: the `ecall` that halts, as `x17` is 0, and `ebreak`.
+/// A run ends before an instruction that stops the processor: `ecall`, which halts because `x17` is 0, and `ebreak`.
 #[test]
 fn stops_end_it(rt: HostRuntime) -> Result<(), Fail> {
     for word in [0x0000_0073, 0x0010_0073] {
@@ -129,7 +129,7 @@ fn stops_end_it(rt: HostRuntime) -> Result<(), Fail> {
     Ok(())
 }
 
-/// A core that has stopped takes nothing, and one that runs goes on from where it was copied.
+/// A core that has stopped takes no instruction. A copy made before the stop goes on from there.
 #[test]
 fn stopped_cores_and_copies(rt: HostRuntime) -> Result<(), Fail> {
     let mut rig = before(&rt, &ADDS)?;

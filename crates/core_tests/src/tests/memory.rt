@@ -1,4 +1,4 @@
-//! Local memory and code, with little-endian numbers by hand, and the words of a module.
+//! Local memory and code, with little-endian numbers worked out by hand, and the words of a module.
 
 use flat_machine::{Fault, Size};
 use local_memory::{Code, Local};
@@ -39,7 +39,7 @@ fn local_accesses(rt: HostRuntime) -> Result<(), Fail> {
     Ok(())
 }
 
-/// ECALL is 0x00000073.
+/// The code is a word of zeros, which is no instruction, and `ecall`, which is 0x00000073.
 #[test]
 fn code_accesses(rt: HostRuntime) -> Result<(), Fail> {
     let code = Code::new(rt.alloc(), &[0, 0, 0, 0, 0x73, 0, 0, 0])?;
@@ -59,7 +59,7 @@ fn code_accesses(rt: HostRuntime) -> Result<(), Fail> {
     Ok(())
 }
 
-/// Each request gives the word before, and leaves the word after. Other places stay.
+/// Each request returns the old value of a word and leaves the new one. The other words keep their values.
 #[test]
 fn words_are_served(rt: HostRuntime) -> Result<(), Fail> {
     let mut module = Module::new(rt.alloc(), 3)?;
@@ -81,7 +81,7 @@ fn words_are_served(rt: HostRuntime) -> Result<(), Fail> {
     Ok(())
 }
 
-/// A module has the words that were asked for, none more.
+/// A module has exactly the number of words asked for, and all are 0.
 #[test]
 fn places(rt: HostRuntime) -> Result<(), Fail> {
     for words in [0_u32, 1, 262_144] {

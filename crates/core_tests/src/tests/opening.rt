@@ -1,4 +1,4 @@
-//! What small layouts open with, by hand.
+//! The ports and modules with which a machine starts on a small layout, worked out by hand.
 
 ghost use Rattle.std.specs.Prelude.{◌≡◌, ◌≤◌, length};
 
@@ -17,7 +17,7 @@ const TWO: Config = Config {
     shared_words: 5,
 };
 
-/// Each processor stands at the entry, with the local bytes and its own number.
+/// Each processor starts at the entry, with the layout's local bytes and its own number.
 #[test]
 fn ports(rt: HostRuntime) -> Result<(), Fail> {
     let mut local = Bytes::new(rt.alloc());
@@ -48,7 +48,7 @@ fn ports(rt: HostRuntime) -> Result<(), Fail> {
     Ok(())
 }
 
-/// Words go round the modules, and the last of the bytes is half a word.
+/// Consecutive words go to the modules in turn. The last two bytes are the lower half of a word.
 #[test]
 fn modules(rt: HostRuntime) -> Result<(), Fail> {
     let bytes = [

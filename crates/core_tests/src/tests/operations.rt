@@ -1,4 +1,4 @@
-//! Each function on values from the manual.
+//! Results of instructions, by the definitions of the manual.
 
 use flat_machine::Size;
 use hart_ops::{
@@ -22,7 +22,7 @@ fn operations_on_registers(rt: HostRuntime) {
     assert!(rt; !is_branch_taken(BranchOp::Bltu, 0xFFFF_FFFF, 0));
 }
 
-/// Two operands, and what each operation of extension M gives.
+/// Two operands, and the result of each operation of extension M on them.
 struct Row {
     a: u32,
     b: u32,
@@ -39,7 +39,7 @@ macro_rules! rows {
     };
 }
 
-/// The overflow, a divisor of zero, and each sign of each operand.
+/// The overflow of a division, a divisor of zero, and operands of each sign.
 static PRODUCTS_AND_QUOTIENTS: [Row; 9] = rows![
     // a        b           mul         mulh        mulhsu      mulhu       div         divu        rem         remu
     0x8000_0000 0xFFFF_FFFF 0x8000_0000 0           0x8000_0000 0x7FFF_FFFF 0x8000_0000 0           0           0x8000_0000

@@ -27,8 +27,8 @@ struct Rig {
     port: Port,
 }
 
-/// Processor 2 of four with sixteen shared words, before this one instruction. `x1` is the address
-/// of the shared word 2, `x2` is 5, and the other registers are 0.
+/// Processor 2 of four, with sixteen shared words, about to execute this one instruction. `x1` is the address of
+/// shared word 2, `x2` is 5, and the other registers are 0.
 fn before(rt: &(impl Abort + AllocGlobal), word: u32) -> Result<Rig, Fail> {
     let setting = Setting {
         number: 2,
@@ -44,32 +44,32 @@ fn before(rt: &(impl Abort + AllocGlobal), word: u32) -> Result<Rig, Fail> {
 }
 
 impl Rig {
-    /// Begins a turn of a port that runs and is not open.
+    /// Begins a turn of a processor that runs and has no open reference.
     fn begin(&mut self, rt: &impl Abort) -> Begun {
         assert!(rt; self.port.is_running());
         assert!(rt; !self.port.is_open());
         self.port.begin(&self.code)
     }
 
-    /// The core, which is here.
+    /// The core, which is in its port.
     fn core(&self, rt: &impl Abort) -> &Core {
         self.port.core().expect(rt, "the core is here")
     }
 
-    /// Writes a register of the core, which is here.
+    /// Writes a register of the core, which is in its port.
     fn poke_register(&mut self, rt: &impl Abort, register: u8, value: u32) -> bool {
         assert!(rt; !self.port.is_away());
         self.port.poke_register(register, value)
     }
 
-    /// Writes a byte of the local memory of the core, which is here.
+    /// Writes a byte of the local memory of the core, which is in its port.
     fn poke_byte(&mut self, rt: &impl Abort, address: u32, value: u8) -> bool {
         assert!(rt; !self.port.is_away());
         self.port.poke_byte(address, value)
     }
 }
 
-/// A local instruction is done at once.
+/// A local instruction retires at once.
 #[test]
 fn local_instruction(rt: HostRuntime) -> Result<(), Fail> {
     let mut rig = before(&rt, ADDI)?;
@@ -91,7 +91,7 @@ fn local_instruction(rt: HostRuntime) -> Result<(), Fail> {
     Ok(())
 }
 
-/// A reference opens the port and changes nothing else. It is finished with the word that it found.
+/// A reference opens the port and changes nothing else: `pc` and the register are not written yet.
 #[test]
 fn reference(rt: HostRuntime) -> Result<(), Fail> {
     let mut rig = before(&rt, AMOADD)?;
@@ -107,7 +107,7 @@ fn reference(rt: HostRuntime) -> Result<(), Fail> {
     Ok(())
 }
 
-/// What stops a processor: a halt with a byte, and a fault. `pc` stays.
+/// A halt or a fault stops the processor and leaves `pc` as it was.
 #[test]
 fn stops(rt: HostRuntime) -> Result<(), Fail> {
     for (word, cause, status) in [
@@ -129,8 +129,8 @@ fn stops(rt: HostRuntime) -> Result<(), Fail> {
     Ok(())
 }
 
-/// Registers 1 to 31, and `pc` as 32 where the value is divisible by 4: the register, the value,
-/// whether it is written, and `pc` then.
+/// A poke writes registers 1 to 31 and, as register 32, `pc` if the value is divisible by 4. Each row has the register,
+/// the value, whether it is written, and `pc` afterwards.
 #[test]
 fn registers_are_poked(rt: HostRuntime) -> Result<(), Fail> {
     let mut rig = before(&rt, 0)?;
@@ -155,7 +155,7 @@ fn registers_are_poked(rt: HostRuntime) -> Result<(), Fail> {
     Ok(())
 }
 
-/// Bytes of local memory, and no others.
+/// A poke writes bytes of local memory, and no others.
 #[test]
 fn bytes_are_poked(rt: HostRuntime) -> Result<(), Fail> {
     let mut rig = before(&rt, 0)?;
@@ -174,7 +174,7 @@ fn bytes_are_poked(rt: HostRuntime) -> Result<(), Fail> {
     Ok(())
 }
 
-/// A core that is taken out of its port is no longer there. It goes on by itself, and can be put back.
+/// A core that is taken out of its port is away. It takes instructions by itself, and can be put back.
 #[test]
 fn cores_are_taken_and_put(rt: HostRuntime) -> Result<(), Fail> {
     let mut rig = before(&rt, ADDI)?;

@@ -1,4 +1,4 @@
-//! Rows of the table, and the small types that all parts share: sizes, faults, causes, outcomes.
+//! Rows of the instruction table, and the small types that all parts share: sizes, faults, causes and outcomes.
 
 use flat_machine::{Cause, Config, Fault, MAX_STAGES, Size, Status};
 use messages::Seconds;
@@ -7,7 +7,7 @@ use std::test::Fail;
 use steps::Outcome;
 use test_support::assert_same;
 
-/// Masks and matches as the manual's listing has them.
+/// Masks and matches come from the manual's listings of instructions.
 #[test]
 fn rows_of_instructions(rt: HostRuntime) -> Result<(), Fail> {
     let rd = Register::new(1);
@@ -58,7 +58,7 @@ fn rows_of_instructions(rt: HostRuntime) -> Result<(), Fail> {
     Ok(())
 }
 
-/// Each number at its limits, and one past them.
+/// Each size of a machine at its limits, and one past them.
 #[test]
 fn limits(rt: HostRuntime) {
     for (k, c, b, r, shared_words, is_within) in [
@@ -92,7 +92,7 @@ fn limits(rt: HostRuntime) {
     }
 }
 
-/// Each stage doubles the machine.
+/// Each stage doubles the number of processors.
 #[test]
 fn processors(rt: HostRuntime) {
     for (k, processors) in [(0, 1), (1, 2), (2, 4), (3, 8), (4, 16), (5, 32), (6, 64)] {
@@ -138,7 +138,7 @@ fn numbers(rt: HostRuntime) {
     }
 }
 
-/// A stop leaves the status that says its cause.
+/// The status after a stop shows its cause.
 #[test]
 fn status_of_each_cause(rt: HostRuntime) {
     for (cause, status) in [
@@ -154,7 +154,7 @@ fn status_of_each_cause(rt: HostRuntime) {
     }
 }
 
-/// Of all outcomes one is that of a step that did nothing.
+/// `Stalled` is the only outcome of a step that did nothing.
 #[test]
 fn one_outcome_is_stalled(rt: HostRuntime) {
     assert!(rt; Outcome::Stalled.is_stalled());

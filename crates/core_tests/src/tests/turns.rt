@@ -1,4 +1,4 @@
-//! Single turns. The words and the values come from the manual.
+//! Single turns. The words and values come from the manual.
 
 mod faulting;
 mod local;
@@ -22,9 +22,8 @@ struct Rig {
     core: Core,
 }
 
-/// Processor 2 of four with sixteen shared words. It stands before this one instruction, with
-/// these values in `x1` and `x2` and 0 in the other registers, and its local memory begins with
-/// these bytes.
+/// Processor 2 of four, with sixteen shared words, about to execute this one instruction. `x1` and `x2` have these
+/// values, and the other registers are 0. Local memory begins with these bytes.
 fn at_word(
     rt: &(impl Abort + AllocGlobal),
     word: u32,
@@ -46,7 +45,7 @@ fn at_word(
 }
 
 impl Rig {
-    /// Takes one turn, in which a shared word has this value.
+    /// Takes one turn. A reference to a shared word finds this value there.
     fn turn(&mut self, reply: u32) -> Event {
         match self.core.decide(&self.code) {
             Decision::Local => Event::Retired(self.core.take_local(&self.code)),
@@ -61,8 +60,7 @@ impl Rig {
         Event::Stopped(cause)
     }
 
-    /// Looks at `pc` and at all registers: they are 0 but for `x1`, `x2` and one more, if that is
-    /// not register 0.
+    /// Checks `pc` and all registers: `x1`, `x2`, one more unless it is register 0, and 0 in the others.
     fn stands(
         &self,
         rt: &impl Abort,

@@ -1,4 +1,4 @@
-//! Images by hand: the 88 bytes of one instruction, with each field changed, and files of several
+//! Images made by hand: the 88 bytes of one instruction, with each field changed in turn, and files of several
 //! segments.
 
 mod accepting;
@@ -15,7 +15,7 @@ use std::alloc::{AllocError, AllocGlobal, Global};
 use std::process::Abort;
 use test_support::{EBREAK, assert_same, layout_text, with_bytes};
 
-/// A segment of a file that is made for a test: its `p_vaddr`, `p_offset`, `p_filesz`, `p_memsz` and `p_flags`.
+/// A segment of a file made for a test: its `p_vaddr`, `p_offset`, `p_filesz`, `p_memsz` and `p_flags`.
 type Part = (u32, u32, u32, u32, u32);
 
 /// The size of a machine with this many shared words.
@@ -29,28 +29,28 @@ fn config(shared_words: u32) -> Config {
     }
 }
 
-/// What is read of a file.
+/// The result of reading a file.
 fn read(alloc: Global, file: &[u8], shared_words: u32) -> Result<Image, ImageError> {
     read_image(alloc, &mut Meter::new(file), &config(shared_words))
 }
 
-/// Compares what is said of a file.
+/// Compares the report on a file.
 fn compare(rt: &(impl Abort + AllocGlobal), file: &[u8], shared_words: u32, wanted: &str) {
     let text = reported(rt.alloc(), file, shared_words).expect(rt, "memory");
     assert_same!(rt; text.as_str(), wanted);
 }
 
-/// The error that a file gives; none where it is accepted.
+/// The error of a file, or none if it is accepted.
 fn refusal(alloc: Global, file: &[u8], shared_words: u32) -> Option<ImageError> {
     read(alloc, file, shared_words).err()
 }
 
-/// What is said of a file: its refusal, or what it places.
+/// The report on a file: its error, or the bytes that it places.
 fn reported(alloc: Global, file: &[u8], shared_words: u32) -> Result<String, AllocError> {
     outcomes_of(alloc, read(alloc, file, shared_words))
 }
 
-/// What is said of an image that is read.
+/// The report on the result of reading an image.
 fn outcomes_of(alloc: Global, read: Result<Image, ImageError>) -> Result<String, AllocError> {
     match read {
         Ok(image) => layout_text(alloc, image.layout()),
@@ -80,7 +80,7 @@ fn bytes_of(alloc: Global, bytes: &[u8]) -> Result<Bytes, AllocError> {
     Ok(Bytes::from_vec(Vec::from_slice(alloc, bytes)?))
 }
 
-/// The image of EBREAK with other bytes from a place on.
+/// The image of EBREAK with these bytes from a place on.
 fn changed(place: usize, bytes: &[u8]) -> [u8; 88] {
     with_bytes(EBREAK, place, bytes)
 }
@@ -100,7 +100,7 @@ fn file_of(alloc: Global, parts: &[Part], bytes: &[u8]) -> Result<Vec<u8>, Alloc
     Ok(file)
 }
 
-/// The error that a file of these segments gives, without bytes after its headers.
+/// The error of a file with these segments and no bytes after its headers.
 fn refusal_of(
     alloc: Global,
     parts: &[Part],
@@ -110,7 +110,7 @@ fn refusal_of(
     Ok(refusal(alloc, file.as_slice(), shared_words))
 }
 
-/// Bytes that are added one by one, from a slice and by their count.
+/// Bytes that are added one by one, from a slice and by a count.
 fn added(alloc: Global) -> Result<Bytes, AllocError> {
     let mut bytes = Bytes::new(alloc);
     bytes.push(7)?;
@@ -126,7 +126,7 @@ fn bytes_are_added_behind_the_last(rt: HostRuntime) {
     assert_same!(rt; (bytes.as_slice(), bytes.len()), ([7, 8, 9, 0, 0].as_slice(), 5));
 }
 
-/// What is said of a layout of one instruction.
+/// The text of a layout of one instruction.
 fn one_instruction(alloc: Global) -> Result<String, AllocError> {
     layout_text(alloc, &layout_of(alloc, &[0x73, 0, 0x10, 0], &[], &[])?)
 }

@@ -1,4 +1,4 @@
-//! Devices that fail at a call, or take and hand over one byte at a call.
+//! Links over devices that transfer one byte at each call, and may fail at one.
 
 ghost use Rattle.std.specs.Prelude.{◌≡◌, false};
 
@@ -9,11 +9,11 @@ use std::io::{ErrorKind, Read, Write};
 use std::process::Abort;
 use test_support::{Sink, Source, assert_same};
 
-/// A sink that is interrupted where it fails, or that takes no byte there and has no flush.
+/// A sink whose failure is an interruption. If it is quiet, its failure is a write of no byte, and its flush fails.
 #[derive(Drop)]
 struct Fickle {
     sink: Sink,
-    /// Whether a failure is a write of no byte.
+    /// Whether the failing write returns 0 instead of an error.
     is_quiet: bool,
 }
 
@@ -44,7 +44,7 @@ fn metered_sink(alloc: Global, fails_at: usize, is_quiet: bool) -> Meter<Fickle>
     })
 }
 
-/// The five bytes take five calls, and the sixth says that there are no more.
+/// Reading the five bytes takes five calls, and a sixth to find the end.
 #[test]
 fn reads_to_the_end_or_fails(rt: HostRuntime) {
     for fails_at in 0..8 {
@@ -62,7 +62,7 @@ fn reads_to_the_end_or_fails(rt: HostRuntime) {
     }
 }
 
-/// A byte past the limit is read, and no more.
+/// A read takes one byte past the limit, and no more.
 #[test]
 fn does_not_read_a_long_input_to_its_end(rt: HostRuntime) {
     let mut reader = Meter::new(Source::new(b"hello, world", 0));
@@ -91,8 +91,8 @@ fn a_failed_reader_has_ended(rt: HostRuntime) {
     }
 }
 
-/// Four bytes of the six and then the other two, where no call fails. The first four calls are for
-/// the first buffer, two more give bytes, and the seventh says that there are no more.
+/// If no call fails, the first buffer gets four of the six bytes, in calls 1 to 4. The second gets the other two in
+/// calls 5 and 6, and call 7 finds the end.
 #[test]
 fn fills_buffers(rt: HostRuntime) {
     for fails_at in 0..9 {
@@ -118,7 +118,7 @@ fn fills_buffers(rt: HostRuntime) {
     }
 }
 
-/// A writer that fails at a call has the bytes of the calls before it, and takes no more.
+/// A writer that fails at a call keeps the bytes of the calls before it, and takes no more.
 #[test]
 fn writes_a_beginning(rt: HostRuntime) {
     for fails_at in 0..8 {
@@ -147,7 +147,7 @@ fn compare_beginning(rt: &(impl Abort + AllocGlobal), fails_at: usize, is_quiet:
     }
 }
 
-/// A write of no byte is no failure where there was none to write.
+/// A write of no byte is no failure if there is none to write.
 #[test]
 fn empty_writes(rt: HostRuntime) {
     let mut writer = metered_sink(rt.alloc(), 0, false);
@@ -157,7 +157,7 @@ fn empty_writes(rt: HostRuntime) {
     assert!(rt; writer.flush().is_ok() && !writer.failed());
 }
 
-/// A failed flush counts.
+/// A failed flush is a failure of the writer, which then takes no more.
 #[test]
 fn failed_flushes(rt: HostRuntime) {
     let mut writer = metered_sink(rt.alloc(), 0, true);

@@ -1,5 +1,5 @@
-//! Each allocation of these tests is to be refused in turn. Then a call says that there is no memory, which ends the
-//! test, or its answer is that of ample memory.
+//! The tests run with each of their allocations refused in turn. A call then reports that it is out of memory, which
+//! ends the test, or it returns what it returns with ample memory.
 
 use elf_image::{Bytes, Image, ImageError, read_image};
 use flat_machine::Config;
@@ -41,7 +41,7 @@ fn image(alloc: Global) -> Result<Image, ImageError> {
     image.copy(alloc)
 }
 
-/// What is said of a copy of an image's layout.
+/// The text of a copy of an image's layout.
 fn reported(alloc: Global, image: &Image) -> Result<String, AllocError> {
     let layout = image.layout().copy(alloc)?;
     layout_text(alloc, &layout)

@@ -1,4 +1,4 @@
-//! Traces by hand: each kind of step, each fault, and devices that fail.
+//! Traces made by hand: each kind of step, each error, and devices that fail.
 
 ghost use Rattle.std.specs.Prelude.{◌≡◌};
 
@@ -27,7 +27,7 @@ fn config(k: u8) -> Config {
     }
 }
 
-/// What is written of steps that have a trace.
+/// The bytes of the trace of these steps, which have one.
 fn written(rt: &impl Abort, alloc: Global, config: &Config, steps: &[Step]) -> Vec<u8> {
     assert!(rt; is_trace(config, steps));
     let mut writer = Meter::new(Vec::new(alloc));
@@ -35,17 +35,17 @@ fn written(rt: &impl Abort, alloc: Global, config: &Config, steps: &[Step]) -> V
     writer.device
 }
 
-/// What is read of bytes.
+/// The result of reading these bytes as a trace.
 fn read(alloc: Global, bytes: &[u8]) -> Result<Trace, TraceError> {
     read_trace(alloc, &mut Meter::new(bytes))
 }
 
-/// The fault of bytes; none where they spell a trace.
+/// The error of these bytes, or none if they spell a trace.
 fn refusal(alloc: Global, bytes: &[u8]) -> Option<TraceError> {
     read(alloc, bytes).err()
 }
 
-/// Steps have this trace, there and back.
+/// Checks that the steps are written as this trace, and that the trace is read as these steps.
 fn compare(rt: &(impl Abort + AllocGlobal), config: &Config, steps: &[Step], trace: &[u8]) {
     let bytes = written(rt, rt.alloc(), config, steps);
     assert_same!(rt; bytes.as_slice(), trace, steps);
@@ -54,7 +54,7 @@ fn compare(rt: &(impl Abort + AllocGlobal), config: &Config, steps: &[Step], tra
     assert_same!(rt; found, (*config, steps));
 }
 
-/// The fault of a trace with another byte at a place.
+/// The error of a trace with another byte at a place.
 fn refusal_with(
     alloc: Global,
     trace: &[u8],
@@ -68,10 +68,10 @@ fn refusal_with(
     Ok(refusal(alloc, bytes.as_slice()))
 }
 
-/// A place of a trace, a byte that stands there instead, and its fault.
+/// A place in a trace, the byte put there, and the error.
 type Change = (usize, u8, Option<TraceError>);
 
-/// Compares the faults of a trace with these bytes, one at a time.
+/// Makes these changes to a trace, one at a time, and compares the errors.
 fn compare_changes(rt: &(impl Abort + AllocGlobal), trace: &[u8], changes: &[Change]) {
     for (place, byte, fault) in changes {
         let found = refusal_with(rt.alloc(), trace, *place, *byte);
@@ -79,14 +79,14 @@ fn compare_changes(rt: &(impl Abort + AllocGlobal), trace: &[u8], changes: &[Cha
     }
 }
 
-/// The fault of a trace with a byte more.
+/// The error of a trace with one more byte.
 fn refusal_longer(alloc: Global, trace: &[u8]) -> Result<Option<TraceError>, AllocError> {
     let mut longer = Vec::from_slice(alloc, trace)?;
     longer.push(0)?;
     Ok(refusal(alloc, longer.as_slice()))
 }
 
-/// A trace is cut short at each place, and has a byte more.
+/// Compares the errors of a trace that is cut short at each place, and of one with one more byte.
 fn compare_lengths(rt: &(impl Abort + AllocGlobal), trace: &[u8]) {
     for length in 0..trace.len() {
         let found = refusal(rt.alloc(), &trace[..length]);

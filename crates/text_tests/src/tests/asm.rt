@@ -1,4 +1,4 @@
-//! The command, from the bytes of a text to the bytes of an image: what no clause says of it.
+//! The command `asm`, from the bytes of a text to the bytes of an image: what no clause says of it.
 
 use super::door::LoopbackPort;
 use asm_commands::asm_command;
@@ -8,7 +8,7 @@ use std::io::{Read, Write};
 use std::test::Fail;
 use test_support::{Deaf, EBREAK, Endless, Meter, Ran, Sink, Source, assert_same, ran};
 
-/// What assembling a file comes to on two devices.
+/// The outcome of assembling a file, with devices for the image and for standard error.
 fn run_on<R: Read + Drop, W: Write + Drop, E: Write + Drop>(
     alloc: Global,
     file: R,
@@ -22,12 +22,12 @@ fn run_on<R: Read + Drop, W: Write + Drop, E: Write + Drop>(
     )
 }
 
-/// What assembling a file comes to, with this device for the image.
+/// The outcome of assembling a file, with this device for the image.
 fn run<R: Read + Drop, W: Write + Drop>(alloc: Global, file: R, image: W) -> Ran<W> {
     run_on(alloc, file, image, Vec::new(alloc))
 }
 
-/// Texts that are refused, with what is reported.
+/// Texts that are refused, and what is reported.
 static REFUSED: [(&[u8], &str); 9] = [
     (b"frob x1, x2, x3", "ultra: A1 line 1\n"),
     (b"ebreak\naddi x1, x0\n", "ultra: A2 line 2\n"),
@@ -40,10 +40,10 @@ static REFUSED: [(&[u8], &str); 9] = [
     (b".zero 65536\n.byte 0", "ultra: A6 line 2\n"),
 ];
 
-/// Bytes that are no text: a byte that no UTF-8 has, and a character that is cut short, each within a comment.
+/// Bytes that are no text: a byte that UTF-8 never has, and a character that is cut short, each within a comment.
 static NO_TEXTS: [&[u8]; 2] = [b"ebreak # \xFF\n", b"ebreak # \xE2\x82"];
 
-/// Texts that are refused, with the exit status that reports it.
+/// Texts that are refused, and the exit status.
 static FAULTS: [(&[u8], u8); 2] = [(b"frob", 2), (b"\xFF", 3)];
 
 #[test]
@@ -54,7 +54,7 @@ fn assembles_a_text(rt: HostRuntime) -> Result<(), Fail> {
     Ok(())
 }
 
-/// The whole image or nothing, and each refused line is reported.
+/// A refused text writes no image, and the line of its fault is reported.
 #[test]
 fn refuses_a_text(rt: HostRuntime) -> Result<(), Fail> {
     for (text, reported) in &REFUSED {
@@ -71,7 +71,7 @@ fn refuses_what_is_not_text(rt: HostRuntime) -> Result<(), Fail> {
     Ok(())
 }
 
-/// The six bytes take six calls, and the seventh says that there are no more.
+/// Reading the six bytes takes six calls, and a seventh to find the end.
 #[test]
 fn reads_the_file_or_tells_a_link(rt: HostRuntime) -> Result<(), Fail> {
     for fails_at in 0..9 {
@@ -90,7 +90,7 @@ fn refuses_a_text_without_end(rt: HostRuntime) -> Result<(), Fail> {
     run(rt.alloc(), Endless, Vec::new(rt.alloc())).comes_to(4, b"", "ultra: memory\n")
 }
 
-/// A writer of one byte at a call that fails at a call has the bytes of the calls before it.
+/// A writer takes one byte at each call. If it fails at a call, it has the bytes of the calls before.
 #[test]
 fn tells_that_the_image_is_not_written(rt: HostRuntime) -> Result<(), Fail> {
     for fails_at in 0..90 {
@@ -104,7 +104,7 @@ fn tells_that_the_image_is_not_written(rt: HostRuntime) -> Result<(), Fail> {
     run(rt.alloc(), b"ebreak".as_slice(), Deaf).comes_to(3, b"", "ultra: I9\n")
 }
 
-/// Where standard error fails too, the exit status alone says the fault.
+/// If standard error fails too, only the exit status shows the fault.
 #[test]
 fn tells_by_its_status(rt: HostRuntime) -> Result<(), Fail> {
     for (text, status) in &FAULTS {
@@ -113,7 +113,7 @@ fn tells_by_its_status(rt: HostRuntime) -> Result<(), Fail> {
     Ok(())
 }
 
-/// What assembling a text comes to where the image is opened by its first write, or cannot be.
+/// The outcome of assembling a text if the first write opens the image, or fails to.
 fn run_behind_door(alloc: Global, text: &[u8], is_shut: bool) -> Ran<OnFirstWrite<LoopbackPort>> {
     run(
         alloc,
@@ -143,8 +143,8 @@ fn tells_that_the_image_is_not_opened(rt: HostRuntime) {
     assert_same!(rt; ran.err.as_slice(), b"ultra: I9\n".as_slice());
 }
 
-/// Each allocation of this test is to be refused in turn. Then the answer is that of ample memory, or that there is
-/// none.
+/// The test runs with each of its allocations refused in turn. The command then does what it does with ample memory, or
+/// reports that it is out of memory.
 #[test]
 fn is_short_of_memory(rt: HostRuntime) -> Result<(), Fail> {
     let image = Vec::with_capacity(rt.alloc(), 88)?;
@@ -158,7 +158,7 @@ fn is_short_of_memory(rt: HostRuntime) -> Result<(), Fail> {
     .comes_to_or_lacks_memory(0, &EBREAK, "")
 }
 
-/// Likewise, of a text that is refused.
+/// The same for a text that is refused.
 #[test]
 fn refusal_is_short_of_memory(rt: HostRuntime) -> Result<(), Fail> {
     let reported = Vec::with_capacity(rt.alloc(), 64)?;

@@ -1,6 +1,6 @@
 //! Texts with the words, bytes and faults that they must have.
 //!
-//! What a text assembles to is reported as a text: its refusal, or what its sections have (`layout_text`).
+//! The result of assembling a text is compared as a text: its error, or the contents of its sections (`layout_text`).
 
 mod faults;
 mod images;
@@ -12,13 +12,13 @@ use std::alloc::{AllocError, AllocGlobal, Global};
 use std::process::Abort;
 use test_support::{assert_same, layout_text};
 
-/// Compares what a text assembles to with what it must.
+/// Compares what a text assembles to with what is expected.
 fn compare(rt: &(impl Abort + AllocGlobal), text: &str, wanted: &str) {
     let found = assembled(rt.alloc(), text).expect(rt, "memory");
     assert_same!(rt; found.as_str(), wanted, text);
 }
 
-/// Compares texts, each with what stands beside it.
+/// Compares each of these texts with the result beside it.
 fn compare_each(rt: &(impl Abort + AllocGlobal), cases: &[(&str, &str)]) {
     for (text, wanted) in cases {
         compare(rt, text, wanted);

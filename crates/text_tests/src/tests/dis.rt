@@ -1,4 +1,4 @@
-//! The command, from the bytes of an image to the lines of its code: what no clause says of it.
+//! The command `dis`, from the bytes of an image to the lines of its code: what no clause says of it.
 
 use super::image_of;
 use asm_commands::dis_command;
@@ -10,7 +10,7 @@ use test_support::{
     Deaf, EBREAK, Endless, HUNDRED_ADDS, Meter, Ran, Source, assert_same, ran, with_bytes,
 };
 
-/// What disassembling a file comes to on two devices.
+/// The outcome of disassembling a file, with devices for the lines and for standard error.
 fn run_on<R: Read + Drop, W: Write + Drop, E: Write + Drop>(
     alloc: Global,
     file: R,
@@ -25,7 +25,7 @@ fn run_on<R: Read + Drop, W: Write + Drop, E: Write + Drop>(
     )
 }
 
-/// What disassembling a file comes to, with this device for the lines.
+/// The outcome of disassembling a file, with this device for the lines.
 fn run<R: Read + Drop, W: Write + Drop>(
     alloc: Global,
     file: R,
@@ -35,12 +35,12 @@ fn run<R: Read + Drop, W: Write + Drop>(
     run_on(alloc, file, shared_words, lines, Vec::new(alloc))
 }
 
-/// What disassembling an image comes to.
+/// The outcome of disassembling an image.
 fn run_image(alloc: Global, image: &[u8], shared_words: u32) -> Ran<Vec<u8>> {
     run(alloc, image, shared_words, Vec::new(alloc))
 }
 
-/// What disassembling the image of a text comes to.
+/// The outcome of disassembling the image of a text.
 fn run_text(alloc: Global, text: &str, shared_words: u32) -> Result<Ran<Vec<u8>>, AsmError> {
     let image = image_of(alloc, text)?;
     Ok(run_image(alloc, image.as_slice(), shared_words))
@@ -49,7 +49,7 @@ fn run_text(alloc: Global, text: &str, shared_words: u32) -> Result<Ran<Vec<u8>>
 /// The lines of the code of `ebreak`.
 static LINES: &str = "00010000 00100073 ebreak\n";
 
-/// Texts, and the lines of their code. The words are by hand from the tables of the RISC-V manual.
+/// Texts, and the lines of their code. The words are encoded by hand from the tables of the RISC-V manual.
 static LISTED: [(&str, &str); 6] = [
     ("ebreak", "00010000 00100073 ebreak\n"),
     (
@@ -72,12 +72,12 @@ static LISTED: [(&str, &str); 6] = [
 0001003c 00100073 ebreak
 ",
     ),
-    // Words in no row, one of them zero, up to the last that is not zero.
+    // Words that are no instruction, one of them zero. The list ends at the last word that is not zero.
     (
         ".word 0xffffffff\n.zero 4\nebreak\n.zero 8",
         "00010000 ffffffff -\n00010004 00000000 -\n00010008 00100073 ebreak\n",
     ),
-    // A last word of which one byte is there, and the bytes of other sections.
+    // A last word with only one byte, and bytes of other sections, which are not listed.
     (
         ".byte 0x73\n.local\n.byte 1\n.shared\n.word 2",
         "00010000 00000073 ecall\n",
@@ -86,7 +86,7 @@ static LISTED: [(&str, &str); 6] = [
     (".zero 64\n", ""),
 ];
 
-/// What is put into the image of `ebreak`, and what is said of it.
+/// A place in the image of `ebreak`, the bytes put there, and what is reported.
 static REFUSED: [(usize, &[u8], &str); 7] = [
     // e_machine
     (18, &[0x3E], "ultra: I2\n"),
@@ -104,7 +104,7 @@ static REFUSED: [(usize, &[u8], &str); 7] = [
     (24, &[2], "ultra: I7\n"),
 ];
 
-/// The image of two segments, of which the second is moved to the first one's address.
+/// Places and bytes that move the second segment of an image to the address of the first, as code.
 static MOVED: [(usize, u8); 5] = [(92, 0x00), (93, 0x00), (94, 0x01), (95, 0x00), (108, 5)];
 
 #[test]
@@ -116,7 +116,7 @@ fn lists_the_code(rt: HostRuntime) -> Result<(), Fail> {
     Ok(())
 }
 
-/// Code that fills its region: 16,383 words in no row, and the last.
+/// Code that fills its region: 16,383 words that are no instruction, and `ebreak`.
 #[test]
 fn lists_as_many_words_as_code_has(rt: HostRuntime) -> Result<(), Fail> {
     let ran = run_text(rt.alloc(), ".zero 65532\nebreak\n", 1024)?;
@@ -173,7 +173,7 @@ fn reads_for_so_many_words(rt: HostRuntime) -> Result<(), Fail> {
     run_text(rt.alloc(), text, 1)?.comes_to(2, b"", "ultra: I5\n")
 }
 
-/// The 88 bytes take 88 calls, and the next says that there are no more.
+/// Reading the 88 bytes takes 88 calls, and one more to find the end.
 #[test]
 fn reads_the_file_or_tells_it(rt: HostRuntime) -> Result<(), Fail> {
     for fails_at in 0..91 {
@@ -198,14 +198,14 @@ fn tells_that_nothing_can_be_printed(rt: HostRuntime) -> Result<(), Fail> {
     ran.comes_to(3, b"", "ultra: link\n")
 }
 
-/// Where standard error fails too, the exit status alone says the fault.
+/// If standard error fails too, only the exit status shows the fault.
 #[test]
 fn tells_by_its_status(rt: HostRuntime) -> Result<(), Fail> {
     run_on(rt.alloc(), &EBREAK[..51], 1024, Vec::new(rt.alloc()), Deaf).comes_to(2, b"", "")
 }
 
-/// Each allocation of this test is to be refused in turn. Then the answer is that of ample memory, or that there is
-/// none.
+/// The test runs with each of its allocations refused in turn. The command then does what it does with ample memory, or
+/// reports that it is out of memory.
 #[test]
 fn is_short_of_memory(rt: HostRuntime) -> Result<(), Fail> {
     let lines = Vec::with_capacity(rt.alloc(), 64)?;
@@ -217,7 +217,7 @@ fn is_short_of_memory(rt: HostRuntime) -> Result<(), Fail> {
     )
 }
 
-/// Likewise, of an image that is refused.
+/// The same for an image that is refused.
 #[test]
 fn refusal_is_short_of_memory(rt: HostRuntime) -> Result<(), Fail> {
     let reported = Vec::with_capacity(rt.alloc(), 64)?;

@@ -1,4 +1,4 @@
-//! Instructions to text and back.
+//! Instructions that are disassembled, and their texts assembled again.
 
 use arrayvec::ArrayString;
 use assembler::{assemble, disassemble};

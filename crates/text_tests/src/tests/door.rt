@@ -1,4 +1,4 @@
-//! What is opened by the first write.
+//! An output that is opened by its first write.
 
 ghost use Rattle.std.specs.Prelude.{◌≡◌, []};
 
@@ -15,7 +15,7 @@ pub struct LoopbackPort {
 }
 
 impl LoopbackPort {
-    /// A buffer that is not opened yet, or cannot be.
+    /// A buffer that is not open yet, or that cannot be opened.
     pub fn new(alloc: Global, is_shut: bool) -> Self {
         LoopbackPort {
             alloc,

@@ -1,4 +1,4 @@
-//! The list of a text's faults: what no clause says of it. Lines are worked out by hand from docs/ASSEMBLER.md.
+//! The list of a text's faults: what no clause says of it. Lists are worked out by hand from docs/ASSEMBLER.md.
 
 use asm_commands::{asm_command, check_command};
 use std::alloc::{AllocError, Global};
@@ -7,7 +7,7 @@ use std::io::{Read, Write};
 use std::test::Fail;
 use test_support::{Deaf, Endless, HUNDRED_ADDS, Meter, Ran, Sink, Source, ran};
 
-/// What checking a file comes to, with this device for the list.
+/// The outcome of checking a file, with this device for the list.
 fn run<R: Read + Drop, W: Write + Drop>(alloc: Global, file: R, device: W) -> Ran<W> {
     ran!(
         device,
@@ -16,7 +16,7 @@ fn run<R: Read + Drop, W: Write + Drop>(alloc: Global, file: R, device: W) -> Ra
     )
 }
 
-/// What checking a text comes to.
+/// The outcome of checking a text.
 fn run_text(alloc: Global, text: &[u8]) -> Ran<Vec<u8>> {
     run(alloc, text, Vec::new(alloc))
 }
@@ -189,8 +189,8 @@ fn lists_one_fault(rt: HostRuntime) -> Result<(), Fail> {
     Ok(())
 }
 
-/// Words of other assemblers, and what does the same: of instructions as the table of pseudoinstructions of the RISC-V
-/// manual has it (Volume I, "RISC-V Assembly Programmer's Handbook"), and as GNU as expands `sgt`, `sgtu` and `subi`.
+/// Words of other assemblers, and what does the same here. Instructions follow the table of pseudoinstructions of the
+/// RISC-V manual (Volume I, "RISC-V Assembly Programmer's Handbook"); GNU as expands `sgt`, `sgtu` and `subi` so.
 static ELSEWHERE: [(&str, &str); 35] = [
     ("nop", "addi x0, x0, 0"),
     ("mv", "addi a, b, 0"),
@@ -229,7 +229,7 @@ static ELSEWHERE: [(&str, &str); 35] = [
     (".ascii", ".byte with a number for each letter"),
 ];
 
-/// Directives of other assemblers in whose place nothing is needed, and why.
+/// Directives of other assemblers that nothing need replace here, and why.
 static NOT_NEEDED: [(&str, &str); 6] = [
     (".globl", "all names are the text's own"),
     (".global", "all names are the text's own"),
@@ -259,7 +259,7 @@ fn advises_what_does_the_same(rt: HostRuntime) -> Result<(), Fail> {
     Ok(())
 }
 
-/// What `asm` says of a text that has the fault of this line.
+/// What `asm` reports of a text for which `check` lists this line.
 fn told_by_asm(alloc: Global, line: &str) -> Result<String, Fail> {
     let mut words = line.split(' ');
     let number = words.nth(1).ok_or("a number")?;
@@ -267,7 +267,7 @@ fn told_by_asm(alloc: Global, line: &str) -> Result<String, Fail> {
     Ok(format!(in alloc; "ultra: {code} line {number}\n")?)
 }
 
-/// `asm` says the first that it meets; `check` has its line and its code.
+/// `asm` reports the first fault that it finds; `check` lists one with the same line and code.
 #[test]
 fn has_what_assembling_tells(rt: HostRuntime) -> Result<(), Fail> {
     let alloc = rt.alloc();
@@ -284,8 +284,8 @@ fn has_what_assembling_tells(rt: HostRuntime) -> Result<(), Fail> {
     Ok(())
 }
 
-/// A line that cannot be read takes no bytes and has no label; any other takes its bytes and has its label. Of a label
-/// that stands on two lines the later one counts.
+/// A line that cannot be read adds no bytes and no label; any other line adds its bytes and its label. If a label is on
+/// two lines, the later one counts.
 static MANY: &str = "\
 start:  add a0, a1, x32     # nothing of this line counts
 again:  jal x0, start
@@ -314,7 +314,7 @@ fn lists_each_line(rt: HostRuntime) -> Result<(), Fail> {
     run_text(rt.alloc(), MANY.as_bytes()).comes_to(1, MANY_FAULTS.as_bytes(), "")
 }
 
-/// A label that stands on three lines: both of the later ones are reported the first.
+/// A label on three lines: the reports on the later two both name the first.
 static ON_THREE_LINES: &str = "\
 line 2 column 1: A4 a: line 1 has this label already
 line 3 column 1: A4 a: line 1 has this label already
@@ -337,7 +337,7 @@ fn lists_nothing_of_a_sound_text(rt: HostRuntime) -> Result<(), Fail> {
     Ok(())
 }
 
-/// A thousand lines that are none, between others.
+/// A thousand faulty lines, each after a line without a fault.
 fn thousand(alloc: Global) -> Result<String, AllocError> {
     let mut text = String::new(alloc);
     for _ in 0..1000 {
@@ -346,7 +346,7 @@ fn thousand(alloc: Global) -> Result<String, AllocError> {
     Ok(text)
 }
 
-/// Their list.
+/// The list of their faults.
 fn thousand_faults(alloc: Global) -> Result<String, AllocError> {
     let mut list = String::new(alloc);
     for number in 0..1000_u16 {
@@ -369,7 +369,7 @@ fn lists_a_thousand(rt: HostRuntime) -> Result<(), Fail> {
     Ok(())
 }
 
-/// A word of 65 signs, and the line that says its first 64.
+/// A word of 65 characters, and the line that shows its first 64.
 static LONG_WORD: (&str, &str) = (
     "%%%%%%%%%%%%%%%%%%%%%%%%%%%%%%%%%%%%%%%%%%%%%%%%%%%%%%%%%%%%%%%%%",
     "line 1 column 1: A1 %%%%%%%%%%%%%%%%%%%%%%%%%%%%%%%%%%%%%%%%%%%%%%%%%%%%%%%%%%%%%%%%..: there is no such instruction or directive
@@ -391,7 +391,7 @@ fn refuses_what_is_no_text(rt: HostRuntime) -> Result<(), Fail> {
     run(alloc, Source::new(b"frob", 3), Vec::new(alloc)).comes_to(3, b"", "ultra: link\n")
 }
 
-/// A writer of one byte at a call that fails at a call has the bytes of the calls before it.
+/// A writer takes one byte at each call. If it fails at a call, it has the bytes of the calls before.
 #[test]
 fn tells_that_the_list_is_not_printed(rt: HostRuntime) -> Result<(), Fail> {
     for fails_at in 1..11 {
@@ -402,8 +402,8 @@ fn tells_that_the_list_is_not_printed(rt: HostRuntime) -> Result<(), Fail> {
     run(rt.alloc(), b"frob".as_slice(), Deaf).comes_to(3, b"", "ultra: link\n")
 }
 
-/// Each allocation of this test is to be refused in turn. Then the answer is that of ample memory, or that there is
-/// none.
+/// The test runs with each of its allocations refused in turn. The command then does what it does with ample memory, or
+/// reports that it is out of memory.
 #[test]
 fn is_short_of_memory(rt: HostRuntime) -> Result<(), Fail> {
     let alloc = rt.alloc();

@@ -1,4 +1,4 @@
-//! The line that reports each fault, its exit status, and that there is a topic on its code.
+//! The line that reports each fault, its exit status, and the topic that explains its code.
 
 use assembler::{AsmError, AsmFault};
 use command_io::{Fault, report_fault};
@@ -18,7 +18,7 @@ macro_rules! text {
     };
 }
 
-/// Each fault that can be reported. (out of memory of a text, an image or a trace is that of the command.)
+/// Each fault that can be reported. (If a text, an image or a trace is out of memory, so is the command: `Memory`.)
 const REPORTS: [(Fault, &str, u8); 34] = [
     (Fault::Line(1), "V1 line 1", 2),
     (Fault::Line(16_385), "V1 line 16385", 2),

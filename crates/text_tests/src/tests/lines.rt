@@ -1,4 +1,4 @@
-//! Lines of the language, and the fault that each has.
+//! Lines of the assembly language, and the fault of each.
 
 use asm_lines::{Instruction, LineError, LineFault, Statement, low_bits, read_line, x_name};
 use rv_table::{Insn, Register, RegisterOp};
@@ -7,7 +7,7 @@ use std::process::Abort;
 use std::test::Fail;
 use test_support::assert_same;
 
-/// Compares the fault of each of these lines with this one.
+/// Checks that each of these lines has this fault, or none.
 fn check(rt: &(impl Abort + AllocGlobal), lines: &[&str], fault: Option<LineError>) {
     for line in lines {
         let found = read_line(rt.alloc(), line.as_bytes()).err();
@@ -44,7 +44,7 @@ fn faults_are_told_apart(rt: HostRuntime) {
     check(&rt, &SOUND, None);
 }
 
-/// Lines whose first word is none.
+/// Lines whose first word is unknown.
 static UNKNOWN: [&str; 9] = [
     "foo",
     "1a: ecall",
@@ -57,7 +57,7 @@ static UNKNOWN: [&str; 9] = [
     "ecall\r",
 ];
 
-/// Lines with another fault of form.
+/// Lines that are wrong in another way.
 static MISSHAPEN: [&str; 15] = [
     "ecall x0",
     "addi x1, x0",

@@ -55,7 +55,7 @@ fn failed_opening_is_a_failed_write(rt: HostRuntime) {
     assert_same!(rt; (fails, writer.opener.openings, writer.device.is_none()), (true, 2, true));
 }
 
-/// Opens a device that takes all bytes, and whose flush fails.
+/// Opens a device that takes all bytes, but whose flush fails.
 #[derive(Drop)]
 struct Stuck;
 
@@ -81,7 +81,7 @@ impl Write for Stuck {
     }
 }
 
-/// A flush is one of the device, once that is open.
+/// A flush goes to the device if that is open, and does nothing before.
 #[test]
 fn flushes_the_open_device(rt: HostRuntime) {
     let mut writer = OnFirstWrite::new(Stuck);
@@ -90,10 +90,10 @@ fn flushes_the_open_device(rt: HostRuntime) {
     assert!(rt; writer.flush().is_err());
 }
 
-/// How many bytes a device has room for, and what goes out of a text of five.
+/// How many bytes a device takes before it fails, and what is printed of `hello`.
 static BEGINNINGS: [(usize, &str); 4] = [(8, "hello"), (5, "hello"), (4, "hell"), (0, "")];
 
-/// A text goes out in as many writes as it takes, or a beginning of it does.
+/// A text is printed in as many writes as it needs. If the device fails, a beginning of the text is printed.
 #[test]
 fn prints_the_text_or_a_beginning(rt: HostRuntime) {
     for (room, text) in &BEGINNINGS {
@@ -111,7 +111,7 @@ fn prints_without_a_flush(rt: HostRuntime) {
     assert!(rt; print(&mut Meter::new(Stuck), "hello").is_ok());
 }
 
-/// No byte opens no device.
+/// Printing an empty text does not open the device.
 #[test]
 fn prints_on_what_cannot_be_opened(rt: HostRuntime) {
     let mut shut = Meter::new(OnFirstWrite::new(LoopbackPort::new(rt.alloc(), true)));

@@ -20,8 +20,8 @@ macro_rules! rows {
     };
 }
 
-/// The instruction, its word, the local word at 0x00020000 before, `x2`, the local word after, and
-/// the register that gets the local word before (0 for none). `x1` is 0x00020000.
+/// The instruction, its word, the local word at 0x00020000 before it, `x2`, that local word after it, and the register
+/// that gets the old local word (0 for none). `x1` is 0x00020000.
 static WRITING: [Row; 21] = rows![
     "sb x2, 0(x1)"               0x0020_8023 0x4433_2211 0xAABB_CCDD 0x4433_22DD 0
     "sb x2, 1(x1)"               0x0020_80A3 0x4433_2211 0xAABB_CCDD 0x4433_DD11 0
@@ -72,7 +72,7 @@ fn local_words_change(rt: HostRuntime) -> Result<(), Fail> {
     Ok(())
 }
 
-/// The four bytes from an address on, the lowest first.
+/// The little-endian word at an address of local memory.
 fn local_word(rt: &impl Abort, rig: &Rig, address: u32) -> Result<u32, Fail> {
     assert!(rt; address < 0x0003_0000);
     let low = rig.core.byte(address)?;

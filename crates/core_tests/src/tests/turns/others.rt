@@ -1,5 +1,4 @@
-//! Environment calls, a run of two turns, the bits of an AMO that have no effect, and what a debugger
-//! reads and writes.
+//! Environment calls, a jump out of code, the ordering bits of an AMO, and what a debugger reads and writes.
 
 use super::at_word;
 use flat_machine::{CODE_START, Cause, Event, Fault, Retired, Status};
@@ -11,8 +10,8 @@ use test_support::assert_same;
 
 const ECALL: u32 = 0x0000_0073;
 
-/// By `a7` (register 17): 1 gives the low byte of `a0` (register 10) to the console, 2 and 3 put
-/// the processor's own number and the number of processors into `a0`.
+/// `a7` (register 17) selects the call: 1 sends the low byte of `a0` (register 10) to the console, 2 puts the
+/// processor's own number into `a0`, and 3 the number of processors.
 #[test]
 fn calls_retire(rt: HostRuntime) -> Result<(), Fail> {
     for (a7, result, out, a0) in [
@@ -37,7 +36,7 @@ fn calls_retire(rt: HostRuntime) -> Result<(), Fail> {
     Ok(())
 }
 
-/// 0 halts with the low byte of `a0`. From 4 on there is no call.
+/// Call 0 halts with the low byte of `a0`. Calls from 4 on do not exist, and fault.
 #[test]
 fn calls_stop(rt: HostRuntime) -> Result<(), Fail> {
     let unknown = Cause::Fault(Fault::UnknownCall);
@@ -53,7 +52,7 @@ fn calls_stop(rt: HostRuntime) -> Result<(), Fail> {
     Ok(())
 }
 
-/// A jump out of code retires (`jalr x3, 0(x1)`). The fault comes at its target.
+/// A jump out of code (`jalr x3, 0(x1)`) retires. The next turn, at its target, faults.
 #[test]
 fn jumps_out_of_code(rt: HostRuntime) -> Result<(), Fail> {
     let mut rig = at_word(&rt, 0x0000_81E7, 0x0002_0000, 0, &[])?;
@@ -73,8 +72,8 @@ fn jumps_out_of_code(rt: HostRuntime) -> Result<(), Fail> {
     Ok(())
 }
 
-/// `amoadd.w x10, x11, (x12)`, plain and with its acquire and release bits, is the sum with 2^31.
-/// That it turns one bit makes it no exclusive or.
+/// `amoadd.w x10, x11, (x12)` adds 2^31, with and without its acquire and release bits. The addition inverts one bit,
+/// but is not turned into an exclusive or.
 #[test]
 fn ordering_bits_have_no_effect(rt: HostRuntime) -> Result<(), Fail> {
     for word in [0x00B6_252F, 0x06B6_252F] {

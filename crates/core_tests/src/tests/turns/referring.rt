@@ -1,4 +1,4 @@
-//! References to shared words: the word, its function and the operation.
+//! References to shared words: the word, the function and the operation of each.
 
 ghost use Rattle.std.specs.Prelude.{◌≤◌, ◌≤ℤ◌};
 
@@ -23,8 +23,8 @@ macro_rules! rows {
     };
 }
 
-/// The instruction, its word, the bits that it keeps and those that it then turns, and its
-/// operation. `x1` is the address of word 2, and `x2` is 0xAABBCCDD.
+/// The instruction, its word, the bits that it keeps, the bits that it then inverts, and its operation. `x1` is the
+/// address of shared word 2, and `x2` is 0xAABBCCDD.
 static REFERRING: [Row; 16] = rows![
     "lb x3, 0(x1)"           0x0000_8183 0xFFFF_FFFF 0           Load(LoadOp::Lb)
     "lh x3, 2(x1)"           0x0020_9183 0xFFFF_FFFF 0           Load(LoadOp::Lh)
@@ -61,7 +61,7 @@ fn instructions_refer(rt: HostRuntime) -> Result<(), Fail> {
     Ok(())
 }
 
-/// Sums and clamps with -5 on the last word, as `op x3, x2, (x1)`.
+/// Instructions `op x3, x2, (x1)` that add -5 to the last shared word, or clamp it at -5.
 #[test]
 fn sums_and_clamps(rt: HostRuntime) -> Result<(), Fail> {
     let value = 0xFFFF_FFFB;

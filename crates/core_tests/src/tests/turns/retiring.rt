@@ -1,4 +1,4 @@
-//! Instructions that retire: the register that they write, and where `pc` goes.
+//! Instructions that retire: the register that they write, and the next `pc`.
 
 use super::at_word;
 use flat_machine::{Event, Retired, Status};
@@ -21,9 +21,9 @@ macro_rules! rows {
     };
 }
 
-/// The instruction, its word, `x1`, `x2`, the register that it writes (0 for none) and the value,
-/// and `pc` afterwards. The instruction stands at 0x00010000. Local memory begins with the bytes 80
-/// FF 7F 01 EF BE AD DE, and each shared word is 0x80FF7F01.
+/// The instruction, its word, `x1`, `x2`, the register that it writes (0 for none) and the value, and `pc` afterwards.
+/// The instruction is at 0x00010000. Local memory begins with the bytes 80 FF 7F 01 EF BE AD DE, and each shared word
+/// is 0x80FF7F01.
 static RETIRING: [Row; 128] = rows![
     "add x3, x1, x2"             0x0020_81B3 0xFFFF_FFFF 2           3 1           0x0001_0004
     "sub x3, x1, x2"             0x4020_81B3 1           2           3 0xFFFF_FFFF 0x0001_0004

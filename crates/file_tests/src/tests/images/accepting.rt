@@ -1,4 +1,4 @@
-//! What is accepted, and not looked at.
+//! Images that are accepted, and fields that are ignored.
 
 use super::{Part, changed, compare, file_of, read, refusal, refusal_of};
 use elf_image::{Image, ImageError};
@@ -6,8 +6,7 @@ use std::alloc::{AllocError, AllocGlobal, Global};
 use std::process::Abort;
 use test_support::{EBREAK, assert_same, layout_text, with_bytes};
 
-/// Fields that are not looked at, at their offsets: the rest of `e_ident`, the section fields,
-/// `p_paddr` and `p_align`.
+/// Offsets of bytes that are ignored: in the rest of `e_ident`, the section fields, `p_paddr` and `p_align`.
 static UNSEEN: [usize; 15] = [7, 8, 15, 32, 35, 46, 47, 48, 49, 50, 51, 64, 67, 80, 83];
 
 #[test]
@@ -18,8 +17,8 @@ fn fields_not_looked_at(rt: HostRuntime) {
     }
 }
 
-/// Fields at their offsets, and what the file places then: the last address of code, as an entry and for a segment,
-/// and flags without the right to execute.
+/// The offset of a field, its new value, and what the file then places: the last address of code as the entry and as a
+/// segment's address, and flags without execute permission.
 static ENDS: [(usize, u32, &str); 3] = [
     (24, 0x0001_FFFC, "00100073 entry 0001fffc"),
     (60, 0x0001_FFFC, "00000000*16383 00100073"),
@@ -33,7 +32,7 @@ fn ends_of_code(rt: HostRuntime) {
     }
 }
 
-/// Types of program headers that set nothing, and nothing else of such a header is looked at.
+/// Types of program headers that place nothing. The other fields of such a header are ignored.
 static OTHER_TYPES: [u32; 6] = [0, 2, 6, 0x0100_0001, 0x6474_E551, 0x7000_0003];
 
 #[test]
@@ -44,8 +43,8 @@ fn other_types(rt: HostRuntime) {
     }
 }
 
-/// Addresses and offsets of a segment of no address, which may have any, while its bytes in the file end within the
-/// input.
+/// Addresses and file offsets of an empty segment. Its address may be anything, but its offset must not exceed the
+/// length of the input, which is 84 bytes.
 static EMPTY: [(u32, u32, Option<ImageError>); 5] = [
     (0, 0, None),
     (0xFFFF_FFFF, 84, None),
@@ -73,7 +72,7 @@ fn refusal_of_count(alloc: Global, count: u32) -> Result<Option<ImageError>, All
     Ok(refusal(alloc, file.as_slice(), 1024))
 }
 
-/// One to sixteen program headers.
+/// A file has one to sixteen program headers.
 #[test]
 fn counts_of_headers(rt: HostRuntime) {
     for count in 0..18 {
@@ -85,13 +84,13 @@ fn counts_of_headers(rt: HostRuntime) {
     }
 }
 
-/// The copy of an image that is read for this many shared words.
+/// The copy of an image that was read for this many shared words.
 fn copied(alloc: Global, shared_words: u32) -> Result<Image, ImageError> {
     let image = read(alloc, &EBREAK, shared_words)?;
     image.copy(alloc)
 }
 
-/// What an image places, and for how many words it was read.
+/// The bytes that an image places, and the number of shared words for which it was read.
 fn kept(alloc: Global, image: &Image) -> Result<String, AllocError> {
     let text = layout_text(alloc, image.layout())?;
     format!(in alloc; "{text} words {}", image.shared_words())
@@ -107,14 +106,14 @@ fn compare_kept(rt: &(impl Abort + AllocGlobal), image: Result<Image, ImageError
     }
 }
 
-/// How many shared words an image is read for, and what is kept.
+/// The number of shared words for which an image is read, and what it keeps.
 static KEPT: [(u32, &str); 3] = [
     (1, "00100073 words 1"),
     (1024, "00100073 words 1024"),
     (262_144, "00100073 words 262144"),
 ];
 
-/// An image has the shared words that it was read for, and its copy has them.
+/// An image keeps the number of shared words for which it was read, and its copy keeps it too.
 #[test]
 fn keeps_its_shared_words(rt: HostRuntime) {
     for (shared_words, wanted) in &KEPT {

@@ -1,4 +1,4 @@
-//! Devices that fail at a call, or take and hand over one byte at a call.
+//! Devices that transfer one byte at each call, and may fail at one.
 
 use super::writing::fits;
 use super::{config, layout_of, outcomes_of};
@@ -7,14 +7,14 @@ use link::{Link, Meter};
 use std::alloc::{AllocError, Global};
 use test_support::{EBREAK, Sink, Source, assert_same};
 
-/// What is said of the image of EBREAK where a call of its reader fails, and whether the reader has failed then.
+/// The report on the image of EBREAK if this call of its reader fails, and whether the reader has then failed.
 fn read(alloc: Global, fails_at: usize) -> Result<(String, bool), AllocError> {
     let mut reader = Meter::new(Source::new(&EBREAK, fails_at));
     let image = read_image(alloc, &mut reader, &config(1024));
     Ok((outcomes_of(alloc, image)?, reader.failed()))
 }
 
-/// The 88 bytes take 88 calls, and one more says that there are no more.
+/// Reading the 88 bytes takes 88 calls, and one more to find the end.
 #[test]
 fn each_read_fails_in_turn(rt: HostRuntime) {
     for fails_at in 0..91 {
@@ -27,7 +27,7 @@ fn each_read_fails_in_turn(rt: HostRuntime) {
     }
 }
 
-/// A write that fails leaves the bytes before it.
+/// A write that fails leaves the bytes written before it.
 #[test]
 fn each_write_fails_in_turn(rt: HostRuntime) {
     let layout = layout_of(rt.alloc(), &[0x73, 0, 0x10, 0], &[], &[]).expect(&rt, "memory");

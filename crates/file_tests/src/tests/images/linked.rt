@@ -30,8 +30,8 @@ static SUM: [u8; 544] = [
     0, 0, 0, 1, 0, 0, 0, 0, 0, 0, 0,
 ];
 
-/// What `readelf -l` lists: 0x70 bytes of code from offset 0x94, four local bytes of eight from
-/// 0x104, four shared bytes from 0x108.
+/// The segments, as `readelf -l` lists them: 0x70 bytes of code at offset 0x94, eight local bytes, the first four from
+/// offset 0x104, and four shared bytes at 0x108.
 static PLACED: &str =
     "00030137 00010113 00300893 00000073 00050413 00200893 00000073 00040593 00c000ef 00000893 00000073 000205b7 0005a603 02c05863 00150513 \
      80000637 00060613 000206b7 00a6272f 00e6a223 0005a703 fff70713 00e5a023 0005a703 fee044e3 00020537 00452503 00008067 \

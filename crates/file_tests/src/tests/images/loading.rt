@@ -3,7 +3,7 @@
 use super::{Part, compare, file_of};
 use test_support::EBREAK;
 
-/// The entry and the one instruction.
+/// An image of one instruction, which is also the entry.
 #[test]
 fn one_instruction(rt: HostRuntime) {
     compare(&rt, &EBREAK, 1024, "00100073");
@@ -12,7 +12,7 @@ fn one_instruction(rt: HostRuntime) {
 /// Segments, the bytes after the headers, the shared words of the machine, and what is placed.
 static PLACED: [(&[Part], &[u8], u32, &str); 3] = [
     // Segments of each region, not in the order of their addresses, with gaps between them, and bytes past `p_filesz`.
-    // All have their bytes in the same five of the file, which begin at 52 + 32 * 6.
+    // All take their bytes from the same five of the file, which begin at offset 52 + 32 * 6.
     (
         &[
             (0x0002_0005, 244, 2, 3, 6),
@@ -26,7 +26,7 @@ static PLACED: [(&[Part], &[u8], u32, &str); 3] = [
         1024,
         "05040302 00000000 0000 local 00 04 05 03 00 01 02 00 shared 00*2 01 02 03 04 05 00*4",
     ),
-    // The bytes past `p_filesz` are zero, for any file has there.
+    // The bytes past `p_filesz` are zero, whatever the file has there.
     (
         &[(0x0002_0000, 84, 2, 6, 6)],
         &[9; 16],

@@ -1,4 +1,4 @@
-//! Refusals, each by its cause, and their order.
+//! Images that are refused, each with its error, and the order of errors.
 
 use super::{Part, changed, file_of, refusal, refusal_of};
 use elf_image::ImageError::{
@@ -8,7 +8,7 @@ use elf_image::ImageError::{
 use std::alloc::{AllocError, Global};
 use test_support::{EBREAK, assert_same, with_bytes};
 
-/// Cut to under 84 bytes it has no whole program header, and to under 88 not all of its segment.
+/// An image cut to fewer than 84 bytes has no whole program header, and one cut to fewer than 88 has no whole segment.
 #[test]
 fn cut_short(rt: HostRuntime) {
     for length in 0..89usize {
@@ -22,7 +22,7 @@ fn cut_short(rt: HostRuntime) {
     }
 }
 
-/// Each of the first seven bytes.
+/// A wrong byte at each of the first seven places.
 #[test]
 fn identification(rt: HostRuntime) {
     for place in 0..7usize {
@@ -31,7 +31,7 @@ fn identification(rt: HostRuntime) {
     }
 }
 
-/// Each field of the ELF header and of the program header, wrong by itself.
+/// Each field of the ELF header and of the program header, if only that field is wrong.
 #[test]
 fn header_fields(rt: HostRuntime) {
     for (place, number, expected) in FILE_HEADER.iter().chain(&PROGRAM_HEADER) {
@@ -40,7 +40,7 @@ fn header_fields(rt: HostRuntime) {
     }
 }
 
-/// Fields of the ELF header, at their offsets.
+/// Offsets of fields of the ELF header, wrong values, and their errors.
 static FILE_HEADER: [(usize, u32, ImageError); 23] = [
     (16, 1, NotExecutable),
     (16, 0x0102, NotExecutable),
@@ -67,7 +67,7 @@ static FILE_HEADER: [(usize, u32, ImageError); 23] = [
     (44, 0x0101, UnsupportedHeader),
 ];
 
-/// Fields of the program header, at their offsets.
+/// Offsets of fields of the program header, wrong values, and their errors.
 static PROGRAM_HEADER: [(usize, u32, ImageError); 19] = [
     (56, 85, OutsideInput),
     (56, 0xFFFF_FFFF, OutsideInput),
@@ -90,7 +90,7 @@ static PROGRAM_HEADER: [(usize, u32, ImageError); 19] = [
     (76, 0x0100_0005, OutsideRegions),
 ];
 
-/// Sums of two fields that would wrap at 32 bits.
+/// Sums of two fields do not wrap at 32 bits.
 #[test]
 fn sums_do_not_wrap(rt: HostRuntime) {
     let file = with_bytes(changed(56, &[0xFF; 4]), 68, &[0xFF; 4]);
@@ -99,7 +99,7 @@ fn sums_do_not_wrap(rt: HostRuntime) {
     assert_same!(rt; refusal(rt.alloc(), &file, 1024), Some(OutsideRegions));
 }
 
-/// In memory with this many shared words, a segment's address, its length and its flags, and whether it is accepted.
+/// The number of shared words, a segment's address, length and flags, and whether it is accepted.
 static REGIONS: [(u32, u32, u32, u32, bool); 20] = [
     (1024, 0x0001_0000, 0x0001_0000, 4, true),
     (1024, 0x0001_0000, 0x0001_0001, 4, false),
@@ -137,8 +137,8 @@ fn regions(rt: HostRuntime) {
     }
 }
 
-/// Addresses and lengths of two segments, and whether they are accepted: those that touch are, in any order, and those
-/// that share an address are not.
+/// Addresses and lengths of two segments, and whether they are accepted. Adjacent segments are, in either order, and
+/// segments that share an address are not.
 static OVERLAPS: [((u32, u32), (u32, u32), bool); 12] = [
     ((0x0002_0000, 8), (0x0002_0008, 8), true),
     ((0x0002_0008, 8), (0x0002_0000, 8), true),
@@ -169,15 +169,15 @@ fn overlaps(rt: HostRuntime) {
 
 const GOOD: Part = (0x0001_0000, 0, 4, 4, 5);
 
-/// At an address of no region.
+/// A segment at an address of no region.
 const UNPLACED: Part = (0, 0, 4, 4, 5);
 
-/// With bytes after the file's end.
+/// A segment whose bytes would be past the end of the file.
 const UNFILED: Part = (0x0001_0000, 1_000_000, 4, 4, 5);
 
 const NEITHER: Part = (0, 1_000_000, 4, 4, 5);
 
-/// Segments, and the first of their faults in the order.
+/// Segments, some with several errors, and the error that is reported.
 static FIRST_FAULTS: [(&[Part], ImageError); 5] = [
     (&[GOOD, GOOD, UNPLACED], OutsideRegions),
     (&[GOOD, UNPLACED, UNFILED], OutsideRegions),
@@ -186,7 +186,7 @@ static FIRST_FAULTS: [(&[Part], ImageError); 5] = [
     (&[GOOD, GOOD, GOOD], Overlap),
 ];
 
-/// The error of a file of these segments with these bytes.
+/// The error of a file of these segments in which these bytes are changed.
 fn refusal_with(
     alloc: Global,
     parts: &[Part],
@@ -201,8 +201,8 @@ fn refusal_with(
     Ok(refusal(alloc, file.as_slice(), 1024))
 }
 
-/// The errors of a file of these segments with a wrong entry, with a wrong version too, and with a wrong first byte
-/// too.
+/// The errors of a file of these segments: with a wrong entry, then with a wrong version too, and then with a wrong
+/// first byte too.
 fn first_faults(alloc: Global, parts: &[Part]) -> Result<[Option<ImageError>; 3], AllocError> {
     let entry = refusal_with(alloc, parts, &[(24, 2)])?;
     let version = refusal_with(alloc, parts, &[(24, 2), (20, 2)])?;
@@ -210,8 +210,7 @@ fn first_faults(alloc: Global, parts: &[Part]) -> Result<[Option<ImageError>; 3]
     Ok([entry, version, first_byte])
 }
 
-/// Of several faults the first in the order is answered: a segment's comes before the entry's, and after those of the
-/// header.
+/// If there are several errors, one of the header is reported before one of a segment, and that before the entry's.
 #[test]
 fn first_fault_first(rt: HostRuntime) {
     for (parts, expected) in &FIRST_FAULTS {
@@ -232,7 +231,7 @@ fn long_file(alloc: Global, length: usize) -> Result<Vec<u8>, AllocError> {
     Ok(file)
 }
 
-/// The limit of the input's length, whatever it holds.
+/// An input longer than 1 MiB is refused, whatever it holds.
 #[test]
 fn too_long(rt: HostRuntime) {
     let file = long_file(rt.alloc(), 1_048_576).expect(&rt, "memory");

@@ -1,4 +1,4 @@
-//! The spelling of a layout.
+//! The image files of layouts.
 
 ghost use Rattle.std.specs.Prelude.{◌≡◌, true};
 ghost use Rattle.elf_image.specs.Spellings.{FitsRegions};
@@ -10,7 +10,7 @@ use std::alloc::{AllocGlobal, Global};
 use std::process::Abort;
 use test_support::{EBREAK, assert_same};
 
-/// Whether a layout fits its regions.
+/// Returns whether a layout fits its regions.
 pub fn fits(layout: &Layout) -> bool
     ensures { result ≡ true → FitsRegions layout.now }
 {
@@ -19,13 +19,13 @@ pub fn fits(layout: &Layout) -> bool
         && layout.shared.len() <= 0x0010_0000
 }
 
-/// Compares what is written of a layout.
+/// Compares the image file of a layout with these bytes.
 fn compare_file(rt: &(impl Abort + AllocGlobal), layout: &Layout, wanted: &[u8]) {
     let file = written(rt, rt.alloc(), layout);
     assert_same!(rt; file.as_slice(), wanted);
 }
 
-/// What is written of a layout.
+/// The image file of a layout.
 fn written(rt: &impl Abort, alloc: Global, layout: &Layout) -> Vec<u8> {
     assert!(rt; fits(layout));
     let mut writer = Meter::new(Vec::new(alloc));
@@ -33,14 +33,14 @@ fn written(rt: &impl Abort, alloc: Global, layout: &Layout) -> Vec<u8> {
     writer.device
 }
 
-/// One instruction.
+/// A layout of one instruction is written as the image of EBREAK.
 #[test]
 fn spelling_of_one_instruction(rt: HostRuntime) {
     let layout = layout_of(rt.alloc(), &[0x73, 0, 0x10, 0], &[], &[]).expect(&rt, "memory");
     compare_file(&rt, &layout, &EBREAK);
 }
 
-/// Bytes of code, of local memory and of shared memory, each present or not, and what is said of them.
+/// Bytes of code, of local memory and of shared memory, any of them empty, and the report on what is read back.
 static LAYOUTS: [(&[u8], &[u8], &[u8], &str); 5] = [
     (&[], &[], &[], ""),
     (&[1, 2, 3, 4], &[5], &[], "04030201 local 05"),
@@ -54,7 +54,7 @@ static LAYOUTS: [(&[u8], &[u8], &[u8], &str); 5] = [
     ),
 ];
 
-/// What is written is read back.
+/// A layout that is written is read back.
 #[test]
 fn read_back(rt: HostRuntime) {
     for (code, local, shared, wanted) in &LAYOUTS {
@@ -64,7 +64,8 @@ fn read_back(rt: HostRuntime) {
     }
 }
 
-/// The file of three segments, by hand: 52 bytes of header, three times 32, and then their bytes.
+/// The file of three segments, made by hand: an ELF header of 52 bytes, three program headers of 32, and then the bytes
+/// of the segments.
 static THREE_SEGMENTS: [u8; 155] = [
     0x7F, 0x45, 0x4C, 0x46, 1, 1, 1, 0, 0, 0, 0, 0, 0, 0, 0, 0, 2, 0, 0xF3, 0, 1, 0, 0, 0, 0, 0, 1,
     0, 0x34, 0, 0, 0, 0, 0, 0, 0, 0, 0, 0, 0, 0x34, 0, 0x20, 0, 3, 0, 0, 0, 0, 0, 0, 0, // the header

@@ -1,4 +1,4 @@
-//! Traces of machines whose queues combine an entry more than once, which have a longer header.
+//! Traces of machines whose queues may combine an entry more than once. They have a longer header.
 
 use super::{Change, compare, compare_changes, compare_lengths};
 use flat_machine::Config;
@@ -7,16 +7,16 @@ use test_support::assert_same;
 use trace_file::TraceError::{self, Header, Truncated};
 use trace_file::is_trace;
 
-/// The trace of no steps of a machine of four processors, which combines an entry three times.
+/// The trace of no steps of a machine of four processors that combines an entry up to three times.
 static NO_STEPS: [u8; 16] = [0x55, 0x4C, 0x54, 0x52, 2, 2, 4, 4, 3, 0, 0, 0, 0, 0, 0, 0];
 
-/// The trace of one service of the machine that combines an entry twice.
+/// The trace of one service of the same machine, if it combines an entry up to twice.
 static ONE_SERVICE: [u8; 28] = [
     0x55, 0x4C, 0x54, 0x52, 2, 2, 4, 4, 2, 0, 0, 0, 1, 0, 0, 0, // the header
     3, 3, 0, 0, 0, 0, 0, 0, 0, 0, 0, 0, // the record
 ];
 
-/// The size of that machine, but for how often it combines an entry.
+/// The size of that machine, which combines an entry up to `r` times.
 fn config(r: u8) -> Config {
     Config {
         k: 2,
@@ -34,13 +34,13 @@ fn spelled_and_read(rt: HostRuntime) {
     assert_same!(rt; (is_trace(&config(0), &[]), is_trace(&config(4), &[])), (false, false));
 }
 
-/// Cut short at each place, and with one byte more.
+/// A trace that is cut short at each place, and one with one more byte.
 #[test]
 fn lengths(rt: HostRuntime) {
     compare_lengths(&rt, &NO_STEPS);
 }
 
-/// Each byte of the header, at its limits and one past them. One combination has the shorter header alone.
+/// Each byte of the header, at its limits and one past them. A machine with an `r` of 1 has only the shorter header.
 #[test]
 fn headers(rt: HostRuntime) {
     compare_changes(&rt, &NO_STEPS, &HEADERS);

@@ -1,4 +1,4 @@
-//! Devices that fail at a call, or take and hand over one byte at a call.
+//! Devices that transfer one byte at each call, and may fail at one.
 
 use super::config;
 use link::{Link, Meter};
@@ -8,7 +8,7 @@ use steps::Step;
 use test_support::{ONE_TURN, Sink, Source, assert_same};
 use trace_file::{TraceError, is_trace, read_trace, write_trace};
 
-/// Counts its calls, and takes all that it is given.
+/// A writer that takes all bytes, and counts them and its calls.
 #[derive(Drop)]
 struct Counter {
     bytes: usize,
@@ -27,7 +27,7 @@ impl Write for Counter {
     }
 }
 
-/// The 24 bytes take 24 calls, and one more says that there are no more.
+/// Reading the 24 bytes takes 24 calls, and one more to find the end.
 #[test]
 fn each_read_fails_in_turn(rt: HostRuntime) {
     for fails_at in 0..28 {
@@ -45,10 +45,10 @@ fn each_read_fails_in_turn(rt: HostRuntime) {
     }
 }
 
-/// The steps of that trace.
+/// The steps of `ONE_TURN`.
 static STEPS: [Step; 1] = [Step::Turn(0)];
 
-/// A write that fails leaves the bytes before it.
+/// A write that fails leaves the bytes written before it.
 #[test]
 fn each_write_fails_in_turn(rt: HostRuntime) {
     let config = config(0);
@@ -65,7 +65,7 @@ fn each_write_fails_in_turn(rt: HostRuntime) {
     }
 }
 
-/// No byte past the trailing one is taken, and none after a wrong header.
+/// A reader takes no byte after the first trailing one, and none after a wrong header.
 #[test]
 fn takes_no_more_than_tells(rt: HostRuntime) {
     let mut rest: &[u8] = &LONGER;
@@ -83,7 +83,7 @@ static LONGER: [u8; 40] = [
     9, 9, 9, 9, 9, 9, 9, 9, 9, 9, 9, 9, 9, 9, 9, 9,
 ];
 
-/// The writer is called once for the header, and once for each 341 records.
+/// The writer is called once for the header, and once for each piece of up to 341 records.
 #[test]
 fn calls_for_pieces(rt: HostRuntime) {
     let mut writer = Meter::new(Counter { bytes: 0, calls: 0 });

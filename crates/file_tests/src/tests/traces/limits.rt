@@ -1,4 +1,4 @@
-//! Long traces, and the most steps that a trace has.
+//! Long traces, and the greatest number of steps that a trace can have.
 
 use super::{config, read, written};
 use std::alloc::{AllocError, Global};
@@ -26,13 +26,13 @@ fn several_pieces(rt: HostRuntime) {
     }
 }
 
-/// Whether this many steps have a trace.
+/// Returns whether this many steps have a trace.
 fn have_trace(alloc: Global, count: usize) -> Result<bool, AllocError> {
     let steps = vec![in alloc; Step::Serve(0); count]?;
     Ok(is_trace(&config(0), steps.as_slice()))
 }
 
-/// One step more than 4,194,304 has no trace.
+/// A trace has at most 4,194,304 steps.
 #[test]
 fn too_many_steps(rt: HostRuntime) {
     assert_same!(rt; MAX_STEPS, 4_194_304);

@@ -1,11 +1,11 @@
-//! Bytes that spell no trace, each with its fault.
+//! Bytes that spell no trace, each with its error.
 
 use super::{Change, compare_changes, compare_lengths, refusal};
 use std::alloc::{AllocError, Global};
 use test_support::{ONE_TURN, assert_same, trace_of};
 use trace_file::TraceError::{self, Header, Link, Memory, Record, Trailing, Truncated};
 
-/// Cut short at each place, and with one byte more.
+/// A trace that is cut short at each place, and one with one more byte.
 #[test]
 fn lengths(rt: HostRuntime) {
     compare_lengths(&rt, &ONE_TURN);
@@ -42,10 +42,10 @@ static HEADERS: [Change; 21] = [
     (11, 1, Some(Header)),
 ];
 
-/// The header of 0x00400000 records.
+/// The header of a trace of 0x00400000 records.
 static MOST_RECORDS: [u8; 12] = [0x55, 0x4C, 0x54, 0x52, 1, 0, 4, 4, 0, 0, 0x40, 0];
 
-/// Each byte of the record of a turn: its kind, the processor, and the bytes that are unused.
+/// Each byte of the record of a turn: its kind, the processor, and the unused bytes.
 #[test]
 fn records(rt: HostRuntime) {
     compare_changes(&rt, &ONE_TURN, &RECORDS);
@@ -67,8 +67,8 @@ static RECORDS: [Change; 13] = [
     (23, 1, Some(Record)),
 ];
 
-/// Records of a machine of four processors, and whether they are a step's: an entry at its limit, and
-/// one past it; a number where the kind has none.
+/// Records of a machine of four processors, and whether each spells a step. They have a field at its limit or one past
+/// it, or a nonzero byte that the kind does not use.
 static ENTRIES: [([u8; 12], bool); 29] = [
     ([1, 3, 0, 0, 0, 0, 0, 0, 0, 0, 0, 0], true),
     ([1, 4, 0, 0, 0, 0, 0, 0, 0, 0, 0, 0], false),
@@ -101,7 +101,7 @@ static ENTRIES: [([u8; 12], bool); 29] = [
     ([7, 0, 0, 0, 0, 0, 0, 0x80, 0, 1, 0, 0], false),
 ];
 
-/// The fault of a trace with this one record, of a machine of four processors.
+/// The error of a trace with this one record, of a machine of four processors.
 fn entry_refusal(alloc: Global, record: &[u8; 12]) -> Result<Option<TraceError>, AllocError> {
     let trace = trace_of(alloc, (2, 4, 4), &[*record])?;
     Ok(refusal(alloc, trace.as_slice()))
@@ -115,8 +115,8 @@ fn entries(rt: HostRuntime) {
     }
 }
 
-/// Bytes with several faults, and the one that is reported, which is the first. A header or a record that is cut short
-/// is that fault whatever its bytes.
+/// Bytes with several errors, and the first of them, which is reported. A header or record that is cut short is
+/// truncated, whatever its bytes.
 static SEVERAL_FAULTS: [(&[u8], TraceError); 5] = [
     (&[0xFF; 11], Truncated),
     (&[0xFF; 12], Header),
@@ -153,7 +153,7 @@ fn first_fault(rt: HostRuntime) {
     }
 }
 
-/// Each fault, and its number.
+/// Each error, and its text.
 static NUMBERS: [(TraceError, &str); 6] = [
     (Truncated, "X1"),
     (Header, "X2"),

@@ -1,4 +1,4 @@
-//! Each kind of step, there and back.
+//! Each kind of step, written and read back.
 
 use super::{compare, config};
 use flat_machine::{Config, PC, Poke};
@@ -54,7 +54,7 @@ static STEPS: [Step; 12] = [
     shared!(0x800F_FFFF, 255),
 ];
 
-/// The record of each, by hand.
+/// The record of each of these steps, worked out by hand.
 static RECORDS: [[u8; 12]; 12] = [
     [1, 3, 0, 0, 0, 0, 0, 0, 0, 0, 0, 0],
     [2, 0, 2, 0, 0, 0, 0, 0, 0, 0, 0, 0],
@@ -76,7 +76,7 @@ fn one_turn(rt: HostRuntime) {
     compare(&rt, &config(0), &[Step::Turn(0)], &ONE_TURN);
 }
 
-/// No steps at all, on the least machine and on the largest.
+/// No steps at all, on the smallest machine and on the largest.
 #[test]
 fn no_steps(rt: HostRuntime) {
     for (k, c, b) in [(0, 2, 0), (6, 16, 16)] {
@@ -92,7 +92,7 @@ fn no_steps(rt: HostRuntime) {
     }
 }
 
-/// Each kind of step by itself, and then all of them.
+/// Each of these steps by itself, and then all of them.
 #[test]
 fn each_kind(rt: HostRuntime) {
     for at in 0..12 {
@@ -113,7 +113,7 @@ static NO_STEPS: [Step; 6] = [
     shared!(0x8010_0000, 0),
 ];
 
-/// Such a step, and sizes that no machine has.
+/// A step that the machine does not have, and a size that no machine has, have no trace.
 #[test]
 fn what_has_no_trace(rt: HostRuntime) {
     for step in &NO_STEPS {

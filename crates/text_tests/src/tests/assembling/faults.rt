@@ -1,4 +1,4 @@
-//! Refusals, each with its line.
+//! Texts that are refused, with the code and the line of the fault.
 
 use super::compare_each;
 use assembler::{AsmError, AsmFault};
@@ -55,7 +55,7 @@ static FAULTS: [(&str, &str); 43] = [
     (".shared\n.zero 786432\n\n.word 1", "A6 line 4"),
 ];
 
-/// Each fault, and how it is reported.
+/// Each fault, and its text.
 static CODES: [(AsmFault, &str); 7] = [
     (AsmFault::UnknownWord, "A1 line 7"),
     (AsmFault::Form, "A2 line 7"),

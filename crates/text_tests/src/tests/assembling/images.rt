@@ -1,4 +1,4 @@
-//! Programs to image files, and back.
+//! Programs that are written as image files and read back.
 
 use crate::tests::image_of;
 use elf_image::{Image, ImageError, read_image};
@@ -8,8 +8,8 @@ use std::alloc::{AllocError, Global};
 use std::test::Fail;
 use test_support::{EBREAK, assert_same, layout_text};
 
-/// What is said of a text's image file, when it is read for a machine with this many shared words: its refusal, or the
-/// layout, and the words that it was read for.
+/// The report on a text's image file, read for a machine with this many shared words: its error, or its layout and the
+/// number of shared words for which it was read.
 fn read_back(alloc: Global, text: &str, shared_words: u32) -> Result<String, Fail> {
     let file = image_of(alloc, text)?;
     Ok(reported(alloc, read(alloc, file.as_slice(), shared_words))?)
@@ -43,7 +43,7 @@ fn image_of_one_instruction(rt: HostRuntime) -> Result<(), Fail> {
     Ok(())
 }
 
-/// A header for each section that has bytes, which follow one another after the headers.
+/// The image has a header for each section with bytes. The bytes of the sections follow the headers.
 #[test]
 fn image_of_three_sections(rt: HostRuntime) -> Result<(), Fail> {
     let text = "ecall\nstart: ebreak\n.shared\n.byte 6, 7, 8\n.local\n.byte 5";
@@ -79,7 +79,7 @@ static READ_BACK: [(&str, u32, &str); 10] = [
         "00100073 00000073 local 01 00 shared 01 02 03 04 05 entry 00010004 words 2",
     ),
     ("", 1, " words 1"),
-    // The shared section is as long as the shared words, and a byte longer.
+    // The shared section is as long as shared memory, and then a byte longer.
     (".shared\n.zero 8", 2, "shared 00*8 words 2"),
     (".shared\n.zero 9", 2, "I5"),
     (".shared\n.zero 9", 3, "shared 00*9 words 3"),
@@ -89,14 +89,14 @@ static READ_BACK: [(&str, u32, &str); 10] = [
         "shared 00*786432 words 196608",
     ),
     (".shared\n.zero 786432", 196_607, "I5"),
-    // The last word of code, and the address after it.
+    // The entry is the last word of code, and then the address after it.
     (
         ".zero 65532\nstart: ebreak",
         1,
         "00000000*16383 00100073 entry 0001fffc words 1",
     ),
     (".zero 65536\nstart:", 1, "I7"),
-    // All three sections as long as they may be.
+    // All three sections have their greatest length.
     (
         LARGEST,
         262_144,
@@ -106,7 +106,7 @@ static READ_BACK: [(&str, u32, &str); 10] = [
 
 const LARGEST: &str = ".zero 65536\n.local\n.zero 65536\n.shared\n.zero 786432";
 
-/// Three headers and 917,504 bytes.
+/// The headers have 148 bytes, and the sections 917,504.
 #[test]
 fn image_of_the_largest_program(rt: HostRuntime) -> Result<(), Fail> {
     let file = image_of(rt.alloc(), LARGEST)?;

@@ -64,7 +64,7 @@ static OUT_OF_RANGE: [&str; 25] = [
     ".zero 123456789012345678901234567890",
 ];
 
-/// A branch or jump counts from its own place, at each end of its range.
+/// The distance of a branch or a jump is counted from its own address. Targets are at each end of the range.
 #[test]
 fn targets_are_counted_from_the_instruction(rt: HostRuntime) {
     compare_each(&rt, &TARGETS);
@@ -94,7 +94,7 @@ static TARGETS: [(&str, &str); 9] = [
     ("jal x0, other\n.shared\nother:", "A3 line 1"),
 ];
 
-/// `%hi` counts one up where `%lo` is negative, so that both make the value.
+/// `%hi` is one more if `%lo` is negative, so that both together make the address.
 #[test]
 fn parts_of_a_label(rt: HostRuntime) {
     for (zeros, code) in &PARTS {
@@ -105,7 +105,7 @@ fn parts_of_a_label(rt: HostRuntime) {
     }
 }
 
-/// How many bytes stand before a label, and what its parts make.
+/// The number of bytes before a label, and the code with its parts.
 static PARTS: [(u32, &str); 5] = [
     (0, "800002b7 00028293 00528023 80000097"),
     (2047, "800002b7 7ff28293 7e528fa3 80000097 shared 00*2047"),
@@ -114,7 +114,7 @@ static PARTS: [(u32, &str); 5] = [
     (4096, "800012b7 00028293 00528023 80001097 shared 00*4096"),
 ];
 
-/// A label has its value in the section of its own line, also where the line changes the section.
+/// A label has its address in the section that is current before its line, even if the line changes the section.
 #[test]
 fn labels_have_their_sections_addresses(rt: HostRuntime) {
     compare_each(&rt, &ADDRESSES);
@@ -130,14 +130,14 @@ fn registers_by_number_and_by_use(rt: HostRuntime) {
     for number in 0..32 {
         let name = USES[number];
         let text = format!(in rt.alloc(); "add {name}, x{number}, {name}").expect(&rt, "memory");
-        // The number stands in bits 7 to 11, 15 to 19 and 20 to 24.
+        // The number is in bits 7 to 11, 15 to 19 and 20 to 24.
         let word = 0x33 + number * 0x0010_8080;
         let wanted = format!(in rt.alloc(); "{word:08x}").expect(&rt, "memory");
         compare(&rt, text.as_str(), wanted.as_str());
     }
 }
 
-/// The names of registers by use, from `x0` on.
+/// The ABI names of registers, from `x0` on.
 static USES: [&str; 32] = [
     "zero", "ra", "sp", "gp", "tp", "t0", "t1", "t2", "s0", "s1", "a0", "a1", "a2", "a3", "a4",
     "a5", "a6", "a7", "s2", "s3", "s4", "s5", "s6", "s7", "s8", "s9", "s10", "s11", "t3", "t4",

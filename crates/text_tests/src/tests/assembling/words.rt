@@ -1,4 +1,4 @@
-//! Words and bytes.
+//! The words and bytes to which texts assemble.
 
 use super::{compare, compare_all, compare_each};
 use std::alloc::{AllocError, Global};
@@ -31,7 +31,7 @@ static INSTRUCTIONS: [(&str, &str); 19] = [
     ("ebreak", "00100073"),
 ];
 
-/// Blanks and tabs wherever they may stand, comments, labels alone, no last LF.
+/// Blanks and tabs wherever they are allowed, comments, lines with only a label, and no last LF.
 #[test]
 fn blanks_and_comments_change_nothing(rt: HostRuntime) {
     compare_all(&rt, &ONE_ADDI, "00100093");
@@ -63,7 +63,7 @@ static SECTIONS: [(&str, &str); 4] = [
         ".shared\n.zero 4092\nv: .word 7\n.code\nlui x5, %hi(v)\nlw x6, %lo(v)(x5)",
         "800012b7 ffc2a303 shared 00*4092 07 00*3",
     ),
-    // Each section goes on where it ended.
+    // Each section continues where it ended.
     (
         "\
 .shared
@@ -81,13 +81,13 @@ here: .zero 1
 .word here, -1, 4294967295",
         "00000073 00020002 ffffffff*2 local 02 03 00 04 shared 01 ff*2 7f",
     ),
-    // The program that adds to one shared word from every processor.
+    // The program by which every processor adds to one shared word.
     (
         HUNDRED_ADDS,
         "800002b7 06400313 00100393 0072a42f fff30313 fe031ce3 0002a483 06400593 00b4ee63 00100893 04100513 00000073 \
          00000893 00000513 00000073 00100073",
     ),
-    // Sections may be as long as their regions.
+    // Sections of the greatest length.
     (
         ".zero 65536\n.local\n.zero 65536\n.shared\n.zero 786432\nend:",
         "00000000*16384 local 00*65536 shared 00*786432",
