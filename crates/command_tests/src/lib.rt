@@ -1,6 +1,7 @@
-//! Tests of the commands that run programs and replay traces, from the bytes of files to the bytes of a report.
+//! Tests of the commands that run and explore programs and replay traces, from the bytes of files to the bytes of a
+//! report.
 //!
-//! They stand in a crate of their own, so that what stands on the commands need not wait for them.
+//! The tests are a crate of their own, so that crates above the commands need not wait for them.
 #![tactic(auto)]
 
 #[cfg(test)]

@@ -1,5 +1,5 @@
-//! The machine on small programs. Words of instructions and what they do are the RISC-V manual's;
-//! all other values are worked out by hand. Most tests are tables of cases (`test_support`).
+//! The machine on small programs. Words of instructions and their results come from the RISC-V manual, and all other
+//! values are worked out by hand. Most tests are tables of cases (`test_support`).
 
 mod beside_a_plain_machine;
 mod combining;
@@ -16,7 +16,7 @@ use std::fmt::Debug;
 use std::process::Abort;
 use test_support::Program;
 
-/// Ends the test where the two differ, and says them and the case that they are of ([`assert_same!`]).
+/// Fails the test if the two values differ, and prints both and their case ([`assert_same!`]).
 fn same<T: PartialEq + Debug, A: Debug>(rt: &impl Abort, found: &T, wanted: &T, at: &A) {
     assert_eq!(rt; found, wanted, "{at:?}");
 }

@@ -1,6 +1,6 @@
-//! Tests of what the words of the command line ask for.
+//! Tests of the settings that command lines ask for.
 //!
-//! They stand in a crate of their own, so that what stands on the settings need not wait for them.
+//! The tests are a crate of their own, so that crates above the settings need not wait for them.
 #![tactic(auto)]
 
 #[cfg(test)]

@@ -1,8 +1,8 @@
-//! What no clause says: the texts of the errors, that right words are taken where there is memory, and what an
-//! allocation that is refused leaves of an error's text.
+//! What no clause says: the texts of errors, that correct command lines are accepted if there is memory, and what is
+//! left of an error's text if an allocation is refused.
 //!
-//! The cases are texts, as of a terminal. After `$ ` stand the words, and below them the answer: the settings, or the
-//! kind of the error and a part of its text. A part that ends within a line ends with `\`.
+//! The cases are written as on a terminal. After `$ ` comes the command line, and below it the answer: the settings, or
+//! the kind of the error and a part of its text. A part that ends within a line ends with `\`.
 
 mod check;
 mod debug;
@@ -28,7 +28,7 @@ use std::process::Abort;
 use std::test::Fail;
 use test_support::assert_same;
 
-/// Ends the test where the two differ, and says them and the case that they are of ([`assert_same!`]).
+/// Fails the test if the two values differ, and prints both and their case ([`assert_same!`]).
 fn same<T: PartialEq + Debug, A: Debug>(rt: &impl Abort, found: &T, wanted: &T, at: &A) {
     assert_eq!(rt; found, wanted, "{at:?}");
 }
@@ -56,7 +56,7 @@ $ ultra dis --words 0001024 -- a.elf
 Dis(Dis { file: "a.elf", words: 1024 })
 "#;
 
-/// What is wrong in other words, and parts of the help.
+/// Wrong command lines with their errors, and parts of the help.
 const REFUSED: &str = "\
 $ ultra
 MissingSubcommand
@@ -119,7 +119,7 @@ static CASES: [&str; 21] = [
     picture::REFUSED,
 ];
 
-/// The error is the one that stands there. An `Err` is a lack of memory.
+/// Compares an error with the expected answer. Returns an error if out of memory.
 fn compare_error(
     rt: &(impl Abort + AllocGlobal),
     line: &str,
@@ -139,7 +139,7 @@ fn compare_error(
     Ok(())
 }
 
-/// The answer to the words is the one that stands below them. An `Err` is a lack of memory.
+/// Compares the answer to a command line with the one below it. Returns an error if out of memory.
 fn compare(rt: &(impl Abort + AllocGlobal), case: &str) -> Result<(), AllocError> {
     let (line, answer) = case.split_once('\n').expect(rt, "an answer");
     let words: Vec<&str> = line.split_whitespace().collect(rt.alloc())?;
@@ -153,7 +153,7 @@ fn compare(rt: &(impl Abort + AllocGlobal), case: &str) -> Result<(), AllocError
     }
 }
 
-/// Compares the answers to the first cases of a text, this many at most. Whether there was memory for each.
+/// Compares the answers to the first cases of a text, this many at most. Returns whether there was memory for each.
 fn compare_first(rt: &(impl Abort + AllocGlobal), cases: &str, most: usize) -> bool {
     let mut is_ample = true;
     for case in cases.split("$ ").skip(1).take(most) {
@@ -162,7 +162,7 @@ fn compare_first(rt: &(impl Abort + AllocGlobal), cases: &str, most: usize) -> b
     is_ample
 }
 
-/// Compares the answer of a case that was made. Whether there was memory for both.
+/// Compares the answer to a case that was built. Returns whether there was memory for both.
 fn compare_made(rt: &(impl Abort + AllocGlobal), case: Result<String, AllocError>) -> bool {
     match case {
         Ok(case) => compare(rt, case.as_str()).is_ok(),
@@ -170,7 +170,8 @@ fn compare_made(rt: &(impl Abort + AllocGlobal), case: Result<String, AllocError
     }
 }
 
-/// Compares the answers to words that change one thing of a run, this many at most. Whether there was memory for each.
+/// Compares the answers to command lines that change one setting of a run, this many at most. Returns whether there was
+/// memory for each.
 fn compare_changed(rt: &(impl Abort + AllocGlobal), most: usize) -> bool {
     let mut is_ample = true;
     for (words, old, new) in run::CHANGED.iter().take(most) {
@@ -181,7 +182,7 @@ fn compare_changed(rt: &(impl Abort + AllocGlobal), most: usize) -> bool {
     is_ample
 }
 
-/// Compares the answers to the first words of each kind, this many at most. Whether there was memory for each.
+/// Compares the answers to the first cases of each kind, this many at most. Returns whether there was memory for each.
 fn compare_each_kind(rt: &(impl Abort + AllocGlobal), most: usize) -> bool {
     let mut is_ample = true;
     for cases in &CASES {
@@ -195,10 +196,7 @@ fn words_have_their_answers(rt: HostRuntime) {
     assert!(rt; compare_each_kind(&rt, usize::MAX));
 }
 
-/// Each allocation of this test is to be refused in turn. Then the answer is the same, its text too, or it is that
-/// memory ran out. These are some thousand allocations, so only the first words of each kind are asked about. The help
-/// of each option that takes a number ends in the default that holds where it is not given, and has the range that is
-/// taken.
+/// The help of each option that takes a number has the range of the number, and ends with its default.
 #[test]
 fn help_has_the_defaults(rt: HostRuntime) -> Result<(), Fail> {
     let alloc = rt.alloc();
@@ -234,6 +232,8 @@ fn help_has_the_defaults(rt: HostRuntime) -> Result<(), Fail> {
     Ok(())
 }
 
+/// The test runs with each of its allocations refused in turn. An answer and its text are then the same, or say that
+/// memory ran out. There are some thousands of allocations, so the test compares only the first case of each kind.
 #[test]
 fn is_short_of_memory(rt: HostRuntime) {
     compare_each_kind(&rt, 1);

@@ -1,5 +1,5 @@
-//! The command, from the bytes of an image to the bytes of the lines. Images are those of texts that are
-//! assembled; the results are worked out by hand.
+//! The command `explore`, from the bytes of an image to the bytes of the lines. Images are assembled from texts, and
+//! the results are worked out by hand.
 
 mod devices;
 mod ends;
@@ -12,7 +12,7 @@ use link::Meter;
 use std::alloc::Global;
 use test_support::size;
 
-/// A machine of this many processors, with 16 shared words.
+/// The size of a machine of 2^k processors, with 16 shared words.
 fn config_of(k: u8) -> Config {
     Config {
         shared_words: 16,
@@ -20,7 +20,7 @@ fn config_of(k: u8) -> Config {
     }
 }
 
-/// What the command comes to.
+/// The outcome of the command.
 #[derive(Drop)]
 struct Ran {
     status: u8,
@@ -28,7 +28,7 @@ struct Ran {
     err: Vec<u8>,
 }
 
-/// A search up to exchanges of processors that stand alike, without a witness.
+/// A search up to exchanges of alike processors, without a witness.
 const fn up_to_exchanges(limit: u32) -> Asked {
     Asked {
         limit,
@@ -37,7 +37,7 @@ const fn up_to_exchanges(limit: u32) -> Asked {
     }
 }
 
-/// A search that lists each result by itself.
+/// A search that lists each result by itself, without a witness.
 const fn each(limit: u32) -> Asked {
     Asked {
         limit,
@@ -46,7 +46,7 @@ const fn each(limit: u32) -> Asked {
     }
 }
 
-/// All results of an image.
+/// The outcome of exploring an image on a machine of this size.
 fn explore(alloc: Global, file: &[u8], config: Config, asked: Asked) -> Ran {
     let mut out = Meter::new(Vec::new(alloc));
     let mut err = Vec::new(alloc);
@@ -68,7 +68,7 @@ fn explore(alloc: Global, file: &[u8], config: Config, asked: Asked) -> Ran {
     }
 }
 
-/// What there is of an image on machines of every size.
+/// The outcome of exploring an image on machines of every size.
 fn explore_sizes(alloc: Global, file: &[u8], config: Config, asked: Asked) -> Ran {
     let mut out = Meter::new(Vec::new(alloc));
     let mut err = Vec::new(alloc);

@@ -1,5 +1,5 @@
-//! The commands, from the bytes of files to the bytes of a report. Images are those of texts that are
-//! assembled; what is expected is worked out by hand from the RISC-V manual and the schedule.
+//! The commands `run` and `replay`, from the bytes of files to the bytes of a report. Images are assembled from texts,
+//! and reports are worked out by hand from the RISC-V manual and the schedule.
 
 mod devices;
 mod ends;
@@ -19,13 +19,13 @@ use trace_commands::replay_command;
 /// A budget that no program here uses up, unless it has no end.
 const AMPLE: u32 = 200_000;
 
-/// What a command comes to.
+/// The outcome of a command.
 #[derive(Drop)]
 struct Ran {
     status: u8,
     out: Vec<u8>,
     err: Vec<u8>,
-    /// The trace, where one was asked for.
+    /// The trace, if one was asked for.
     trace: Vec<u8>,
 }
 

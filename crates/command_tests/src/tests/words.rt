@@ -1,4 +1,4 @@
-//! The command, from the bytes of a file to the bytes of a report: what no clause says of it.
+//! The command `words`, from the bytes of a file to the bytes of a report: what no clause says of it.
 
 use command_io::{Fault, report_fault};
 use std::alloc::{AllocError, Global};
@@ -8,7 +8,7 @@ use std::test::Fail;
 use test_support::{Broken, Endless, Full, Ran, assert_same, ran};
 use words_command::words_command;
 
-/// What a run of a file comes to, with this device for the report.
+/// The outcome of running a file, with this device for the report.
 fn run<R: Read + Drop, W: Write + Drop>(alloc: Global, file: R, device: W) -> Ran<W> {
     ran!(
         device,
@@ -17,12 +17,12 @@ fn run<R: Read + Drop, W: Write + Drop>(alloc: Global, file: R, device: W) -> Ra
     )
 }
 
-/// What a run of these lines comes to.
+/// The outcome of running these lines.
 fn run_text(alloc: Global, text: &[u8]) -> Ran<Vec<u8>> {
     run(alloc, text, Vec::new(alloc))
 }
 
-/// A report in which these registers are not 0.
+/// A report in which only these registers are not 0, with these last lines.
 fn report_with(alloc: Global, registers: &[(u8, u32)], end: &str) -> Result<String, AllocError> {
     let mut text = String::new(alloc);
     for number in 0..32u8 {
@@ -41,7 +41,7 @@ fn report_with(alloc: Global, registers: &[(u8, u32)], end: &str) -> Result<Stri
 /// A program, its registers that are not 0, the two last lines of its report, and the exit status.
 type Row = (&'static str, &'static [(u8, u32)], &'static str, u8);
 
-/// Values by hand from the RISC-V manual.
+/// Programs and their reports, with values worked out by hand from the RISC-V manual.
 static REPORTED: [Row; 9] = [
     // A store of -1 to a shared word, a fetch-and-add of 1 to it, and a load of it.
     (
@@ -150,8 +150,8 @@ fn tells_what_the_outside_refuses(rt: HostRuntime) -> Result<(), Fail> {
     run(alloc, Broken, Vec::new(alloc)).comes_to(3, b"", "ultra: link\n")?;
     run(alloc, Endless, Vec::new(alloc)).comes_to(2, b"", "ultra: V1 line 1\n")?;
 
-    // Standard output comes before the processor's fault, and the exit status is reported without
-    // standard error too.
+    // A failure of standard output decides the exit status, and not the processor's fault. The status is the same if
+    // standard error fails too.
     let ran = run(alloc, b"00100093".as_slice(), Full);
     assert!(rt; ran.has_failed);
     ran.comes_to(3, b"", "ultra: link\n")?;

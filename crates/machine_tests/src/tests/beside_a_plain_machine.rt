@@ -1,4 +1,4 @@
-//! The machine by random steps, and what it is compared with.
+//! The machine on random steps, and the plain machine with which it is compared.
 
 mod plain;
 mod random;

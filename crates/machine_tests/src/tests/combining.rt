@@ -1,4 +1,4 @@
-//! References that meet in switches, or would.
+//! References whose requests meet in switches, and combine or do not.
 
 use super::pieces::{
     ADD_AND_SWAP, ADDS, FOUND_0_2_1_3, FOUR_ADDS, FOUR_TURNS, PAIRS_MEET, SUMS_OF_PAIRS,
@@ -35,7 +35,7 @@ static CASES: [Case; 13] = [
         order: "turn 0, turn 2, turn 1, turn 3",
         ..ADDS
     },
-    // What is combined first comes first.
+    // The request that is first at the switch comes first in the serial order.
     Case {
         name: "the add comes before the swap",
         pokes: &["word 0 7", ADD_AND_SWAP],
@@ -66,8 +66,8 @@ static CASES: [Case; 13] = [
         order: "turn 2, turn 0",
         ..ADDS
     },
-    // A minimum and an add do not compose: each goes by itself, and the module takes the second when the reply of the
-    // first has gone.
+    // A minimum and an add do not compose. Each goes by itself, and the module serves the second after the reply of the
+    // first has left.
     Case {
         name: "a minimum and an add go apart",
         pokes: &[
@@ -91,7 +91,7 @@ static CASES: [Case; 13] = [
         ..ADDS
     },
     // Three requests combine with the first, and its reply is split in four, in the order of the combinations. Each
-    // second gets what the functions before it make of the word.
+    // second gets the value that the functions before it give the word.
     Case {
         name: "an entry is combined three times",
         machine: "machine_3 2 4 4 1024",
@@ -111,7 +111,7 @@ static CASES: [Case; 13] = [
         order: "turn 0, turn 2, turn 1, turn 3",
         ..ADDS
     },
-    // Where two combinations are the most, the third request goes by itself.
+    // If an entry is combined at most twice, the third request to meet it goes by itself.
     Case {
         name: "an entry is combined twice at most",
         machine: "machine_2 2 4 4 1024",
@@ -131,7 +131,7 @@ static CASES: [Case; 13] = [
         order: "turn 0, turn 2, turn 1, turn 3",
         ..ADDS
     },
-    // Where no record is free, a request goes by itself that a record more would have combined.
+    // If no record is free, a request goes by itself. With one more record, as in the case after this, it is combined.
     Case {
         name: "no record is free",
         machine: "machine 2 4 1 1024",
@@ -172,7 +172,7 @@ static CASES: [Case; 13] = [
         order: "turn 0, turn 2, turn 1, turn 3",
         ..ADDS
     },
-    // A reply that splits needs two places: where one is free it stays.
+    // A reply that splits needs two places. If only one is free, it stays.
     Case {
         name: "two places are needed",
         machine: "machine 3 2 1 1024",
@@ -198,7 +198,7 @@ static CASES: [Case; 13] = [
         order: "turn 4, turn 0, turn 2",
         ..ADDS
     },
-    // Neither store undoes the other.
+    // Two stores of bytes combine, and neither undoes the other.
     Case {
         name: "two stores of bytes to one word",
         pokes: &[
@@ -259,7 +259,7 @@ static CASES: [Case; 13] = [
         order: "turn 0",
         ..ADDS
     },
-    // Both processors of a machine of one stage combine at its one switch.
+    // The requests of both processors of a machine of one stage combine at its one switch.
     Case {
         name: "one stage",
         machine: "machine 1 4 4 1024",

@@ -1,4 +1,4 @@
-//! Drains: how many steps they take, and which step is next.
+//! Drains: how many steps they take, and which step comes next.
 
 use super::pieces::{ADDS, FOUR_TURNS, PAIRS_MEET, SUMS_IN_ORDER, SUMS_OF_PAIRS};
 use std::test::Fail;
@@ -10,8 +10,8 @@ fn machines_drain(rt: HostRuntime) -> Result<(), Fail> {
 }
 
 static CASES: [Case; 7] = [
-    // Where no request has moved, each goes to the module and back by itself, which is the most that a drain of four
-    // takes.
+    // If no request has moved, each goes to the module and back by itself. A drain of four references takes no more
+    // steps than that.
     Case {
         name: "all that is open drains by steps",
         calls: &[
@@ -34,7 +34,7 @@ static CASES: [Case; 7] = [
         ],
         ..ADDS
     },
-    // Where two pairs have combined at the first stage, half as many steps do.
+    // If two pairs have combined at the first stage, half as many steps are enough.
     Case {
         name: "pairs drain by steps",
         calls: &[
@@ -57,7 +57,7 @@ static CASES: [Case; 7] = [
         ],
         ..ADDS
     },
-    // An idle machine drains in no step. One reference goes through two stages and back: six steps, the last of them
+    // An idle machine drains in no step. One reference goes through two stages and back in six steps, the last of them
     // its turn.
     Case {
         name: "an idle machine, and one reference",
@@ -79,7 +79,7 @@ static CASES: [Case; 7] = [
         ],
         ..ADDS
     },
-    // A reply goes before a request, and of two the one that is nearer to its end.
+    // A drain moves a reply before a request, and of two replies or requests the one that is nearer to its end.
     Case {
         name: "nearest first",
         machine: "machine 2 4 0 1024",
@@ -123,7 +123,7 @@ static CASES: [Case; 7] = [
         order: "turn 0, turn 1, turn 2",
         ..ADDS
     },
-    // A processor that has stopped is left alone, as are those that run and are not open.
+    // A drain leaves alone processors that have stopped, and those that run and have no open reference.
     Case {
         name: "stopped processors stay stopped",
         pokes: &["word 0 1", "poke 3 11 1, poke 3 12 0x80000000"],

@@ -1,4 +1,4 @@
-//! Which machines there are, and what their readers answer at the ends of what they number.
+//! The limits of a machine's size, and what its readers return at the limits of their arguments.
 
 use super::REFERENCES;
 use super::pieces::ADDS;
@@ -22,7 +22,7 @@ fn image(alloc: Global, shared_words: u32) -> Result<Image, Fail> {
     REFERENCES.image(alloc, &config)
 }
 
-/// Each number of a configuration at its limits, and one past them; and an image that was read for another number of
+/// Each number of a configuration at its limits, and one past them, and images that were read for another number of
 /// shared words than the configuration's.
 #[test]
 fn limits_of_a_machine(rt: HostRuntime) -> Result<(), Fail> {
@@ -61,8 +61,8 @@ fn limits_of_a_machine(rt: HostRuntime) -> Result<(), Fail> {
     Ok(())
 }
 
-/// The refusal of a machine of this size on an image that was read for this many shared words. One that is not refused
-/// is idle, and of this size.
+/// The error of a machine of this size on an image that was read for this many shared words. A machine that is made
+/// must be idle and have this size.
 fn refusal_of(
     rt: &(impl Abort + AllocGlobal),
     config: Config,
@@ -83,7 +83,7 @@ fn expect_idle(rt: &impl Abort, machine: &Machine, config: Config) {
     assert!(rt; machine.is_idle());
 }
 
-/// The codes that refusals are reported by.
+/// The codes that report the errors.
 #[test]
 fn codes_of_refusals(rt: HostRuntime) -> Result<(), Fail> {
     let code = text_of(rt.alloc(), NewError::Config)?;
@@ -103,8 +103,8 @@ fn readers_at_their_ends(rt: HostRuntime) -> Result<(), Fail> {
 }
 
 static CASES: [Case; 3] = [
-    // A machine has four processors, numbered from 0, with 32 registers each. The address of processor 2's word is 0,
-    // in no region.
+    // The machine has four processors, numbered from 0, with 32 registers each. Processor 2 faults because its address
+    // is 0, which is in no region.
     Case {
         name: "processors and registers",
         pokes: &["poke 0 11 5, poke 1 11 6, poke 2 11 7, poke 3 11 8, poke 2 32 0x10004"],
@@ -135,7 +135,7 @@ static CASES: [Case; 3] = [
         order: "turn 2",
         ..ADDS
     },
-    // Local bytes are each processor's own, from 0x00020000 to 0x0002FFFF.
+    // Each processor has local bytes of its own, from 0x00020000 to 0x0002FFFF.
     Case {
         name: "local bytes",
         pokes: &[],
@@ -153,8 +153,8 @@ static CASES: [Case; 3] = [
         order: "poke_local 0 0x20000 1, poke_local 1 0x20000 2, poke_local 3 0x2FFFF 3",
         ..ADDS
     },
-    // Shared words go round the modules, and there are as many as the configuration says. There is room for two more
-    // in the modules.
+    // Shared words go to the modules in turn, and there are as many as the configuration says, although the modules
+    // have room for two more.
     Case {
         name: "shared words",
         machine: "machine 2 4 4 6",

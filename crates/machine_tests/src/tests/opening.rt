@@ -1,4 +1,4 @@
-//! What machines open with.
+//! The state in which machines start.
 
 use flat_machine::{CODE_START, Config};
 use machine_steps::Machine;
@@ -37,7 +37,7 @@ const STORE_AND_LOAD: Program<'static> = Program {
     shared: &[],
 };
 
-/// A reference of the one processor. There is no network that its messages could move in.
+/// A reference of the one processor. The machine has no network through which messages could move.
 const THERE_AND_BACK: &str = "
     serve 0: stalled
     turn 0: issued
@@ -46,8 +46,8 @@ const THERE_AND_BACK: &str = "
     idle: no";
 
 static CASES: [Case; 3] = [
-    // Each processor stands at the entry and runs, with registers of zero and the local bytes of the image in a memory
-    // of its own; the shared bytes of the image are in the words, the lowest first.
+    // Each processor runs at the entry, with registers of zero and the local bytes of the image in a memory of its own.
+    // The shared bytes of the image are in the shared words, the lowest byte of each first.
     Case {
         name: "the opening of an image",
         machine: "machine 2 4 4 1024",
@@ -82,7 +82,7 @@ static CASES: [Case; 3] = [
         ],
         order: "",
     },
-    // What a processor stores in local memory no other sees.
+    // No other processor sees what a processor stores in its local memory.
     Case {
         name: "local memories are apart",
         machine: "machine 2 4 4 1024",
@@ -105,7 +105,7 @@ static CASES: [Case; 3] = [
         ],
         order: "turn 1, turn 1, turn 1",
     },
-    // A machine of one processor has no stage: its requests stand at the module, and its replies at the processor.
+    // A machine of one processor has no stage. A request is at the module at once, and a reply at the processor.
     Case {
         name: "one processor",
         machine: "machine 0 2 0 2",
@@ -146,7 +146,7 @@ const WORDS_OF_THEIR_OWN: Program<'static> = Program {
     shared: &[],
 };
 
-/// The most processors, the least of all else: each adds to a word of its own, all at once.
+/// A machine with the most processors and the least of all else. All processors add at once, each to a word of its own.
 #[test]
 fn largest_machine(rt: HostRuntime) -> Result<(), Fail> {
     let config = Config {
@@ -174,7 +174,7 @@ fn take_turns(machine: &mut Machine) {
     }
 }
 
-/// Each processor has come to its end, and each word has its number.
+/// Checks that each processor is at the end of the program, and that each word has the number of its processor.
 fn expect_sums(rt: &impl Abort, machine: &Machine) {
     for p in 0..64u8 {
         assert_same!(rt; machine.pc(p), Some(0x0001_0018), p);
@@ -183,7 +183,7 @@ fn expect_sums(rt: &impl Abort, machine: &Machine) {
     assert!(rt; machine.is_idle());
 }
 
-/// All requests go to the modules, and are served.
+/// Moves all requests to the modules, which serve them.
 fn go_there(rt: &impl Abort, machine: &mut Machine) {
     assert!(rt; !machine.is_idle());
     for stage in 0..6u8 {
@@ -198,7 +198,7 @@ fn go_there(rt: &impl Abort, machine: &mut Machine) {
     }
 }
 
-/// All replies go to the processors.
+/// Moves all replies to the processors.
 fn come_back(rt: &impl Abort, machine: &mut Machine) {
     for stage in [5, 4, 3, 2, 1, 0] {
         for wire in 0..64u8 {

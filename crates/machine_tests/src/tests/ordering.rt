@@ -10,7 +10,7 @@ fn orders_are_listed(rt: HostRuntime) -> Result<(), Fail> {
     check_orders(rt.alloc(), &CASES)
 }
 
-/// An instruction of its own processor alone. What stands after it is no instruction.
+/// One local instruction. The word after it is no instruction.
 const LOCAL: Program<'static> = Program {
     entry: CODE_START,
     code: &[0x0010_8093], // addi x1, x1, 1
@@ -19,7 +19,7 @@ const LOCAL: Program<'static> = Program {
 };
 
 static CASES: [Case; 4] = [
-    // A group is entered when it is served, in the order in which its requests came to their switch.
+    // A group enters the order when it is served, in the order in which its requests came to their switch.
     Case {
         name: "first at the switch goes first",
         pokes: &["word 0 7", ADD_AND_SWAP],
@@ -42,8 +42,8 @@ static CASES: [Case; 4] = [
         order: "turn 2, turn 0",
         ..ADDS
     },
-    // References that are not combined go as they are served. One that is not served is not in the order, and the
-    // retirement of one that was adds nothing.
+    // References that are not combined enter the order as they are served. One that is not served yet is not in the
+    // order, and the retirement of one that was served adds nothing.
     Case {
         name: "the order is of the services",
         pokes: &[FOUR_ADDS],
@@ -62,7 +62,7 @@ static CASES: [Case; 4] = [
         order: "turn 1, turn 0",
         ..ADDS
     },
-    // A local instruction, a stop and a poke are entered at their step; what stalls is not.
+    // A local instruction, a stop and a poke enter the order at their step. A step that stalls does not.
     Case {
         name: "local steps and pokes",
         machine: "machine 2 4 4 1024",

@@ -1,4 +1,4 @@
-//! Steps that do nothing: what they meet, and that nothing changes.
+//! Steps that stall, and why. Nothing of the machine changes.
 
 use super::pieces::{ADDS, FOUR_TURNS};
 use flat_machine::CODE_START;
@@ -18,14 +18,14 @@ const NO_PLACES: &str = "
     poke_local 4 0x20000 0xA5, poke_local 255 0x20000 0xA5: stalled
 ";
 
-/// All moves of messages, and all services, of such a machine.
+/// All moves of messages and all services of a machine of four processors and two stages.
 const ALL_MOVES: &str = "
     up 0 0, up 1 0, serve 0, down 1 0, down 0 0, up 0 1, up 1 1, serve 1, down 1 1, down 0 1: stalled
     up 0 2, up 1 2, serve 2, down 1 2, down 0 2, up 0 3, up 1 3, serve 3, down 1 3, down 0 3: stalled
 ";
 
-/// All that is not on the way of a message of processor 3 to module 0, which goes from wire 3 by switch 1 and wire 2,
-/// and then by switch 0 and wire 0; and pokes.
+/// All moves and services that are not on the path of a message between processor 3 and module 0, and pokes. The path
+/// goes from wire 3 through switch 1 to wire 2, and then through switch 0 to wire 0.
 const OFF_THE_WAY: &str = "
     up 0 0, up 0 1, up 0 2, up 1 0, up 1 1, up 1 3, serve 1, serve 2, serve 3: stalled
     down 1 1, down 1 2, down 1 3, down 0 0, down 0 1, down 0 3, poke 0 11 7, poke 3 11 7: stalled
@@ -33,7 +33,7 @@ const OFF_THE_WAY: &str = "
     poke_shared 0x80000000 0xA5, poke_shared 0x80000008 0xA5: stalled
 ";
 
-/// Pokes of what is no target on a machine of six shared words.
+/// Pokes that have no target on a machine of six shared words.
 const NO_TARGETS: &str = "
     poke 0 0 1, poke 0 32 0x10001, poke 0 32 0x10002, poke 0 32 0xFFFFFFFF, poke 0 33 4: stalled
     poke 0 255 4, poke_local 0 0 0xA5, poke_local 0 0x10000 0xA5, poke_local 0 0x1FFFF 0xA5: stalled
@@ -46,7 +46,7 @@ const TURN_OF_1: &str = "
     turn 1: stalled
 ";
 
-/// It is poked.
+/// Processor 1 is poked.
 const POKED: &str = "
     poke 1 11 5, poke 1 32 0x10004, poke_local 1 0x20000 0xA5: poked
     register 1 11: is 5
@@ -64,8 +64,8 @@ static CASES: [Case; 7] = [
         calls: &[ALL_MOVES],
         ..ADDS
     },
-    // One request goes to the module and back. Before each of its moves all others stall, and pokes stall as long as
-    // its reference is open.
+    // One request goes to the module, and its reply back. Before each of their moves all other steps stall, and pokes
+    // stall as long as the reference is open.
     Case {
         name: "one message moves",
         calls: &[
@@ -103,7 +103,7 @@ static CASES: [Case; 7] = [
         order: "turn 3",
         ..ADDS
     },
-    // A processor that has stopped takes no turn; it can be poked, and stays stopped.
+    // A processor that has stopped takes no turn. It can be poked, and stays stopped.
     Case {
         name: "a processor has halted",
         machine: "machine 2 4 4 1024",

@@ -21,7 +21,7 @@ const THREE: Program<'static> = Program {
     shared: &[],
 };
 
-/// A division by zero, the square of its quotient, and a stop.
+/// Divisions by zero, the square of the quotient, another division, and a stop.
 const DIVIDING: Program<'static> = Program {
     entry: CODE_START,
     code: &[
@@ -36,7 +36,7 @@ const DIVIDING: Program<'static> = Program {
     shared: &[],
 };
 
-/// Each processor has its number and 10 in `a1`, and the address of shared word 7 in `a2`.
+/// Each processor gets 10 plus its number in `a1`, and the address of shared word 7 in `a2`.
 const EIGHT_ADDS: &str = "
     poke 0 11 10, poke 0 12 0x8000001C,
     poke 1 11 11, poke 1 12 0x8000001C,
@@ -48,7 +48,7 @@ const EIGHT_ADDS: &str = "
     poke 7 11 17, poke 7 12 0x8000001C";
 
 static CASES: [Case; 5] = [
-    // Processors that refer to one word one after another find each the sum of those before.
+    // Processors add to one word, one after another. Each finds the sum of those before.
     Case {
         name: "references are whole",
         machine: "machine 3 2 1 64",
@@ -73,7 +73,7 @@ static CASES: [Case; 5] = [
         ],
         order: "turn 3, turn 0, turn 7",
     },
-    // A local instruction and a stop are a turn, and a processor that has stopped takes no more.
+    // A local instruction and a stop take one turn each, and a processor that has stopped takes no more.
     Case {
         name: "turns of their own",
         machine: "machine 3 2 1 64",
@@ -92,8 +92,8 @@ static CASES: [Case; 5] = [
         ],
         order: "turn 5, turn 5, turn 5",
     },
-    // Where a reference is open, or there is no such processor, nothing changes. Then the drain takes three stages up,
-    // a service, three down, and the turn.
+    // If a reference is open, or there is no such processor, nothing changes. Then the drain takes three moves up, a
+    // service, three moves down, and the turn.
     Case {
         name: "nothing is done beside a reference",
         machine: "machine 3 2 1 64",
@@ -125,8 +125,8 @@ static CASES: [Case; 5] = [
         ],
         order: "turn 0",
     },
-    // A division by zero is no fault: its quotient is all ones, and its remainder the dividend. All ones squared are
-    // 0xFFFFFFFE00000001, and as -1 divided by -7 they are 0.
+    // A division by zero is no fault. Its quotient is all ones, and its remainder the dividend. The square of all ones
+    // is 0xFFFFFFFE00000001, and all ones, which are -1, divided by -7 are 0.
     Case {
         name: "a division by zero",
         machine: "machine 0 2 1 8",

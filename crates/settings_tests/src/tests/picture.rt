@@ -9,7 +9,7 @@ $ ultra picture --step=4294967295 a.trace --words 7 a.elf
 Picture(Picture { replay: Replay { trace: "a.trace", file: "a.elf", words: 7 }, step: Some(4294967295) })
 "#;
 
-/// What is wrong in other words, and parts of the help.
+/// Wrong command lines with their errors, and parts of the help.
 pub const REFUSED: &str = "\
 $ ultra picture a.trace a.elf --step 4294967296
 ValueValidation

@@ -1,10 +1,11 @@
-//! Refusals of one form, which name an option, an argument or a value.
+//! Errors of the same form for many command lines. They name an option, an argument or a value.
 
 use super::compare_made;
 use std::alloc::AllocGlobal;
 use std::process::Abort;
 
-/// Compares the answers to the first of these words of each form, this many at most. Whether there was memory for each.
+/// Compares the answers to the first command lines of each form, this many at most. Returns whether there was memory
+/// for each.
 pub fn compare_first(rt: &(impl Abort + AllocGlobal), most: usize) -> bool {
     out_of_range(rt, most)
         & no_numbers(rt, most)
@@ -15,7 +16,7 @@ pub fn compare_first(rt: &(impl Abort + AllocGlobal), most: usize) -> bool {
         & missing(rt, most)
 }
 
-/// Words with a number that is out of its range: the option, the number and the range.
+/// Command lines with a number out of its range: the option, the number and the range.
 static OUT_OF_RANGE: [(&str, &str, &str, &str); 36] = [
     ("dis --words 0 a.elf", "--words", "0", "1..=262144"),
     (
@@ -151,7 +152,7 @@ fn out_of_range(rt: &(impl Abort + AllocGlobal), most: usize) -> bool {
     all
 }
 
-/// Words with what is no number: the option, and what stands after it.
+/// Command lines with a value that is no number: the option and the value.
 static NO_NUMBERS: [(&str, &str, &str); 10] = [
     ("dis a.elf --words 1k", "--words", "1k"),
     ("run a.elf --k two", "--k", "two"),
@@ -180,7 +181,7 @@ fn no_numbers(rt: &(impl Abort + AllocGlobal), most: usize) -> bool {
     all
 }
 
-/// Words with an argument that stands twice.
+/// Command lines with an argument that is given twice.
 static TWICE: [(&str, &str); 15] = [
     ("dis --words 1 --words 2 a.elf", "--words <NUMBER>"),
     ("run --k 3 a.elf --k 3", "--k <NUMBER>"),
@@ -216,7 +217,7 @@ fn twice(rt: &(impl Abort + AllocGlobal), most: usize) -> bool {
     all
 }
 
-/// Words with an option that has no value.
+/// Command lines with an option that has no value.
 static WITHOUT_VALUE: [(&str, &str); 12] = [
     ("run a.elf --k", "--k <NUMBER>"),
     ("run a.elf --c", "--c <NUMBER>"),
@@ -243,7 +244,7 @@ fn without_value(rt: &(impl Abort + AllocGlobal), most: usize) -> bool {
     all
 }
 
-/// Words with an argument that there is not.
+/// Command lines with an unknown argument.
 static UNKNOWN: [(&str, &str); 15] = [
     ("words --fast a.hex", "--fast"),
     ("run --k -1 a.elf", "-1"),
@@ -273,7 +274,7 @@ fn unknown(rt: &(impl Abort + AllocGlobal), most: usize) -> bool {
     all
 }
 
-/// Words with an argument too many: the argument, and how the command is used.
+/// Command lines with one argument too many: the argument, and the usage.
 static ONE_TOO_MANY: [(&str, &str, &str); 6] = [
     ("words a.hex b.hex", "b.hex", "words <FILE>"),
     ("asm a.s a.elf b.elf", "b.elf", "asm <FILE> <OUT>"),
@@ -298,7 +299,7 @@ fn one_too_many(rt: &(impl Abort + AllocGlobal), most: usize) -> bool {
     all
 }
 
-/// Words that lack arguments: these, and how the command is used.
+/// Command lines that lack arguments: these, and the usage.
 static MISSING: [(&str, &str, &str); 12] = [
     ("words", "<FILE>", "words <FILE>"),
     ("asm a.s", "<OUT>", "asm <FILE> <OUT>"),

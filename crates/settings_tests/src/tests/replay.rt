@@ -1,6 +1,6 @@
-//! `replay TRACE FILE` and its option, and `story` and `stats` of the same.
+//! `replay TRACE FILE` and its option, and `story` and `stats`, which take the same.
 
-/// Ways to ask for `replay`.
+/// Ways to ask for `replay`, `story` and `stats`.
 pub const TAKEN: &str = r#"$ ultra replay a.trace a.elf
 Replay(Replay { trace: "a.trace", file: "a.elf", words: 1024 })
 $ ultra replay --words 1 a.trace a.elf

@@ -1,10 +1,10 @@
 //! `run FILE` and its options.
 
-/// What is asked for without an option.
+/// The settings of `run` without options.
 pub const PLAIN: &str =
     r#"Run(Run { file: "a.elf", trace: None, sweep: false, quiet: false, sizes: Sizes { k: 2, c: 4, b: 4, r: 1, words: 1024 }, budget: 10000000, start: 1 })"#;
 
-/// Words that ask for one thing else: the part of that text, and what stands there instead.
+/// Command lines that change one setting: the part of `PLAIN` that changes, and what replaces it.
 pub static CHANGED: [(&str, &str, &str); 23] = [
     ("run --k 0 a.elf", "k: 2", "k: 0"),
     ("run a.elf --k 6", "k: 2", "k: 6"),
@@ -64,7 +64,7 @@ $ ultra run --trace 7 --start 6 --budget 5 --words 4 --r 2 --b 3 --c 2 --k 1 --s
 Run(Run { file: "a.elf", trace: Some("7"), sweep: true, quiet: false, sizes: Sizes { k: 1, c: 2, b: 3, r: 2, words: 4 }, budget: 5, start: 6 })
 "#;
 
-/// What is wrong in other words.
+/// Wrong command lines, with their errors.
 pub const REFUSED: &str = "\
 $ ultra run --start 99999999999999999999 a.elf
 ValueValidation

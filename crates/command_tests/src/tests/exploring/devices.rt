@@ -1,5 +1,5 @@
-//! Lines of sizes that cannot be printed or reported; and each allocation of a test is to be refused in turn. The
-//! checks of the program fail each read and write of the command in turn.
+//! Lines of sizes that cannot be printed or reported, and tests that run with each of their allocations refused in
+//! turn. The checks of the program let each read and write of the command fail in turn.
 
 ghost use Rattle.std.specs.Prelude.{◌≡◌, false};
 
@@ -18,7 +18,7 @@ processor 0 pc 00010000 fault 8 console -
 every schedule ends
 ";
 
-/// The results of an image on one processor, without a witness.
+/// Explores an image on one processor, without a witness, and returns the exit status.
 fn explored<R: Read + Drop, W: LinkWrite, E: Write>(
     alloc: Global,
     file: R,
@@ -40,7 +40,7 @@ fn explored<R: Read + Drop, W: LinkWrite, E: Write>(
     )
 }
 
-/// What there is of `ebreak` on every size.
+/// The lines of `ebreak` on machines of every size.
 const EVERY_STOPPED: &[u8] = b"k 0: 1 processor, 1 result, 1 state, every schedule ends, fault 8
 k 1: 2 processors, 1 result, 1 state, every schedule ends, fault 8
 k 2: 4 processors, 1 result, 1 state, every schedule ends, fault 8
@@ -50,7 +50,7 @@ k 5: 32 processors, 1 result, 1 state, every schedule ends, fault 8
 k 6: 64 processors, 1 result, 1 state, every schedule ends, fault 8
 ";
 
-/// The same where one state is too many.
+/// The same if one state is too many.
 const NONE_EXPLORED: &[u8] = b"k 0: 1 processor, not explored: states
 k 1: 2 processors, not explored: states
 k 2: 4 processors, not explored: states
@@ -60,7 +60,7 @@ k 5: 32 processors, not explored: states
 k 6: 64 processors, not explored: states
 ";
 
-/// What there is of an image on every size.
+/// Explores an image on machines of every size, and returns the exit status.
 fn explored_sizes<R: Read + Drop, W: LinkWrite, E: Write>(
     alloc: Global,
     file: R,
@@ -81,8 +81,7 @@ fn explored_sizes<R: Read + Drop, W: LinkWrite, E: Write>(
     )
 }
 
-/// Of each size before, and of the one whose line fails, it is said why it is not explored; and then that the line has
-/// failed.
+/// The fault of each size is reported, up to the size whose line cannot be printed, and then the failure to print.
 #[test]
 fn refused_sizes_that_cannot_be_printed(rt: HostRuntime) {
     let alloc = rt.alloc();
@@ -103,7 +102,7 @@ fn refused_sizes_that_cannot_be_printed(rt: HostRuntime) {
     }
 }
 
-/// Where nothing can be reported of a size, its line and the exit status are the same.
+/// If standard error fails, the lines and the exit status are the same.
 #[test]
 fn sizes_that_cannot_be_told(rt: HostRuntime) {
     let alloc = rt.alloc();
@@ -131,8 +130,8 @@ fn short_of_memory(rt: HostRuntime) -> Result<(), Fail> {
     Ok(())
 }
 
-/// The size that lacks memory is not explored, and its line reports it; or there is none for a line, and those before
-/// are there.
+/// A size that runs out of memory is not explored, and its line says so. If there is no memory for a line, only the
+/// lines before it are printed.
 #[test]
 fn every_size_is_short_of_memory(rt: HostRuntime) -> Result<(), Fail> {
     let alloc = rt.alloc();
@@ -152,7 +151,7 @@ fn every_size_is_short_of_memory(rt: HostRuntime) -> Result<(), Fail> {
     Ok(())
 }
 
-/// Whether these are the lines of all sizes, of which one lacked memory.
+/// Returns whether these are the lines of all sizes, one of which ran out of memory.
 fn lacks_a_size(lines: &str) -> bool {
     let mut lacking = 0u8;
     let mut wanted = str::from_utf8(EVERY_STOPPED).unwrap_or("").lines();
@@ -166,7 +165,7 @@ fn lacks_a_size(lines: &str) -> bool {
     wanted.next().is_none() && lacking == 1
 }
 
-/// Whether the line says of the same size as the other that there was no memory for it.
+/// Returns whether the line says that the size of the other line ran out of memory.
 fn is_lacking(line: &str, all: &str) -> bool {
     match (line.split_once(", "), all.split_once(", ")) {
         (Some((size, reported)), Some((same, _))) => size == same

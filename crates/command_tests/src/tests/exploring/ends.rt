@@ -1,11 +1,11 @@
-//! What is reported where there are no lines.
+//! What is reported if no lines are printed.
 
 use super::{config_of, each, explore, explore_sizes, up_to_exchanges};
 use flat_machine::Config;
 use std::test::Fail;
 use test_support::{EBREAK, assert_same, image_of};
 
-/// A size whose queues have too little room.
+/// A size whose queues are too short.
 fn narrow(k: u8) -> Config {
     Config {
         c: 1,
@@ -13,10 +13,10 @@ fn narrow(k: u8) -> Config {
     }
 }
 
-/// Counts for ever, and so never stands as it did.
+/// Counts for ever, so that no state of the processor comes again.
 const COUNT: &str = "loop: addi x3, x3, 1\njal x0, loop";
 
-/// Adds 1 to the first word, and stops. Two processors have four states: none, the one, the other or both have added.
+/// Adds 1 to the first word, and stops. Two processors have four states: neither, one, the other or both have added.
 const SUM: &str = "
  lui x1, 0x80000
  addi x4, x0, 1
@@ -24,7 +24,8 @@ const SUM: &str = "
  ecall
 ";
 
-/// Each refusal has its name and status, and nothing is printed. Up to exchanges two that add have three states.
+/// Each fault is reported with its status, and nothing is printed. Up to exchanges, two processors that add have three
+/// states.
 #[test]
 fn refusals(rt: HostRuntime) -> Result<(), Fail> {
     let alloc = rt.alloc();
@@ -66,7 +67,7 @@ fn refusals(rt: HostRuntime) -> Result<(), Fail> {
     Ok(())
 }
 
-/// Of an image that is refused no line of any size is printed.
+/// If the image is refused, no line of any size is printed.
 #[test]
 fn refused_image(rt: HostRuntime) -> Result<(), Fail> {
     let ran = explore_sizes(rt.alloc(), &EBREAK[..51], config_of(0), each(10));

@@ -1,4 +1,4 @@
-//! Every size of a machine, a line for each, by hand.
+//! Every size of a machine, with a line for each that is worked out by hand.
 
 use super::{config_of, each, explore_sizes, up_to_exchanges};
 use flat_machine::Config;
@@ -7,7 +7,7 @@ use std::fmt::Write;
 use std::test::Fail;
 use test_support::{assert_same, image_of};
 
-/// Each adds 1 to the first word. Of n 0 to n have added, or any of them.
+/// Each processor adds 1 to the first word. If there are n, a state is how many have added, 0 to n, or which of them.
 const SUM: &str = "
  lui x1, 0x80000
  addi x4, x0, 1
@@ -25,7 +25,7 @@ k 5: 32 processors, 1 result, 33 states, every schedule ends, halt 00
 k 6: 64 processors, 1 result, 65 states, every schedule ends, halt 00
 ";
 
-/// There are as many states as the limit on 32 processors.
+/// On 32 processors there are as many states as the limit, which is too many.
 const SUMS_UP_TO_33: &str = "\
 k 0: 1 processor, 1 result, 2 states, every schedule ends, halt 00
 k 1: 2 processors, 1 result, 3 states, every schedule ends, halt 00
@@ -46,7 +46,7 @@ k 5: 32 processors, not explored: states
 k 6: 64 processors, not explored: states
 ";
 
-/// Each draws a number and halts with it. Who draws 7 breaks.
+/// Each processor draws a number and halts with it. The one that draws 7 stops by a fault.
 const DRAWN: &str = "
  lui x1, 0x80000
  addi x4, x0, 1
@@ -67,7 +67,7 @@ k 5: 32 processors, 1 result, 33 states, every schedule ends, fault 8
 k 6: 64 processors, 1 result, 65 states, every schedule ends, fault 8
 ";
 
-/// That the states are too many is reported after the fault.
+/// Too many states decide the exit status, although a size before them has a fault.
 const DRAWS_UP_TO_10: &str = "\
 k 0: 1 processor, 1 result, 2 states, every schedule ends, halt 00
 k 1: 2 processors, 1 result, 3 states, every schedule ends, halt 01
@@ -78,7 +78,7 @@ k 5: 32 processors, not explored: states
 k 6: 64 processors, not explored: states
 ";
 
-/// Each adds 1 by a load and a store, and then waits until the sum is 2.
+/// Each processor adds 1 by a load and a store, and then waits until the sum is 2.
 const NEEDED: &str = "
  lui x1, 0x80000
  addi x5, x0, 2
@@ -90,8 +90,8 @@ wait: lw x2, 0(x1)
  ecall
 ";
 
-/// One alone is stuck from its load on. Of two that is so from when both have loaded: up to exchanges one of them has
-/// stored then, or both; the other states are those before, and those after a load of what the other has stored.
+/// One processor alone is stuck from the start. Two are stuck after both have loaded 0: up to exchanges, neither, one
+/// or both have stored then. The other states come before that, or after one has loaded what the other stored.
 const NEEDS: &str = "\
 k 0: 1 processor, 0 results, 3 states, from 3 states no end can be reached, -
 k 1: 2 processors, 1 result, 10 states, from 3 states no end can be reached, halt 00
@@ -102,7 +102,7 @@ k 5: 32 processors, not explored: states
 k 6: 64 processors, not explored: states
 ";
 
-/// Processor 0 writes a word for which the others wait, and which it reads too.
+/// Processor 0 writes a word. The others wait until it is written, and processor 0 reads it too.
 const LEADER: &str = "
  addi a7, x0, 2
  ecall
@@ -117,7 +117,8 @@ wait: lw x2, 0(x1)
  ecall
 ";
 
-/// After the write 0 to n - 1 of the others have stopped, and processor 0 has or has not.
+/// There is one state before the write. After it, 0 to n - 1 of the others have stopped, and processor 0 has or has
+/// not.
 const LED: &str = "\
 k 0: 1 processor, 1 result, 3 states, every schedule ends, halt ff
 k 1: 2 processors, 1 result, 5 states, some schedule never ends; an end can always be reached, halt ff
@@ -128,7 +129,7 @@ k 5: 32 processors, 1 result, 65 states, some schedule never ends; an end can al
 k 6: 64 processors, 1 result, 129 states, some schedule never ends; an end can always be reached, halt ff
 ";
 
-/// Counts for ever, and so never stands as it did.
+/// Counts for ever, so that no state of the processor comes again.
 const COUNT: &str = "loop: addi x3, x3, 1\njal x0, loop";
 
 const COUNTS: &str = "\
@@ -141,7 +142,7 @@ k 5: 32 processors, not explored: alone
 k 6: 64 processors, not explored: alone
 ";
 
-/// Each adds 1 to the first word, and spins. Once one does, it is no matter what the others do.
+/// Each processor adds 1 to the first word, and spins. After one spins, it does not matter what the others do.
 const DONE: &str = "lui x1, 0x80000\naddi x4, x0, 1\namoadd.w x5, x4, (x1)\ndone: jal x0, done";
 
 const NEVER_DONE: &str = "\
@@ -154,7 +155,7 @@ k 5: 32 processors, 0 results, 2 states, from 2 states no end can be reached, -
 k 6: 64 processors, 0 results, 2 states, from 2 states no end can be reached, -
 ";
 
-/// The fault of each size that is not explored is reported too. What a size has for `k` is of no account.
+/// The fault of each size that is not explored is reported too. The `k` of the configuration is ignored.
 #[test]
 fn sizes_are_printed(rt: HostRuntime) -> Result<(), Fail> {
     let alloc = rt.alloc();
@@ -185,7 +186,7 @@ fn sizes_are_printed(rt: HostRuntime) -> Result<(), Fail> {
     Ok(())
 }
 
-/// What is said of a fault this many times.
+/// The report of a fault, this many times.
 fn reported(alloc: Global, fault: &str, times: u8) -> Result<String, AllocError> {
     let mut text = String::new(alloc);
     for _ in 0..times {

@@ -1,4 +1,4 @@
-//! Witnesses: the trace of each result replays to it, and none is written where there is none.
+//! Witnesses: a replay of the trace of a result leads to it, and no trace is written if there is no such result.
 
 use super::{config_of, each, up_to_exchanges};
 use explore_command::{Asked, NoProgress, explore_command};
@@ -8,7 +8,7 @@ use std::test::Fail;
 use test_support::{assert_same, image_of};
 use trace_commands::replay_command;
 
-/// Each adds 1 by a load and a store.
+/// Each processor adds 1 by a load and a store.
 const LOST: &str = "lui x1, 0x80000\nlw x2, 0(x1)\naddi x2, x2, 1\nsw x2, 0(x1)\necall";
 
 /// Processor 0 writes 1, and then 0 again. Processor 1 looks once, and spins if it sees the 1.
@@ -16,10 +16,10 @@ const GLIMPSE: &str =
     "addi a7, x0, 2\necall\nlui x1, 0x80000\nbne a0, x0, look\naddi x4, x0, 1\nsw x4, 0(x1)\nsw x0, 0(x1)\n\
     jal x0, done\nlook: lw x2, 0(x1)\nspin: bne x2, x0, spin\ndone: addi a7, x0, 0\naddi a0, x0, 0\necall";
 
-/// Goes to itself.
+/// An instruction that jumps to itself.
 const SPIN: &str = "spin: jal x0, spin";
 
-/// What a search for a witness leaves.
+/// The outcome of a search for a witness.
 #[derive(Drop)]
 struct Ran {
     status: u8,
@@ -29,7 +29,7 @@ struct Ran {
     out: Vec<u8>,
 }
 
-/// Searches an image on 2^k processors for a result of this number.
+/// Searches an image on 2^k processors for the result of this number.
 fn explored(alloc: Global, file: &[u8], k: u8, search: Asked, witness: u32) -> Ran {
     let mut out = Meter::new(Vec::new(alloc));
     let mut err = Vec::new(alloc);
@@ -65,8 +65,8 @@ fn replayed(alloc: Global, trace: &[u8], file: &[u8]) -> Vec<u8> {
     out.device
 }
 
-/// Both sums are come to, one after the other and with both loads first; there is no third, and no deadlock. Up to
-/// exchanges that with both loads first is found before the other.
+/// Both sums have a witness: 2 if one processor adds after the other, and 1 if both load first. There is no third
+/// result, and no state is stuck. Up to exchanges, the sum of 1 is found first.
 #[test]
 fn results_are_come_to(rt: HostRuntime) -> Result<(), Fail> {
     let alloc = rt.alloc();
@@ -102,8 +102,8 @@ fn results_are_come_to(rt: HostRuntime) -> Result<(), Fail> {
     Ok(())
 }
 
-/// A processor that spins is a state from which no end can be reached. The steps end where it has looked, and begins to
-/// spin; where it spins from the first on, there are none.
+/// If a processor spins, no end can be reached. The steps end when it has looked and begins to spin. If it spins from
+/// the start, there are no steps.
 #[test]
 fn spinning_is_come_to(rt: HostRuntime) -> Result<(), Fail> {
     let alloc = rt.alloc();

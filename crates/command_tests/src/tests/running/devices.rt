@@ -1,4 +1,4 @@
-//! A read or a write that fails, at each call.
+//! Reads and writes that fail, at each call in turn.
 
 ghost use Rattle.std.specs.Prelude.{◌≡◌, false};
 ghost use Rattle.trace_commands.specs.TraceReports.{IsWorking};
@@ -34,7 +34,7 @@ fn failing_link(alloc: Global, fails_at: usize) -> Meter<Sink>
     Meter::new(empty_sink(alloc, fails_at))
 }
 
-/// Runs an image, where standard output fails at a call. The trace stays with who asks for it.
+/// Runs an image, with a standard output that fails at a call. The caller keeps the trace.
 fn run_over<R: Read + Drop, T: LinkWrite>(
     alloc: Global,
     file: R,
@@ -53,7 +53,7 @@ fn run_over<R: Read + Drop, T: LinkWrite>(
     }
 }
 
-/// Replays a trace on an image, where standard output fails at a call.
+/// Replays a trace on an image, with a standard output that fails at a call.
 fn replay_over<T: Read + Drop, R: Read + Drop>(
     alloc: Global,
     trace: T,
@@ -70,14 +70,14 @@ fn replay_over<T: Read + Drop, R: Read + Drop>(
     }
 }
 
-/// Sees that a command has printed this, reported that, and answered a status.
+/// Compares what a command printed and reported, and its exit status, with these.
 fn see(rt: &impl Abort, ran: &Ran, (out, reported, status): (&[u8], &str, u8), at: usize) {
     assert_same!(rt; ran.out.as_slice(), out, at);
     assert_same!(rt; ran.err.as_slice(), reported.as_bytes(), at);
     assert_same!(rt; ran.status, status, at);
 }
 
-/// What is left where a file cannot be read, for which this is reported; else the report.
+/// What is expected if a file cannot be read, for which this is reported, and otherwise.
 fn report_unless(fails: bool, reported: &str) -> (&[u8], &str, u8) {
     if fails {
         (&[], reported, 3)
@@ -86,7 +86,7 @@ fn report_unless(fails: bool, reported: &str) -> (&[u8], &str, u8) {
     }
 }
 
-/// The 88 bytes take 88 calls, and the next says that there are no more.
+/// Reading the 88 bytes takes 88 calls, and one more to find the end.
 #[test]
 fn image_that_cannot_be_read(rt: HostRuntime) {
     let alloc = rt.alloc();
@@ -105,7 +105,7 @@ fn image_that_cannot_be_read(rt: HostRuntime) {
     }
 }
 
-/// The 24 bytes take 24 calls, and the next says that there are no more.
+/// Reading the 24 bytes takes 24 calls, and one more to find the end.
 #[test]
 fn trace_that_cannot_be_read(rt: HostRuntime) {
     let alloc = rt.alloc();
@@ -117,7 +117,7 @@ fn trace_that_cannot_be_read(rt: HostRuntime) {
     }
 }
 
-/// The bytes of the calls before one that fails are written, and no report is printed.
+/// If a call fails, the trace has the bytes of the calls before it, and no report is printed.
 fn write_until(rt: &(impl Abort + AllocGlobal), image: &[u8], fails_at: usize) {
     let alloc = rt.alloc();
     let mut trace = Some(Meter::new(empty_sink(alloc, fails_at)));
@@ -133,7 +133,7 @@ fn write_until(rt: &(impl Abort + AllocGlobal), image: &[u8], fails_at: usize) {
     }
 }
 
-/// A trace that cannot be written. A writer may take nothing.
+/// A trace cannot be written if a call of the writer fails, or takes no byte.
 #[test]
 fn trace_that_cannot_be_written(rt: HostRuntime) -> Result<(), Fail> {
     let image = image_of(rt.alloc(), "ecall")?;
@@ -146,7 +146,7 @@ fn trace_that_cannot_be_written(rt: HostRuntime) -> Result<(), Fail> {
     Ok(())
 }
 
-/// What is left where standard output fails at a call, one byte at each.
+/// What is expected if standard output, which takes one byte at each call, fails at this one.
 fn printed_until(fails_at: usize) -> (&'static [u8], &'static str, u8) {
     match STOPPED.get(..fails_at.wrapping_sub(1)) {
         Some(printed) if printed.len() < STOPPED.len() => (printed, "ultra: link\n", 3),
@@ -154,7 +154,7 @@ fn printed_until(fails_at: usize) -> (&'static [u8], &'static str, u8) {
     }
 }
 
-/// Standard output comes before the processor's fault. The trace is written before it fails.
+/// A failure of standard output decides the exit status, and not the processor's fault. The trace is written before.
 #[test]
 fn report_that_cannot_be_printed(rt: HostRuntime) {
     let alloc = rt.alloc();
@@ -170,7 +170,7 @@ fn report_that_cannot_be_printed(rt: HostRuntime) {
     }
 }
 
-/// Where standard error fails too, the exit status alone says the fault.
+/// If standard error fails too, only the exit status shows the fault.
 #[test]
 fn fault_that_cannot_be_told(rt: HostRuntime) {
     let alloc = rt.alloc();

@@ -1,4 +1,4 @@
-//! How runs end, and what is reported where there is no report.
+//! How runs end, and which faults are reported if there is no report.
 
 use super::{AMPLE, Ran, replay, run, run_text};
 use command_io::Fault;
@@ -9,7 +9,7 @@ use std::process::Abort;
 use std::test::Fail;
 use test_support::{EBREAK, Endless, ONE_TURN, assert_same, image_of, size};
 
-/// Nothing is printed and no trace is written, and this is reported.
+/// Checks that nothing is printed, no trace is written, and this is reported.
 fn assert_told(rt: &impl Abort, ran: &Ran, reported: &str, status: u8) {
     assert_same!(rt; ran.err.as_slice(), reported.as_bytes());
     assert_same!(rt; ran.out.len(), 0, reported);
@@ -31,7 +31,7 @@ fn budget_that_is_just_enough(rt: HostRuntime) -> Result<(), Fail> {
     Ok(())
 }
 
-/// A jump to itself.
+/// A jump to itself uses up each budget.
 #[test]
 fn run_without_end(rt: HostRuntime) -> Result<(), Fail> {
     for budget in [1, 1000] {
@@ -41,8 +41,8 @@ fn run_without_end(rt: HostRuntime) -> Result<(), Fail> {
     Ok(())
 }
 
-/// Processor 0 stops by EBREAK in its fourth turn, and the run ends there: processor 1 has taken two
-/// instructions and a branch by then.
+/// The run ends when processor 0 stops by EBREAK in its fourth turn. Processor 1 has taken two instructions and a
+/// branch by then.
 #[test]
 fn ends_at_the_first_fault(rt: HostRuntime) -> Result<(), Fail> {
     let text = "
@@ -62,14 +62,14 @@ processor 1 pc 00010010 run retired 3 console -
     // A header, and the records of seven turns.
     assert_same!(rt; ran.trace.len(), 12 + 12 * 7);
 
-    // No fault has come when the budget of six steps is used up.
+    // A budget of six steps is used up before the fault.
     let ran = run_text(rt.alloc(), text, size(1), 6)?;
     assert_told(&rt, &ran, "ultra: budget\n", 4);
     Ok(())
 }
 
-/// Processor 1 stops by EBREAK in the round in which processor 0 issues a reference, which is still brought
-/// to its end: the trace ends with the steps of a drain, and a replay of it prints the same report.
+/// Processor 1 stops by EBREAK in the round in which processor 0 issues a reference. The reference still completes: the
+/// trace ends with the steps of a drain, and a replay of it prints the same report.
 #[test]
 fn drains_behind_a_fault(rt: HostRuntime) -> Result<(), Fail> {
     let alloc = rt.alloc();
@@ -109,7 +109,7 @@ word 0 00000007
     Ok(())
 }
 
-/// The steps of a run that are entered are those of the sweep that did not stall.
+/// The trace of a run has the steps of the sweep that did not stall.
 #[test]
 fn log_of_a_sweep(rt: HostRuntime) -> Result<(), Fail> {
     let alloc = rt.alloc();
@@ -156,7 +156,7 @@ fn refuses_an_image(rt: HostRuntime) -> Result<(), Fail> {
     Ok(())
 }
 
-/// A size that is out of its limits is reported after a refused image, and before the run.
+/// A size out of its limits is reported before the run. A refused image is reported instead, if both are wrong.
 #[test]
 fn refuses_a_size(rt: HostRuntime) {
     let alloc = rt.alloc();
@@ -183,7 +183,7 @@ fn refuses_a_size(rt: HostRuntime) {
     assert_told(&rt, &ran, "ultra: K1\n", 2);
 }
 
-/// A trace's fault is reported before the file of the image is looked at.
+/// A fault of the trace is reported before the file of the image is read.
 #[test]
 fn tells_the_first_fault(rt: HostRuntime) {
     let alloc = rt.alloc();

@@ -1,5 +1,5 @@
-//! Each allocation of these tests is to be refused in turn. Then the answer is that of ample memory, or
-//! that there is none.
+//! The tests run with each of their allocations refused in turn. The command then does what it does with ample memory,
+//! or reports that it is out of memory.
 
 use super::AMPLE;
 use link::Meter;
@@ -11,7 +11,7 @@ use trace_commands::replay_command;
 /// The report of an image of `ebreak` on one processor.
 const STOPPED: &[u8] = b"processor 0 pc 00010000 fault 8 retired 0 console -\n";
 
-/// No trace is begun after a refusal.
+/// If the command is out of memory, it writes no byte of the trace.
 #[test]
 fn run_is_short_of_memory(rt: HostRuntime) -> Result<(), Fail> {
     let alloc = rt.alloc();

@@ -1,4 +1,4 @@
-//! Replays of traces by hand.
+//! Replays of traces made by hand.
 
 use super::{AMPLE, replay, run_text};
 use std::test::Fail;
@@ -69,8 +69,8 @@ fn refuses_what_is_no_trace(rt: HostRuntime) -> Result<(), Fail> {
     Ok(())
 }
 
-/// Three turns, of which the third sends a request. It is served and retires in the drain: what it adds
-/// and its retirement are reported.
+/// The third of three turns sends a request. It is served and retires in the drain, and the report shows what it adds
+/// and that it retired.
 #[test]
 fn drains_behind_the_trace(rt: HostRuntime) -> Result<(), Fail> {
     let alloc = rt.alloc();
@@ -92,7 +92,7 @@ fn drains_behind_the_trace(rt: HostRuntime) -> Result<(), Fail> {
     Ok(())
 }
 
-/// A trace of no steps: the machine as it opens.
+/// After a trace of no steps, the report shows the machine as it starts.
 #[test]
 fn no_steps(rt: HostRuntime) -> Result<(), Fail> {
     let alloc = rt.alloc();

@@ -4,7 +4,7 @@ use super::{AMPLE, replay, run_text};
 use std::test::Fail;
 use test_support::{HUNDRED_ADDS, assert_same, image_of, report_of_hundred_adds, size};
 
-/// A run, and the replay of its trace.
+/// A run and the replay of its trace print the same report.
 #[test]
 fn hundred_adds(rt: HostRuntime) -> Result<(), Fail> {
     let alloc = rt.alloc();
@@ -28,7 +28,7 @@ fn hundred_adds(rt: HostRuntime) -> Result<(), Fail> {
     Ok(())
 }
 
-/// Processor 0 has the first turn, and the run ends with it.
+/// Processor 0 has the first turn, and its fault ends the run.
 #[test]
 fn stopped_by_a_fault(rt: HostRuntime) -> Result<(), Fail> {
     let ran = run_text(rt.alloc(), "ebreak", size(2), AMPLE)?;
@@ -43,7 +43,7 @@ processor 3 pc 00010000 run retired 0 console -
     Ok(())
 }
 
-/// Each processor halts with its own number, and has written it to the console two times.
+/// Each processor halts with its own number, after it has sent it to the console twice.
 #[test]
 fn processors_of_a_report(rt: HostRuntime) -> Result<(), Fail> {
     let text = "
@@ -64,7 +64,7 @@ processor 1 pc 00010018 halt 01 retired 6 console 0101
     Ok(())
 }
 
-/// Shared words as the image has them, but for the third, which is zero.
+/// The report has the shared words of the image, except those that are zero.
 #[test]
 fn words_of_a_report(rt: HostRuntime) -> Result<(), Fail> {
     let text = "ecall\n.shared\n.word 1, 0x89abcdef, 0, 0xffffffff\n.zero 24\n.word 7\n";

@@ -1,5 +1,4 @@
-//! A plain machine: processors that take whole instructions of one small program on four shared
-//! words, one after the other.
+//! A plain machine: its processors take whole instructions of one small program, one at a time, on four shared words.
 
 ghost use Rattle.std.specs.Prelude.{◌<◌};
 
@@ -8,7 +7,7 @@ use flat_machine::{CODE_START, Entry, Poke, SHARED_START};
 use std::alloc::{AllocError, Global};
 use test_support::Shown;
 
-/// What the instructions of the program do. `a2` is the address of a shared word.
+/// What the instructions of the program do with the shared word at `a2`.
 #[derive(Clone, Copy, Drop)]
 enum Operation {
     Add,
@@ -20,27 +19,27 @@ enum Operation {
     Maximum,
     UnsignedMinimum,
     UnsignedMaximum,
-    /// The low byte of `a1` to the word's highest.
+    /// Stores the low byte of `a1` into the word's highest byte.
     StoreByte3,
-    /// The low half of `a1` to the word's high one.
+    /// Stores the low half of `a1` into the word's high half.
     StoreHalf2,
-    /// `a1` to the word after.
+    /// Stores `a1` into the next word.
     StoreWord4,
-    /// The word after.
+    /// Loads the next word.
     LoadWord4,
-    /// The word's second byte, signed.
+    /// Loads the word's second byte, signed.
     LoadByte1,
-    /// The word's high half, unsigned.
+    /// Loads the word's high half, unsigned.
     LoadHalf2,
     /// Adds `a0` to `a1`.
     AddToOperand,
-    /// From word 0 to word 2, or back.
+    /// Moves `a2` from word 0 to word 2, or back.
     OtherWord,
-    /// To the first instruction.
+    /// Jumps to the first instruction.
     Again,
 }
 
-/// The program, and what its words do.
+/// The words of the program, and what each does.
 static PROGRAM: [(u32, Operation); 18] = [
     (0x00B6_252F, Operation::Add), // amoadd.w a0, a1, (a2)
     (0x08B6_252F, Operation::Swap), // amoswap.w a0, a1, (a2)
@@ -71,7 +70,7 @@ pub fn program(alloc: Global) -> Result<Vec<u32>, AllocError> {
     Ok(words)
 }
 
-/// What a processor of the plain machine has.
+/// The state of a processor of the plain machine.
 #[derive(Clone, Copy, Drop)]
 pub struct Processor {
     pub pc: u32,
@@ -88,7 +87,7 @@ pub struct Plain {
 }
 
 impl Plain {
-    /// Processors at the program's beginning, and words that are zero.
+    /// All processors are at the first instruction, and all words are zero.
     pub fn new() -> Self {
         let processor = Processor {
             pc: CODE_START,
@@ -102,7 +101,7 @@ impl Plain {
         }
     }
 
-    /// Takes one entry of a serial order, and says what retired.
+    /// Takes one entry of a serial order, and returns what retired, if anything did.
     pub fn take(&mut self, entry: Entry) -> Option<Shown> {
         match entry {
             Entry::Processor(p) => Some(self.instruction(p)),
@@ -189,7 +188,7 @@ impl Plain {
     }
 }
 
-/// The number of the shared word at an address, of four.
+/// The number of the shared word at an address, modulo 4.
 fn word_number(address: u32) -> usize
     ensures { result < 4 }
 {
@@ -205,7 +204,7 @@ fn operation_at(pc: u32) -> Operation {
     }
 }
 
-/// Whether the result of an operation goes to `a0`.
+/// Returns whether the result of an operation goes to `a0`.
 fn is_in_a0(operation: Operation) -> bool {
     !matches!(
         operation,
@@ -218,9 +217,9 @@ fn is_in_a0(operation: Operation) -> bool {
     )
 }
 
-/// What an operation makes of a word, with this operand.
+/// The new value of a word after an operation with this operand.
 fn word_after(operation: Operation, old: u32, operand: u32) -> u32 {
-    // As signed numbers, words are in the order of these.
+    // The order of signed words is that of unsigned words with the sign bits inverted.
     let is_less = (old ^ 0x8000_0000) < (operand ^ 0x8000_0000);
     match operation {
         Operation::Add => old.wrapping_add(operand),

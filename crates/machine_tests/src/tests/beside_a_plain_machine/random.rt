@@ -1,5 +1,5 @@
-//! Lists of random steps, half of which name no place, on the machine and on a plain one that takes
-//! whole instructions in the serial order that the outcomes say.
+//! The machine takes lists of random steps, half of which name no place. A plain machine then takes whole instructions
+//! in the serial order that the outcomes give.
 
 use super::plain::{Plain, program};
 use super::{A0, A1, A2};
@@ -40,7 +40,7 @@ fn register(processor: u8, register: u8, value: u32) -> Poke {
     }
 }
 
-/// A step of a machine of this many stages, which names a place in half of all cases.
+/// A random step. On a machine of this many stages, half of all steps name a place.
 fn random_step(random: &mut Random, k: u8) -> Step {
     let value = random.next();
     let [kind, a, b, c] = random.next().to_le_bytes();
@@ -53,7 +53,7 @@ fn random_step(random: &mut Random, k: u8) -> Step {
     }
 }
 
-/// A step that names a place: one of this number, where it is not above the stages.
+/// A step that names a place, with this number and, if the machine has stages, this stage.
 fn found_step(kind: u8, number: u8, stage: u8, value: u32) -> Step {
     match kind % 16 {
         0..4 => Step::Turn(number),
@@ -78,7 +78,7 @@ fn found_step(kind: u8, number: u8, stage: u8, value: u32) -> Step {
     }
 }
 
-/// A step that names no place: a number or a stage that is too high, or what cannot be poked.
+/// A step that names no place: its number or its stage is too high, or its poke has no target.
 fn lost_step(kind: u8, number: u8, stage: u8, high_stage: u8, wires: u8, value: u32) -> Step {
     match kind % 8 {
         0 => Step::Turn(number),
@@ -134,7 +134,7 @@ fn place_processors(
     Ok(())
 }
 
-/// Writes what a poke writes.
+/// Takes a poke.
 fn write(rt: &(impl Abort + AllocGlobal), watched: &mut Watched, poke: Poke) -> Result<(), Fail> {
     assert_same!(rt; watched.apply(Step::Poke(poke))?.verb, "poked");
     Ok(())
@@ -151,8 +151,8 @@ fn on_processor(alloc: Global, shown: &[Shown], p: u8) -> Result<Vec<Shown>, All
     Ok(found)
 }
 
-/// The plain machine takes the serial order. It shows on each processor what the machine has shown,
-/// and then is as the machine.
+/// Lets the plain machine take the serial order. Each processor must show what it showed on the machine, and both
+/// machines must end in the same state.
 fn compare(rt: &(impl Abort + AllocGlobal), watched: &Watched) -> Result<(), Fail> {
     let mut plain = Plain::new();
     let mut shown = Vec::new(rt.alloc());
@@ -165,7 +165,7 @@ fn compare(rt: &(impl Abort + AllocGlobal), watched: &Watched) -> Result<(), Fai
     compare_shown(rt, watched.retired.as_slice(), shown.as_slice())
 }
 
-/// The same has retired on each processor, in the same order.
+/// Checks that the same instructions have retired on each processor, in the same order.
 fn compare_shown(
     rt: &(impl Abort + AllocGlobal),
     found: &[Shown],
@@ -179,7 +179,7 @@ fn compare_shown(
     Ok(())
 }
 
-/// The machine is as the plain one.
+/// Checks that both machines are in the same state.
 fn compare_ends(rt: &impl Abort, machine: &Machine, plain: &Plain) {
     for p in 0..1u8 << (machine.config().k & 3) {
         let wanted = plain.processors[usize::from(p & 7)];
@@ -191,7 +191,7 @@ fn compare_ends(rt: &impl Abort, machine: &Machine, plain: &Plain) {
     }
 }
 
-/// What a processor of the machine has of what one of the plain machine has.
+/// The state of a processor of the machine, as far as the plain machine has it.
 fn values_of(machine: &Machine, p: u8) -> [Option<u32>; 4] {
     [
         machine.pc(p),
@@ -201,8 +201,8 @@ fn values_of(machine: &Machine, p: u8) -> [Option<u32>; 4] {
     ]
 }
 
-/// Runs one list of random steps, drains the machine, and compares it with the plain one. Tells
-/// whether requests were combined.
+/// Runs one list of random steps, drains the machine, and compares it with the plain one. Returns whether requests were
+/// combined.
 fn run_list(
     rt: &(impl Abort + AllocGlobal),
     random: &mut Random,
@@ -226,7 +226,7 @@ fn run_list_on(
     Ok(has_combined)
 }
 
-/// Takes random steps. Tells whether requests were combined.
+/// Takes random steps. Returns whether requests were combined.
 fn take_steps(watched: &mut Watched, random: &mut Random, k: u8) -> Result<bool, AllocError> {
     let mut has_combined = false;
     for _ in 0..STEPS {
@@ -236,8 +236,8 @@ fn take_steps(watched: &mut Watched, random: &mut Random, k: u8) -> Result<bool,
     Ok(has_combined)
 }
 
-/// Runs the lists of machines of this many stages, with wait buffers of 0, 1 and 4 records, whose entries of a queue
-/// are combined up to once, twice and three times. Requests are combined exactly if there is a switch with a record.
+/// Runs the lists on machines of this many stages, with wait buffers of 0, 1 and 4 records, that combine an entry of a
+/// queue up to once, twice and three times. Requests are combined exactly if there is a switch with a record.
 fn run_lists(rt: &(impl Abort + AllocGlobal), k: u8, seed: u32) -> Result<(), Fail> {
     let mut random = Random { state: seed };
     for (b, r) in [(0, 1), (1, 1), (1, 2), (4, 1), (4, 2), (4, 3)] {
