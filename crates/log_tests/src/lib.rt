@@ -1,6 +1,6 @@
-//! Tests of the log, of sweeps and replays over it, of what is counted and reported of them, and of shuffled steps.
+//! Tests of the log, of sweeps and replays over it, of counts and reports of them, and of the program's arbiter.
 //!
-//! They stand in a crate of their own, so that what stands on these parts need not wait for them.
+//! The tests are a crate of their own, so that crates above these parts need not wait for them.
 #![tactic(auto)]
 
 #[cfg(test)]

@@ -1,4 +1,4 @@
-//! Logs, and what goes over them.
+//! Logs, and what builds on them.
 
 mod arbiter;
 mod counts;
@@ -10,7 +10,7 @@ mod sweep;
 use std::fmt::Debug;
 use std::process::Abort;
 
-/// Ends the test where the two differ, and says them and the case that they are of ([`assert_same!`]).
+/// Fails the test if the two values differ, and prints both and their case ([`assert_same!`]).
 fn same<T: PartialEq + Debug, A: Debug>(rt: &impl Abort, found: &T, wanted: &T, at: &A) {
     assert_eq!(rt; found, wanted, "{at:?}");
 }

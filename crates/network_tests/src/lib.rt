@@ -1,9 +1,9 @@
 //! Tests of the network and its parts: wires and sets of them, wait buffers, one switch, all stages, and the network
 //! that knows where its messages are.
 //!
-//! Long random runs of the network: beside a plain one, and beside one whose switches have rings.
+//! Long random runs compare the network with a plain one, and with one whose switches have rings.
 //!
-//! They stand in a crate of their own, so that what stands on the network need not wait for them.
+//! The tests are a crate of their own, so that crates above the network need not wait for them.
 #![tactic(auto)]
 
 #[cfg(test)]

@@ -1,4 +1,4 @@
-//! Small networks and their parts, with each answer worked out by hand.
+//! Small networks and their parts, with each result worked out by hand.
 
 ghost use Rattle.std.specs.Prelude.{◌≡◌};
 
@@ -19,12 +19,12 @@ use std::fmt::Debug;
 use std::process::Abort;
 use test_support::{Words, low};
 
-/// Ends the test where the two differ, and says them and the case that they are of ([`assert_same!`]).
+/// Fails the test if the two values differ, and prints both and their case ([`assert_same!`]).
 fn same<T: PartialEq + Debug, A: Debug>(rt: &impl Abort, found: &T, wanted: &T, at: &A) {
     assert_eq!(rt; found, wanted, "{at:?}");
 }
 
-/// What an AMO of this name makes of a word.
+/// The function of an AMO of this name with this operand.
 fn phi_of(function: &str, operand: u32) -> Option<Phi> {
     match function {
         "add" => Some(Phi::Add(operand)),
@@ -37,7 +37,7 @@ fn phi_of(function: &str, operand: u32) -> Option<Phi> {
     }
 }
 
-/// The answer of a request's move.
+/// The expected result of a request's move.
 fn up_of(words: Words) -> Option<UpMove> {
     let [first, second, _, _] = words.numbers;
     match words.verb {
@@ -51,7 +51,7 @@ fn up_of(words: Words) -> Option<UpMove> {
     }
 }
 
-/// The answer of a reply's move.
+/// The expected result of a reply's move.
 fn down_of(words: Words) -> Option<DownMove> {
     match words.verb {
         "moved" => Some(DownMove::Moved),
@@ -60,7 +60,7 @@ fn down_of(words: Words) -> Option<DownMove> {
     }
 }
 
-/// Who gets replies beside the leader.
+/// The processors that get replies besides the leader.
 fn seconds_of(words: Words) -> Option<Seconds> {
     let [a, b, c, _] = words.numbers;
     match words.verb {

@@ -1,4 +1,4 @@
-//! The first steps of the program's arbiter. They were computed apart: from state 1 the generator goes on with 270369,
+//! The first steps of the program's arbiter, computed independently of it: after state 1 the generator gives 270369,
 //! 67634689, 2647435461, 307599695 and 2398689233.
 
 ghost use Rattle.std.specs.Prelude.{◌≤◌};
@@ -40,12 +40,12 @@ fn first_steps(rt: HostRuntime) {
     ];
     assert_same!(rt; five(1, 0, 2), one);
     assert_same!(rt; five(0, 1, 2), one);
-    // a sum of 0 is replaced by 1, and one of 2^32 is 0
+    // A sum of 0 is replaced by 1, and a sum of 2^32 wraps to 0.
     assert_same!(rt; five(0, 0, 2), one);
     assert_same!(rt; five(4_294_967_295, 1, 2), one);
     assert_same!(rt; five(4_294_967_295, 2, 6), [down(5, 33), down(2, 1), down(3, 5), up(2, 15), down(5, 17)]);
     assert_same!(rt; five(1, 3, 2), [down(1, 0), up(0, 0), Step::Serve(0), up(1, 0), down(0, 0)]);
     assert_same!(rt; five(12_345, 63, 6), [up(5, 31), up(2, 34), up(3, 61), down(3, 44), up(4, 36)]);
-    // without stages there is one step
+    // Without stages there is only one step.
     assert_same!(rt; five(1, 0, 0), [Step::Serve(0); 5]);
 }

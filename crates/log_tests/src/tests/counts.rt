@@ -1,4 +1,4 @@
-//! Counts by hand.
+//! Counts and rounds, worked out by hand.
 
 use flat_machine::Poke;
 use messages::Seconds;
@@ -8,8 +8,8 @@ use std::test::Fail;
 use steps::{Outcome, Step};
 use test_support::{assert_same, lend};
 
-/// Notes eight steps: two requests meet at a stage, one is served for both and one for itself, and the reply for two
-/// is split.
+/// Counts eight steps. Two requests meet at a stage, a service for both and one for a single request follow, and the
+/// reply for two is split.
 fn note_all(rt: &impl Abort, counts: &mut Counts) {
     for (step, outcome, size) in [
         (Step::Turn(0), Outcome::Issued, 0),
@@ -39,7 +39,7 @@ fn note_all(rt: &impl Abort, counts: &mut Counts) {
     }
 }
 
-/// The most messages that stood at the stage of a network of two processors.
+/// The greatest numbers of messages and records at the stage of a network of two processors.
 fn longest() -> Longest {
     let mut longest = Longest::none();
     longest.set(Held::Requests, 0, 3);
@@ -76,8 +76,8 @@ fn down(stage: u8, wire: u8) -> Step {
     Step::Down { stage, wire }
 }
 
-/// A round takes the turns, the moves of requests at the last stage first, the services, and the moves of replies at
-/// the first stage first.
+/// A round has the turns, then the moves of requests from the last stage to the first, then the services, and then the
+/// moves of replies from the first stage to the last.
 #[test]
 fn rounds(rt: HostRuntime) -> Result<(), Fail> {
     let poke = Step::Poke(Poke::Shared {

@@ -1,4 +1,5 @@
-//! Logs of small programs. What instructions do is the RISC-V manual's; all other values are worked out by hand.
+//! Logs of small programs. Results of instructions come from the RISC-V manual, and all other values are worked out by
+//! hand.
 
 mod limits;
 mod memory;
@@ -27,7 +28,7 @@ const ONE: Config = Config {
 /// An instruction that refers to the shared word at `a2`, one that refers to none, and a stop.
 const CODE: &str = "amoadd.w a0, a1, (a2)\naddi a0, a0, 1\nebreak";
 
-/// A machine of four processors, which are to add 1, 2, 4 and 8 to shared word 0, which is 10.
+/// A machine of four processors that are to add 1, 2, 4 and 8 to shared word 0, which is 10.
 fn four_machine(alloc: Global) -> Result<Machine, Fail> {
     adders(alloc, CODE, size(2), 10, &FOUR_ADDENDS)
 }
@@ -39,18 +40,18 @@ fn log_from(rt: &(impl Abort + AllocGlobal), machine: Machine) -> Logged {
     Logged::new(rt.alloc(), machine)
 }
 
-/// The log of a machine of one processor, which is to add 5 to the word.
+/// The log of a machine of one processor that is to add 5 to shared word 0, which is 10.
 fn one_add(rt: &(impl Abort + AllocGlobal)) -> Result<Logged, Fail> {
     Ok(log_from(rt, adders(rt.alloc(), CODE, ONE, 10, &[(0, 5)])?))
 }
 
-/// The log of such a machine of four processors.
+/// The log of the machine of four processors.
 fn four_adds(rt: &(impl Abort + AllocGlobal)) -> Result<Logged, Fail> {
     Ok(log_from(rt, four_machine(rt.alloc())?))
 }
 
-/// What is seen of a machine of four: where each processor stands, its `a0` and what it does, word 0,
-/// and whether no reference is open.
+/// What is visible of a machine of four processors: the `pc`, `a0` and status of each, word 0, and whether no reference
+/// is open.
 #[derive(Clone, Copy, Debug, PartialEq, Eq, Drop)]
 struct Seen {
     processors: [(Option<u32>, Option<u32>, Option<Status>); 4],
@@ -71,7 +72,7 @@ fn look_at(machine: &Machine) -> Seen {
     }
 }
 
-/// What an instruction that has retired wrote to a register.
+/// The result that an instruction wrote to a register, if it retired.
 fn result_of(outcome: Outcome) -> Option<u32> {
     match outcome {
         Outcome::Retired(retired) => retired.result,
@@ -79,7 +80,7 @@ fn result_of(outcome: Outcome) -> Option<u32> {
     }
 }
 
-/// Whether a log has room for this many steps more.
+/// Asks a log for room for this many more steps.
 fn room_for(log: &mut Logged, extra: u32) -> Result<(), LockRefusal> {
     match log.room(extra) {
         Ok(_) => Ok(()),

@@ -1,4 +1,4 @@
-//! Replays of small traces, by hand.
+//! Replays of small traces, worked out by hand.
 
 use flat_machine::Config;
 use machine_log::{StalledStep, replay};
@@ -22,7 +22,8 @@ fn two_adds(alloc: Global) -> Result<Machine, Fail> {
     adders(alloc, "amoadd.w a0, a1, (a2)", TWO, 0, &[(0, 1), (1, 2)])
 }
 
-/// Both requests combine at the stage, and come back. The second finds what the first left.
+/// The requests combine at the stage, and both replies come back. Processor 0 comes second, and finds what processor 1
+/// left.
 static COMBINED: [Step; 8] = [
     Step::Turn(0),
     Step::Turn(1),
@@ -34,7 +35,7 @@ static COMBINED: [Step; 8] = [
     Step::Turn(1),
 ];
 
-/// Where both processors stand, what they found, and shared word 0.
+/// The `pc` of both processors, what they found, and shared word 0.
 fn look_at(machine: &Machine) -> [Option<u32>; 5] {
     [
         machine.pc(0),
@@ -45,7 +46,7 @@ fn look_at(machine: &Machine) -> [Option<u32>; 5] {
     ]
 }
 
-/// A trace whose every step does something is taken whole.
+/// A replay takes all steps of a trace if none of them stalls.
 #[test]
 fn replays_a_trace(rt: HostRuntime) -> Result<(), Fail> {
     lend(two_adds(rt.alloc())?, |machine| {
@@ -59,7 +60,7 @@ fn replays_a_trace(rt: HostRuntime) -> Result<(), Fail> {
     Ok(())
 }
 
-/// The trace with a step before this one that names nothing of the machine.
+/// The trace with a step put in at this place that names nothing of the machine.
 fn with_a_stall(alloc: Global, place: usize) -> Result<Vec<Step>, AllocError> {
     let (before, behind) = COMBINED.split_at(place.min(COMBINED.len()));
     let mut steps = Vec::from_slice(alloc, before)?;
@@ -68,8 +69,8 @@ fn with_a_stall(alloc: Global, place: usize) -> Result<Vec<Step>, AllocError> {
     Ok(steps)
 }
 
-/// Wherever a step stalls, its place is reported, and the machine stands after those before it: a step that
-/// names nothing of the machine, put before each step of the trace and after the last.
+/// If a step stalls, its place is reported, and the machine has taken exactly the steps before it. The step names
+/// nothing of the machine, and is put before each step of the trace and after the last.
 #[test]
 fn stops_at_a_step_that_stalls(rt: HostRuntime) -> Result<(), Fail> {
     for place in 0..=COMBINED.len() {

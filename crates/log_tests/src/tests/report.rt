@@ -1,4 +1,4 @@
-//! Tallies and lines by hand.
+//! Tallies and lines of reports, worked out by hand.
 
 ghost use Rattle.std.specs.Prelude.{◌≡◌};
 
@@ -10,7 +10,7 @@ use std::test::Fail;
 use steps::{Outcome, Step, StepObserver};
 use test_support::{assert_same, lend};
 
-/// An environment call that has retired, and given this byte to the console.
+/// An environment call that has retired, and has sent this byte, if any, to the console.
 fn call(out: Option<u8>) -> Outcome {
     Outcome::Retired(Retired {
         pc: 0x0001_0000,
@@ -20,7 +20,7 @@ fn call(out: Option<u8>) -> Outcome {
     })
 }
 
-/// Notes steps of two processors, and one that names no processor.
+/// Tallies steps of two processors, and a step of a processor that there is not.
 fn note_all(tally: &mut Tally) -> Result<(), AllocError>
     requires { tally.old.observed ≡ 0 }
 {
@@ -32,7 +32,7 @@ fn note_all(tally: &mut Tally) -> Result<(), AllocError>
     tally.observe(Step::Turn(2), &call(Some(0x42)))
 }
 
-/// Of these steps only retirements count.
+/// A tally counts only retirements.
 #[test]
 fn counts_retirements(rt: HostRuntime) -> Result<(), Fail> {
     let mut tally = Tally::new(rt.alloc(), 2)?;

@@ -1,4 +1,4 @@
-//! Runs and rounds by hand, and the sweep beside one that asks for each of its steps.
+//! Runs and rounds worked out by hand, and the sweep compared with one that asks for each of its steps.
 
 mod rounds;
 
@@ -11,7 +11,7 @@ use std::test::Fail;
 use steps::Step;
 use test_support::{assert_same, lend, log_of, machine_of, tight_size};
 
-/// Each of four processors stops by a fault in its first turn, and each such turn ends a sweep.
+/// Each of four processors stops by a fault in its first turn, and each of these turns ends a sweep.
 #[test]
 fn ends_at_each_fault(rt: HostRuntime) -> Result<(), Fail> {
     lend(log_of(rt.alloc(), "ebreak", tight_size(2))?, |log| {
@@ -31,7 +31,7 @@ fn ends_at_each_fault(rt: HostRuntime) -> Result<(), Fail> {
     })
 }
 
-/// Of two processors that take turns, processor 0 refers to a shared word in its fifth, and the other stops by EBREAK.
+/// Two processors take turns. In their fifth, processor 0 refers to a shared word, and processor 1 stops by EBREAK.
 const FAULTS: &str = "
  addi x17, x0, 2
  ecall
@@ -43,7 +43,7 @@ odd: addi x7, x0, 1
  ebreak
 ";
 
-/// Ten turns, and the steps of a drain.
+/// Ten turns, and then the steps of a drain.
 static DRAINED: [Step; 14] = [
     Step::Turn(0),
     Step::Turn(1),
@@ -61,8 +61,8 @@ static DRAINED: [Step; 14] = [
     Step::Turn(0),
 ];
 
-/// Processor 1 stops by a fault in the round in which processor 0 issues its reference, which a drain then
-/// brings to its end: the request up and into module 0, the service, the reply down, and the turn.
+/// Processor 1 stops by a fault in the round in which processor 0 issues its reference. A drain then completes that:
+/// the request goes up to module 0, is served, the reply comes down, and the processor takes it.
 #[test]
 fn drains_behind_a_fault(rt: HostRuntime) -> Result<(), Fail> {
     lend(log_of(rt.alloc(), FAULTS, tight_size(1))?, |log| {
@@ -73,10 +73,10 @@ fn drains_behind_a_fault(rt: HostRuntime) -> Result<(), Fail> {
     })
 }
 
-/// A load of shared word 0 by each processor, in its second turn, and a halt.
+/// Each processor loads shared word 0 in its second turn, and halts.
 const LOADS: &str = "lui x5, 0x80000\nlw x6, 0(x5)\necall";
 
-/// A reference that is open when the budget is used up is brought to its end too.
+/// A reference that is open when the budget is used up is drained too.
 #[test]
 fn drains_behind_the_budget(rt: HostRuntime) -> Result<(), Fail> {
     lend(log_of(rt.alloc(), LOADS, tight_size(0))?, |log| {
@@ -89,12 +89,12 @@ fn drains_behind_the_budget(rt: HostRuntime) -> Result<(), Fail> {
     })
 }
 
-/// Room is asked for the steps of the sweep and of its drain, before the first of them is taken.
+/// The sweep asks for room for its steps and those of its drain, before it takes the first of them.
 #[test]
 fn asks_for_room_first(rt: HostRuntime) -> Result<(), Fail> {
     lend(log_of(rt.alloc(), "jal x0, 0", tight_size(0))?, |log| {
         assert_same!(rt; follow_sweep(log, 200_000), Ok(SweepEnd::Budget));
-        // With 200,000 steps there is room for 3,994,304 more: those of a sweep, and two for its drain.
+        // After 200,000 steps there is room for 3,994,304 more: those of a sweep, and two for its drain.
         assert_same!(rt; follow_sweep(log, 3_994_303), Err(LockRefusal::Full));
         assert_same!(rt; log.steps().len(), 200_000);
         assert_same!(rt; follow_sweep(log, 3), Ok(SweepEnd::Budget));
@@ -103,7 +103,7 @@ fn asks_for_room_first(rt: HostRuntime) -> Result<(), Fail> {
     })
 }
 
-/// Takes a round, whose steps are these.
+/// Takes a round, and checks that its steps are these.
 fn takes(rt: &impl Abort, machine: &mut Machine, steps: &[Step]) {
     let mut round = Round::new(machine.config().k);
     for step in steps {
@@ -123,9 +123,9 @@ static ROUND: [Step; 6] = [
     Step::Down { stage: 0, wire: 0 },
 ];
 
-/// Both of two processors load word 0 in their second turn. The second request combines with the first at
-/// the one stage, the module serves them, and the reply is split: all in the round in which they are sent,
-/// since each row finds what the row before has left.
+/// Two processors both load word 0 in their second turn. The second request combines with the first at the one stage,
+/// the module serves them, and the reply is split. All this is in the round in which they are sent, because each row of
+/// the round finds what the row before left.
 #[test]
 fn rounds_of_two_processors(rt: HostRuntime) -> Result<(), Fail> {
     lend(machine_of(rt.alloc(), LOADS, tight_size(1))?, |machine| {
@@ -142,8 +142,8 @@ fn rounds_of_two_processors(rt: HostRuntime) -> Result<(), Fail> {
     })
 }
 
-/// Each processor adds 1 to one word ten times, and then to a word of its own, so that requests combine, find
-/// full queues, and go alone.
+/// Each processor adds 1 to one word ten times, and then to a word of its own, so that requests combine, find full
+/// queues, and go alone.
 const ADDS: &str = "
  addi x17, x0, 2
  ecall
@@ -160,7 +160,7 @@ again: amoadd.w x8, x7, (x5)
  ecall
 ";
 
-/// Whether the step was taken, or stalled.
+/// Takes a step, and returns whether the log did not refuse it.
 fn is_answered(log: &mut Logged, step: Step) -> bool {
     log.step(step).is_ok()
 }
@@ -177,7 +177,7 @@ fn ask_for_all(rt: &impl Abort, log: &mut Logged, round: &[Step]) {
     }
 }
 
-/// The log has the steps that it has where each step of the sweep is asked for.
+/// The log has the same steps as one that is asked for each step of the sweep.
 #[test]
 fn leaves_out_only_what_stalls(rt: HostRuntime) -> Result<(), Fail> {
     for k in 0..7 {

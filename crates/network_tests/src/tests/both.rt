@@ -1,5 +1,5 @@
-//! Long random runs of the network with rings and of the network with a pool, side by side. Their steps are picked as
-//! the program's arbiter picks them.
+//! Long random runs of the network with rings and of the network with a pool, side by side. Their steps are picked by
+//! the rule of the program's arbiter.
 
 use super::random::{Random, request_of};
 use messages::Reply;
@@ -7,26 +7,26 @@ use omega_network::Network;
 use ring_network::Network as RingNetwork;
 use std::test::Fail;
 
-/// The two networks, with the words of their modules and which processors wait for a reply.
+/// The two networks, the words of their modules, and which processors wait for a reply.
 #[derive(Drop)]
 struct Both {
     rings: RingNetwork,
     pool: Network,
     random: Random,
-    /// The numbers by which the steps of the networks are picked.
+    /// The numbers that pick the steps of the networks.
     choices: Random,
     words: [u32; 256],
     is_open: [bool; 64],
 }
 
 impl Both {
-    /// A number of a wire.
+    /// A random wire.
     fn wire(&mut self) -> u8 {
         let wires = u32::from(self.rings.wires());
         (self.random.below(wires) & 63) as u8
     }
 
-    /// A processor that waits for nothing puts a request into its slot. Most are for word 0.
+    /// A random processor puts a request into its slot, unless it waits for a reply. Most requests are for word 0.
     fn inject(&mut self) -> bool {
         let p = self.wire();
         if self.is_open[usize::from(p & 63)] {
@@ -42,7 +42,7 @@ impl Both {
         self.inject_into_both(p, word, kind, value)
     }
 
-    /// Puts a request into its leader's slot. Nothing names who waits for nothing.
+    /// Puts a request into its leader's slot. No message may name the leader, because it waits for no reply.
     fn inject_into_both(&mut self, p: u8, word: u32, kind: u32, value: u32) -> bool {
         if p >= self.rings.wires()
             || p >= self.pool.wires()
@@ -57,9 +57,9 @@ impl Both {
         true
     }
 
-    /// A step of the list of all moves up, by stage and wire, then all services, then all moves down: that at the
-    /// place of the next number, counted round and round. This is the rule of the program's arbiter (`schedules`,
-    /// `Shuffled`), whose numbers are those of [`Random`].
+    /// Takes one step of a list: all moves up, by stage and wire, then all services, and then all moves down. The next
+    /// number, modulo the length of the list, is the place of the step. This is the rule of the program's arbiter
+    /// (`schedules`, `Shuffled`), whose numbers are those of [`Random`].
     fn asked(&mut self) -> bool {
         let stages = self.rings.stages();
         let wires = u32::from(self.rings.wires());
@@ -76,7 +76,7 @@ impl Both {
         }
     }
 
-    /// One move, up or down.
+    /// Makes one move, up or down, and returns whether both networks gave the same result.
     fn moved(&mut self, stage: u8, wire: u8, is_up: bool) -> bool {
         if stage >= self.rings.stages()
             || stage >= self.pool.stages()
@@ -92,7 +92,7 @@ impl Both {
         }
     }
 
-    /// A module serves a request, if it has one and its slot is free.
+    /// A module serves a request if it has one and its slot is free.
     fn serve(&mut self, m: u8) -> bool {
         if m >= self.rings.wires() || m >= self.pool.wires() {
             return false;
@@ -133,7 +133,7 @@ impl Both {
         true
     }
 
-    /// A processor takes the reply on its wire, if there is one.
+    /// A random processor takes the reply on its wire if there is one.
     fn take(&mut self) -> bool {
         let p = self.wire();
         if p >= self.rings.wires() || p >= self.pool.wires() {
@@ -147,13 +147,13 @@ impl Both {
         self.pool.port_take(p) == taken && shown == taken
     }
 
-    /// Whether both answer the same.
+    /// Takes some steps, and returns whether both networks gave the same results.
     fn step(&mut self, injects: bool) -> bool {
         (!injects || self.inject()) && self.asked() && self.take()
     }
 
-    /// Whether messages stand on the same wires in both, before each stage and at the modules, and just those who wait
-    /// are named.
+    /// Returns whether both networks have messages on the same wires, before each stage and at the modules, and whether
+    /// exactly the processors that wait are named.
     fn is_same(&self) -> bool {
         for stage in 0..=self.rings.stages() {
             for wire in 0..self.rings.wires() {
@@ -176,7 +176,7 @@ impl Both {
     }
 }
 
-/// The room of the queues and of the wait buffers, and how often an entry is combined, by the number of stages.
+/// The sizes of queues and of wait buffers, and how often an entry is combined, by the number of stages.
 static SIZES: [(u8, u8, u8); 7] = [
     (2, 1, 1),
     (2, 1, 1),

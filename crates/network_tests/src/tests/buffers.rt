@@ -1,4 +1,4 @@
-//! Records that are distinguished by their leaders.
+//! Records, which a wait buffer distinguishes by their leaders.
 
 use messages::Record;
 use phi_algebra::Phi;
@@ -14,7 +14,7 @@ fn record(leader: u8, amount: u32, second: u8) -> Record {
     }
 }
 
-/// Records of leaders 0 and 5 stand in the order of their combinations, until those of 0 go.
+/// Records of leaders 0 and 5 are in the order of their combinations, until those of leader 0 are forgotten.
 #[test]
 fn records_go_with_their_leader(rt: HostRuntime) -> Result<(), Fail> {
     let mut buffer = WaitBuffer::new(4);

@@ -1,4 +1,4 @@
-//! The sets of wires of a network, for a few messages.
+//! The sets of a network's wires that hold messages, for a few messages.
 
 use super::{down_of, phi_of, request, up_of};
 use messages::Reply;
@@ -8,7 +8,7 @@ use phi_algebra::Phi;
 use std::test::Fail;
 use test_support::{Words, asked_and_wanted, assert_same, low, read_words};
 
-/// The first eight wires as bits, wire 0 lowest.
+/// The first eight wires as bits, with wire 0 as the lowest.
 fn bits(set: WireSet) -> u8 {
     let mut bits = 0;
     for wire in 0..8u8 {
@@ -19,9 +19,9 @@ fn bits(set: WireSet) -> u8 {
     bits
 }
 
-/// Four processors add to one word: their requests combine at both stages, and their replies part at both. Each
-/// step of a network of two stages, as runs have it, and then the wires of requests at depths 0, 1 and 2, and those of
-/// replies. Module 0 serves processor 0, and replies with a value.
+/// Four processors add to one word. Their requests combine at both stages, and the reply is split at both. Each row has
+/// a step of a network of two stages, written as in the tests of runs, and then the wires that hold requests at depths
+/// 0, 1 and 2, and those that hold replies. Module 0 serves the request of processor 0, and replies with a value.
 static FOUR_ADDS: [(&str, [u8; 3], [u8; 3]); 18] = [
     ("add 0 0 1: put", [0b0001, 0, 0], [0; 3]),
     ("add 1 0 1: put", [0b0011, 0, 0], [0; 3]),
@@ -43,7 +43,7 @@ static FOUR_ADDS: [(&str, [u8; 3], [u8; 3]); 18] = [
     ("take 2: is 11", [0; 3], [0b1011, 0, 0]),
 ];
 
-/// Whether the network answers as it is to.
+/// Takes a call, and returns whether the network gave the wanted result.
 fn answers(network: &mut IndexedNetwork, asked: Words, wanted: Words) -> bool {
     if network.stages() != 2 {
         return false;
@@ -85,7 +85,7 @@ fn answers(network: &mut IndexedNetwork, asked: Words, wanted: Words) -> bool {
     }
 }
 
-/// Whether module 0 alone has a request, which is the wanted one, and has none when it has taken it.
+/// Returns whether module 0 has the wanted request, module 1 has none, and module 0 has none after it took that.
 fn serves(network: &mut IndexedNetwork, wanted: Words) -> bool {
     if network.stages() != 2 || network.module_front(1).is_some() {
         return false;

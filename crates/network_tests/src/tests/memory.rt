@@ -1,5 +1,5 @@
-//! Each allocation of these tests is to be refused in turn. Then what is made says that there is no memory, which ends
-//! the test, or it is as with ample memory.
+//! The test runs with each of its allocations refused in turn. A call then reports that it is out of memory, which ends
+//! the test, or it returns what it returns with ample memory.
 
 use combining_switch::Pool;
 use omega_network::{IndexedNetwork, Network};

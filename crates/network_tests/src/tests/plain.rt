@@ -1,11 +1,11 @@
-//! A plain network, by lists, to compare the network with: what the moves are said to do, with no
-//! rings and no proof. Its calls give None where a number names no place.
+//! A plain network of lists, with which the network is compared. It makes the same moves, with no rings and no proof.
+//! Its calls return None if a number names no place.
 
 use messages::{DownMove, Record, Reply, Request, Seconds, UpMove};
 use phi_algebra::{Phi, compose};
 use std::alloc::{AllocError, Global};
 
-/// Lists for each place. Those of a stage stand after those of the stages before it.
+/// Lists for each place. Those of a stage come after those of the stages before it.
 #[derive(Drop)]
 pub struct Plain {
     stages: usize,
@@ -18,7 +18,7 @@ pub struct Plain {
     requests: Vec<Vec<Request>>,
     /// By the wires that go out.
     records: Vec<Vec<Record>>,
-    /// By the inputs' numbers, which are those of the shuffled wires.
+    /// By the numbers of the inputs, which are those of the shuffled wires.
     replies: Vec<Vec<Reply>>,
     module_slots: Vec<Vec<Reply>>,
 }
@@ -56,7 +56,7 @@ impl Plain {
         self.slots.len()
     }
 
-    /// The number of a place of a stage among all of its kind.
+    /// The index of a wire of a stage in the lists of all stages.
     fn place(&self, stage: usize, wire: usize) -> usize {
         stage.wrapping_mul(self.wires()).wrapping_add(wire)
     }
@@ -71,7 +71,7 @@ impl Plain {
         }
     }
 
-    /// The number with its last bit replaced by the bit of another that the stage goes by.
+    /// The number with its last bit replaced by the bit of `by` that the stage routes by.
     fn routed(&self, number: usize, stage: usize, by: usize) -> usize {
         let bit = self.stages.wrapping_sub(1).wrapping_sub(stage);
         let port = by.wrapping_shr((bit & 63) as u32) & 1;
@@ -88,7 +88,7 @@ impl Plain {
         self.slots.get_mut(usize::from(leader))?.push(request).ok()
     }
 
-    /// Where the requests before a stage on a wire stand.
+    /// The requests before a stage on a wire.
     fn requests_before(&mut self, stage: usize, wire: usize) -> Option<&mut Vec<Request>> {
         if stage == 0 {
             self.slots.get_mut(wire)
@@ -98,7 +98,7 @@ impl Plain {
         }
     }
 
-    /// Where the replies before a stage on a wire stand.
+    /// The replies before a stage on a wire.
     fn replies_before(&mut self, stage: usize, wire: usize) -> Option<&mut Vec<Reply>> {
         if stage == self.stages {
             self.module_slots.get_mut(wire)
@@ -108,12 +108,12 @@ impl Plain {
         }
     }
 
-    /// Whether a request stands before a stage on a wire, or at a module.
+    /// Returns whether there is a request before a stage on a wire, or at a module.
     pub fn has_request(&mut self, stage: usize, wire: usize) -> Option<bool> {
         Some(!self.requests_before(stage, wire)?.is_empty())
     }
 
-    /// Whether a reply stands before a stage on a wire, or at a module.
+    /// Returns whether there is a reply before a stage on a wire, or at a module.
     pub fn has_reply(&mut self, stage: usize, wire: usize) -> Option<bool> {
         Some(!self.replies_before(stage, wire)?.is_empty())
     }
@@ -209,12 +209,12 @@ impl Plain {
         Some(answer_of(replies.as_slice()))
     }
 
-    /// The input of a stage where a reply goes that comes from a wire.
+    /// The input of a stage to which a reply from a wire goes.
     fn input(&self, stage: usize, wire: usize, reply: &Reply) -> usize {
         self.place(stage, self.routed(wire, stage, usize::from(reply.leader)))
     }
 
-    /// Whether all these replies still fit at their inputs.
+    /// Returns whether the queues at the inputs have room for all these replies.
     fn have_room(&self, stage: usize, wire: usize, replies: &[Reply]) -> Option<bool> {
         for reply in replies {
             let place = self.input(stage, wire, reply);
@@ -261,7 +261,7 @@ impl Plain {
     }
 }
 
-/// What a move answers whose replies these are.
+/// The result of a move that makes these replies.
 fn answer_of(replies: &[Reply]) -> DownMove {
     let to = match replies {
         [_, first] => Seconds::One(first.leader),

@@ -1,4 +1,4 @@
-//! Long random runs of networks beside a plain one.
+//! Long random runs of networks, compared with plain ones.
 
 ghost use Rattle.std.specs.Prelude.{◌≡◌};
 
@@ -16,12 +16,12 @@ pub struct Random {
 }
 
 impl Random {
-    /// Those that begin with a number, which is not 0.
+    /// The numbers that follow this state, which is not 0.
     pub fn new(state: u32) -> Self {
         Random { state }
     }
 
-    /// The next number, below `end` where that is not 0.
+    /// The next number, below `end` if that is not 0.
     pub fn below(&mut self, end: u32) -> u32 {
         self.state ^= self.state << 13;
         self.state ^= self.state >> 17;
@@ -30,7 +30,7 @@ impl Random {
     }
 }
 
-/// A request as it comes from a processor, whose function is of one of four kinds.
+/// A request as it comes from a processor, with a function of one of four kinds.
 pub fn request_of(leader: u8, word: u32, kind: u32, value: u32) -> Request
     ensures { result.leader ≡ leader }
 {
@@ -42,7 +42,7 @@ pub fn request_of(leader: u8, word: u32, kind: u32, value: u32) -> Request
     }
 }
 
-/// The function.
+/// The function of this kind, with this operand.
 fn phi_of(kind: u32, value: u32) -> Phi {
     match kind {
         0 => Phi::Bits {
@@ -55,8 +55,7 @@ fn phi_of(kind: u32, value: u32) -> Phi {
     }
 }
 
-/// The network and the plain one side by side, with the words of their modules and what the
-/// processors wait for.
+/// The network and the plain one side by side, the words of their modules, and which processors wait for a reply.
 #[derive(Drop)]
 struct Pair {
     network: Network,
@@ -67,13 +66,13 @@ struct Pair {
 }
 
 impl Pair {
-    /// A number of a wire.
+    /// A random wire.
     fn wire(&mut self) -> u8 {
         let wires = u32::from(self.network.wires());
         (self.random.below(wires) & 63) as u8
     }
 
-    /// A processor that waits for nothing puts a request into its slot. Most are for word 0.
+    /// A random processor puts a request into its slot, unless it waits for a reply. Most requests are for word 0.
     fn inject(&mut self) -> Option<bool> {
         let p = self.wire();
         let wires = self.network.wires();
@@ -95,7 +94,7 @@ impl Pair {
         Some(true)
     }
 
-    /// One move, up or down.
+    /// Makes one random move, up or down, and returns whether both networks gave the same result.
     fn moved(&mut self) -> Option<bool> {
         let wire = self.wire();
         let stages = self.network.stages();
@@ -112,7 +111,7 @@ impl Pair {
         }
     }
 
-    /// A module serves a request, if it has one and its slot is free.
+    /// A random module serves a request if it has one and its slot is free.
     fn serve(&mut self) -> Option<bool> {
         let m = self.wire();
         if m >= self.network.wires() || !self.network.module_is_free(m) {
@@ -140,7 +139,7 @@ impl Pair {
         Some(same)
     }
 
-    /// A processor takes the reply on its wire, if there is one.
+    /// A random processor takes the reply on its wire if there is one.
     fn take(&mut self) -> Option<bool> {
         let p = self.wire();
         if p >= self.network.wires() {
@@ -163,8 +162,8 @@ impl Pair {
         Some(injected && self.moved()? && self.serve()? && self.take()?)
     }
 
-    /// Whether both have messages at the same places and show the same ones, and are empty just where no processor
-    /// waits.
+    /// Returns whether both have messages at the same places and show the same ones, and whether the network is empty
+    /// exactly if no processor waits.
     fn is_same(&mut self) -> Option<bool> {
         let none_open = self.is_open.iter().all(|is_open| !is_open);
         let same_places = has_same_places(&self.network, &mut self.plain)?;
@@ -173,7 +172,7 @@ impl Pair {
     }
 }
 
-/// Whether requests and replies stand on the same wires, before each stage and at the modules.
+/// Returns whether both have requests and replies on the same wires, before each stage and at the modules.
 fn has_same_places(network: &Network, plain: &mut Plain) -> Option<bool> {
     let wires = network.wires();
     for stage in 0..=network.stages() {
@@ -189,7 +188,7 @@ fn has_same_places(network: &Network, plain: &mut Plain) -> Option<bool> {
     Some(true)
 }
 
-/// Whether the same request is shown to each module, and the same reply to each processor.
+/// Returns whether both show the same request to each module, and the same reply to each processor.
 fn shows_same_messages(network: &Network, plain: &mut Plain) -> Option<bool> {
     // The proof needs the type of a request's function named.
     let _phi = Phi::identity();

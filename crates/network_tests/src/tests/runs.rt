@@ -14,9 +14,9 @@ use test_support::{Words, asked_and_wanted, assert_same, low, read_words};
 struct Run {
     name: &'static str,
     sizes: (u8, u8, u8, u8),
-    /// The word of each module before. All requests at a module do as if they were for it.
+    /// The word of each module before the run. All requests at a module act on it.
     before: u32,
-    /// Calls, with the answer that each of a line has to have after a colon.
+    /// Lines of calls. After a colon comes the result that each call of the line must have.
     ///
     /// - `add P W A`, `swap P W A` and `minimum P W A`: processor P puts a request for word W into its slot, which is
     /// `put`.
@@ -25,7 +25,7 @@ struct Run {
     /// - `serve M`: the request that module M serves, as `add LEADER A`.
     /// - `take P`: `is` the value that the processor takes.
     steps: &'static [&'static str],
-    /// The word of module 0 after them.
+    /// The word of module 0 after the run.
     after: u32,
 }
 
@@ -33,13 +33,13 @@ struct Run {
 const FOUR_ADDS: &str = "
     add 0 0 1, add 1 0 2, add 2 0 4, add 3 0 8: put";
 
-/// The requests of 0 and 2 meet at the second stage.
+/// Four processors add, and the requests of 0 and 2 meet at the second stage.
 const TWO_MEET: &str = "
     add 0 0 1, add 1 0 2, add 2 0 4, add 3 0 8: put
     up 0 0, up 1 0, up 0 2: moved
     up 1 0: combined 0 2";
 
-/// That of 1 meets them there.
+/// The same, and the request of 1 meets them there.
 const THREE_MEET: &str = "
     add 0 0 1, add 1 0 2, add 2 0 4, add 3 0 8: put
     up 0 0, up 1 0, up 0 2: moved
@@ -47,7 +47,7 @@ const THREE_MEET: &str = "
     up 0 1: moved
     up 1 2: combined 0 1";
 
-/// What each finds where the order is 0, 2, 1, 3.
+/// What each processor finds if the order is 0, 2, 1, 3.
 const SUMS: &str = "
     take 0: is 0
     take 1: is 5
@@ -319,7 +319,7 @@ static RUNS: [Run; 14] = [
     },
 ];
 
-/// Whether the network answers as it is to.
+/// Takes a call, and returns whether the network gave the wanted result.
 fn answers(network: &mut Network, words: &mut [u32; 8], asked: Words, wanted: Words) -> bool {
     let [a, b, c, _] = asked.numbers;
     let (place, wire) = (low(a), low(b));
@@ -347,7 +347,7 @@ fn answers(network: &mut Network, words: &mut [u32; 8], asked: Words, wanted: Wo
     }
 }
 
-/// Whether a processor can put a request into its slot.
+/// Puts a request into a processor's slot, and returns whether that was possible.
 fn puts(network: &mut Network, p: u8, word: u32, function: &str, operand: u32) -> bool {
     let Some(phi) = phi_of(function, operand) else {
         return false;
@@ -359,7 +359,7 @@ fn puts(network: &mut Network, p: u8, word: u32, function: &str, operand: u32) -
     fits
 }
 
-/// Whether a module finds the request that it is to serve, and serves it.
+/// Serves the request at a module, and returns whether it was the wanted one.
 fn serves(network: &mut Network, word: &mut u32, m: u8, wanted: Words) -> bool
     requires { m < 2 ^ network.old.k }
 {

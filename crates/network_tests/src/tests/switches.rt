@@ -1,4 +1,4 @@
-//! One switch, whose queues stand in a pool, over each of its calls. Networks have the cases.
+//! Each call of one switch, whose queues are in a pool. The tests of networks have the different cases.
 
 use super::request;
 use combining_switch::{Accepted, Answered, Pool, Switch};
@@ -7,7 +7,8 @@ use phi_algebra::Phi;
 use std::test::Fail;
 use test_support::assert_same;
 
-/// A request goes through output 1. A reply is shown and taken at input 1, and put there as one that comes back.
+/// A request goes through output 1. A reply is shown and taken at input 1, and answered as one that comes back to
+/// output 1.
 #[test]
 fn a_request_goes_and_its_reply_comes(rt: HostRuntime) -> Result<(), Fail> {
     let mut pool = Pool::new(rt.alloc(), 8, 2, 2)?;

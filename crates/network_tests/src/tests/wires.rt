@@ -1,4 +1,4 @@
-//! Small networks, with every wire worked by hand, and a set of wires.
+//! Small networks, with every wire worked out by hand, and a set of wires.
 
 use omega_wires::{
     WireSet, bit, input_port, module_of, path, rotate_left, rotate_right, switch_of, wire_after,
@@ -52,7 +52,7 @@ fn message_goes_there_and_back(rt: HostRuntime) {
 
 #[test]
 fn way_through_the_largest_network(rt: HostRuntime) {
-    // From 110001 to 010110, one bit more of the module's number at each stage.
+    // From 110001 to 010110. Each stage shifts in one more bit of the module's number.
     let wires: [u8; 7] = [
         0b110001, 0b100010, 0b000101, 0b001010, 0b010101, 0b101011, 0b010110,
     ];
@@ -67,7 +67,7 @@ fn way_through_the_largest_network(rt: HostRuntime) {
     }
 }
 
-/// The lowest wire, the highest and one between them.
+/// The lowest wire, the highest, and one between them are inserted and removed.
 #[test]
 fn wires_come_and_go(rt: HostRuntime) {
     let mut set = WireSet::new();

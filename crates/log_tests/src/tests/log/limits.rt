@@ -7,7 +7,7 @@ use std::test::Fail;
 use steps::{MAX_STEPS, Outcome, Step};
 use test_support::{assert_same, lend, poke_often};
 
-/// What a full log of one processor refuses, and why.
+/// Steps that a full log of one processor refuses, and why.
 static REFUSED: [(Step, LockRefusal); 4] = [
     (Step::Turn(0), LockRefusal::Full),
     (Step::Serve(0), LockRefusal::Full),
@@ -15,7 +15,7 @@ static REFUSED: [(Step, LockRefusal); 4] = [
     (Step::Up { stage: 0, wire: 0 }, LockRefusal::Unnamed),
 ];
 
-/// With room for two steps, a turn and a service are taken.
+/// Fills a log that has room for two steps with a turn and a service.
 fn fill_up(rt: &impl Abort, log: &mut Logged) {
     assert_same!(rt; room_for(log, 2), Ok(()));
     assert_same!(rt; room_for(log, 3), Err(LockRefusal::Full));
@@ -29,7 +29,7 @@ fn fill_up(rt: &impl Abort, log: &mut Logged) {
     assert_same!(rt; log.steps().len(), MAX_STEPS);
 }
 
-/// The log has no room for anything, and nothing changes it.
+/// Checks that the log has no room for any step, and that nothing changes it.
 fn expect_full(rt: &impl Abort, log: &mut Logged) {
     let before = look_at(log.machine());
     for (step, refusal) in &REFUSED {
@@ -44,9 +44,9 @@ fn expect_full(rt: &impl Abort, log: &mut Logged) {
     assert_same!(rt; log.steps().len(), 4_194_304);
 }
 
-/// With one processor a drain asks for two places and an instruction for three, whatever they turn out to
-/// need. A log of 4,194,304 steps takes no step more, not even one that would stall, and nothing is
-/// changed. What names no place of the machine is refused as such.
+/// With one processor, a drain asks for two places and an instruction for three, even if it needs fewer. A log of
+/// 4,194,304 steps takes no more, not even a step that would stall, and nothing changes. A step that names no place of
+/// the machine is still refused for that.
 #[test]
 fn log_has_a_limit(rt: HostRuntime) -> Result<(), Fail> {
     lend(one_add(&rt)?, |log| {

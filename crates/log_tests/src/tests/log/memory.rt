@@ -1,5 +1,5 @@
-//! Each allocation of these tests is to be refused in turn. Then a call says that there is no memory, which ends the
-//! test, or its answer is that of ample memory.
+//! The tests run with each of their allocations refused in turn. A call then reports that it is out of memory, which
+//! ends the test, or it returns what it returns with ample memory.
 
 use super::pokes::write;
 use super::{log_from, room_for};
@@ -23,19 +23,19 @@ const TWO: Config = Config {
     shared_words: 4,
 };
 
-/// The image of a program by which each processor adds to shared word 0, and halts.
+/// The image of a program by which each processor adds to the shared word at `a2`, and halts.
 fn image(alloc: Global) -> Result<Image, Fail> {
     let file = image_of(alloc, "amoadd.w a0, a1, (a2)\necall")?;
     Ok(read_image(alloc, &mut Meter::new(file.as_slice()), &TWO)?)
 }
 
-/// The machine of a copy of it.
+/// The machine of a copy of that image.
 fn machine(alloc: Global) -> Result<Machine, Fail> {
     let copy = lend(image(alloc)?, |image| image.copy(alloc))?;
     Ok(Machine::new(alloc, copy, TWO)?)
 }
 
-/// The writes by which processor 0 adds 5.
+/// The pokes after which processor 0 is to add 5 to shared word 0.
 static POKES: [Poke; 2] = [
     Poke::Register {
         processor: 0,
@@ -49,7 +49,7 @@ static POKES: [Poke; 2] = [
     },
 ];
 
-/// Takes a step, and answers whether that did this.
+/// Takes a step, and returns whether it had this outcome.
 fn does(log: &mut Logged, step: Step, outcome: Outcome) -> Result<bool, LockRefusal> {
     match log.step(step) {
         Ok(answer) => Ok(answer == outcome),
@@ -57,7 +57,7 @@ fn does(log: &mut Logged, step: Step, outcome: Outcome) -> Result<bool, LockRefu
     }
 }
 
-/// Takes an instruction of a processor, and answers whether that has halted it with 0.
+/// Takes an instruction of a processor, and returns whether it halted the processor with 0.
 fn halts(log: &mut Logged, processor: u8) -> Result<bool, LockRefusal> {
     match log.one(processor) {
         Ok(answer) => Ok(answer == Outcome::Stopped(Cause::Halt(0))),
@@ -65,8 +65,8 @@ fn halts(log: &mut Logged, processor: u8) -> Result<bool, LockRefusal> {
     }
 }
 
-/// After its turn a reference through one stage takes two moves, the module's service and the turn that retires it.
-/// Then processor 0 halts, and processor 1 stops by a fault, since its address is 0.
+/// After its first turn, a reference through one stage takes two moves, the module's service and the turn that retires
+/// it. Then processor 0 halts, and processor 1 stops by a fault because its address is 0.
 #[test]
 fn log_is_short_of_memory(rt: HostRuntime) -> Result<(), Fail> {
     lend(log_from(&rt, machine(rt.alloc())?), |log| {
@@ -82,7 +82,7 @@ fn log_is_short_of_memory(rt: HostRuntime) -> Result<(), Fail> {
     })
 }
 
-/// The two writes are the order: no reference is served.
+/// The serial order is the two pokes, because no reference is served.
 #[test]
 fn order_is_short_of_memory(rt: HostRuntime) -> Result<(), Fail> {
     let steps = [Step::Poke(POKES[0]), Step::Poke(POKES[1]), Step::Turn(0)];

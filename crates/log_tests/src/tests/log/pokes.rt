@@ -1,4 +1,4 @@
-//! Writes from outside, and what is taken in the room that a log lends.
+//! Pokes, and steps that are taken in the room of a reserved log.
 
 use super::{four_adds, one_add, result_of, room_for};
 use flat_machine::{PC, Poke};
@@ -9,7 +9,7 @@ use std::test::Fail;
 use steps::{Outcome, Step};
 use test_support::{assert_same, lend};
 
-/// Writes these, which the machine has.
+/// Takes these pokes, whose targets the machine has.
 pub(super) fn write(rt: &impl Abort, log: &mut Logged, pokes: &[Poke]) -> Result<(), LockRefusal> {
     let machine = log.machine();
     assert!(rt; machine.is_idle());
@@ -18,7 +18,7 @@ pub(super) fn write(rt: &impl Abort, log: &mut Logged, pokes: &[Poke]) -> Result
     log.pokes(pokes)
 }
 
-/// Writes of all kinds, on a machine of four processors with 1,024 shared words.
+/// Pokes of all kinds, on a machine of four processors with 1,024 shared words.
 static POKES: [Poke; 5] = [
     Poke::Register {
         processor: 2,
@@ -45,7 +45,7 @@ static POKES: [Poke; 5] = [
     },
 ];
 
-/// What a processor sees at an address then.
+/// What a processor sees at an address after those pokes.
 static SEEN: [(u8, u32, Option<u8>); 15] = [
     (1, 0x0002_0007, Some(200)),
     (0, 0x0002_0007, Some(0)),
@@ -64,7 +64,7 @@ static SEEN: [(u8, u32, Option<u8>); 15] = [
     (4, 0x8000_0000, None),
 ];
 
-/// Writes that this machine has, and writes that it has not.
+/// Pokes whose targets this machine has, and pokes whose targets it does not have.
 static LAWFUL: [(Poke, bool); 14] = [
     (
         Poke::Register {
@@ -192,8 +192,8 @@ fn expect_lawful(rt: &impl Abort, machine: &Machine) {
     }
 }
 
-/// What is written is entered, and each processor sees its own local memory, shared memory and code, byte by byte, and
-/// nothing elsewhere. What the machine has not is not lawful.
+/// Pokes are entered in the log, and each processor sees its own local memory, shared memory and code, byte by byte,
+/// and nothing elsewhere. A poke without a target on the machine is not lawful.
 #[test]
 fn pokes_are_seen(rt: HostRuntime) -> Result<(), Fail> {
     lend(four_adds(&rt)?, |log| {
@@ -206,7 +206,7 @@ fn pokes_are_seen(rt: HostRuntime) -> Result<(), Fail> {
     })
 }
 
-/// A reference, by a step and a drain, each in room that was made for it.
+/// Takes a reference by a step and a drain, each in room that was reserved for it.
 fn refer(rt: &impl Abort, log: &mut Logged) -> Result<(), LockRefusal> {
     assert_same!(rt; log.room(1)?.step(Step::Turn(0)), Outcome::Issued);
     assert_same!(rt; log.machine().is_open(0), Some(true));
@@ -219,14 +219,13 @@ fn refer(rt: &impl Abort, log: &mut Logged) -> Result<(), LockRefusal> {
     Ok(())
 }
 
-/// What one instruction writes to a register, in room that was made for it.
+/// Takes one instruction in room that was reserved for it, and returns what it writes to a register.
 fn take_one(log: &mut Logged) -> Result<Option<u32>, LockRefusal> {
     let k = log.machine().config().k;
     Ok(result_of(log.room(2 * u32::from(k) + 3)?.one(0)))
 }
 
-/// In the room that was made a reference goes out and is drained, and a local instruction follows it. All of
-/// it is entered.
+/// A reference is sent and drained in reserved room, and a local instruction follows it. All steps are entered.
 #[test]
 fn room_is_used(rt: HostRuntime) -> Result<(), Fail> {
     lend(one_add(&rt)?, |log| {

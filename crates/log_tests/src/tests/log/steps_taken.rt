@@ -1,4 +1,4 @@
-//! What is entered of steps, one by one.
+//! Which steps are entered in a log, one by one.
 
 use super::{four_adds, four_machine, look_at, one_add};
 use flat_machine::Poke;
@@ -9,8 +9,8 @@ use std::test::Fail;
 use steps::{Outcome, Step};
 use test_support::{COMBINED_ADDS, add_that_found, assert_same, enter_adds, lend};
 
-/// A reference without switches: the turn sends it, the module executes it, and the next turn takes
-/// the word that it found. A turn before the reply, and a second service, stall, and are not entered.
+/// A reference without switches: a turn sends it, the module executes it, and the next turn takes the word that it
+/// found. A turn before the reply and a second service stall, and are not entered.
 #[test]
 fn stalls_are_not_entered(rt: HostRuntime) -> Result<(), Fail> {
     lend(one_add(&rt)?, |log| {
@@ -33,15 +33,15 @@ fn stalls_are_not_entered(rt: HostRuntime) -> Result<(), Fail> {
     })
 }
 
-/// What a processor has found.
+/// Checks the word that each processor has found.
 fn expect_found(rt: &impl Abort, machine: &Machine, found: [u32; 4]) {
     for (p, word) in found.iter().enumerate() {
         assert_same!(rt; machine.reg(p as u8, 10), Some(*word), p);
     }
 }
 
-/// Each step of four adds that combine does something and is entered. A machine that is made again and takes
-/// the entered steps comes to stand as this one does.
+/// Each step of four adds that combine does something, and is entered. A new machine that takes the entered steps
+/// reaches the same state.
 #[test]
 fn entered_steps_replay(rt: HostRuntime) -> Result<(), Fail> {
     lend(four_adds(&rt)?, |log| {
@@ -57,7 +57,7 @@ fn entered_steps_replay(rt: HostRuntime) -> Result<(), Fail> {
     })
 }
 
-/// Steps that name what a machine of four does not have.
+/// Steps that name what a machine of four processors does not have.
 static UNNAMED: [Step; 9] = [
     Step::Turn(4),
     Step::Turn(255),
@@ -78,7 +78,7 @@ static UNNAMED: [Step; 9] = [
     }),
 ];
 
-/// Steps that name the last of what it has, and that would do nothing.
+/// Steps that name the last of what such a machine has, and stall.
 static NAMED: [Step; 4] = [
     Step::Serve(3),
     Step::Up { stage: 1, wire: 3 },
@@ -89,7 +89,7 @@ static NAMED: [Step; 4] = [
     }),
 ];
 
-/// The log refuses each step that names what its machine does not have, and nothing is changed.
+/// Checks that the log refuses each step that names what its machine does not have, and that nothing changes.
 fn expect_unnamed(rt: &impl Abort, log: &mut Logged) {
     let before = look_at(log.machine());
     let entered = log.steps().len();
@@ -101,8 +101,8 @@ fn expect_unnamed(rt: &impl Abort, log: &mut Logged) {
     }
 }
 
-/// A step that names what the machine of four does not have is refused, whether or not a reference is
-/// open, and nothing is changed. One that names the last of each is taken.
+/// A step that names what the machine does not have is refused, whether a reference is open or not, and changes
+/// nothing. A step that names the last place of its kind is taken.
 #[test]
 fn refuses_what_it_does_not_have(rt: HostRuntime) -> Result<(), Fail> {
     lend(four_adds(&rt)?, |log| {

@@ -1,4 +1,4 @@
-//! Whole instructions, drains, and room for them.
+//! Whole instructions, drains, and room for steps.
 
 use super::{Seen, four_adds, look_at, result_of, room_for};
 use flat_machine::{Cause, Fault, Status};
@@ -10,7 +10,7 @@ use std::test::Fail;
 use steps::{Outcome, Step};
 use test_support::{assert_same, enter_adds, lend};
 
-/// Where the four processors stand, with their `a0`, where each runs.
+/// The visible state if all four processors run, with these values of `pc` and `a0`, and no reference is open.
 fn running(at: [(u32, u32); 4], word: u32) -> Seen {
     let run = Some(Status::Running);
     Seen {
@@ -31,16 +31,16 @@ static REFERENCE: [Step; 7] = [
     Step::Turn(2),
 ];
 
-/// Processor 2 has added its 4 to the word.
+/// Checks that processor 2 has added its 4 to the word.
 fn expect_added(rt: &impl Abort, machine: &Machine) {
     let at = 0x0001_0000;
     let wanted = running([(at, 0), (at, 0), (at + 4, 10), (at, 0)], 14);
     assert_same!(rt; look_at(machine), wanted);
 }
 
-/// A reference through two stages takes seven steps, all entered: its turn, two moves up, the module's
-/// step, two moves down, and the turn that retires it. A local instruction and a stop take one each,
-/// and a processor that has stopped none.
+/// A reference through two stages takes seven steps, all entered: its turn, two moves up, the service, two moves down,
+/// and the turn that retires it. A local instruction and a stop take one step each, and a processor that has stopped
+/// takes none.
 #[test]
 fn one_enters_an_instruction(rt: HostRuntime) -> Result<(), Fail> {
     lend(four_adds(&rt)?, |log| {
@@ -59,7 +59,7 @@ fn one_enters_an_instruction(rt: HostRuntime) -> Result<(), Fail> {
     })
 }
 
-/// Where a reference is open, and where there is no such processor, nothing is taken.
+/// If a reference is open, or if there is no such processor, no step is taken.
 #[test]
 fn one_wants_an_idle_machine(rt: HostRuntime) -> Result<(), Fail> {
     lend(four_adds(&rt)?, |log| {
@@ -76,7 +76,8 @@ fn one_wants_an_idle_machine(rt: HostRuntime) -> Result<(), Fail> {
     })
 }
 
-/// After this many steps of the adds that combine, a drain takes and enters this many, and then none.
+/// Checks that after the first steps of the adds that combine, `taken` of them, a drain takes and enters `moves` steps,
+/// and then none.
 fn expect_drain(
     rt: &(impl Abort + AllocGlobal),
     taken: usize,
@@ -96,15 +97,15 @@ fn expect_drain(
     })
 }
 
-/// Where no request has moved each goes to the module and back by itself, 24 steps; where two pairs
-/// have combined at the first stage, half as many do.
+/// If no request has moved, each goes to the module and back by itself, in 24 steps. If two pairs have combined at the
+/// first stage, half as many steps are enough.
 #[test]
 fn drain_enters_its_steps(rt: HostRuntime) -> Result<(), Fail> {
     expect_drain(&rt, 4, 24, [10, 11, 13, 17])?;
     expect_drain(&rt, 8, 12, [10, 15, 11, 17])
 }
 
-/// For how many steps there is room, and for how many not, where one step is entered.
+/// Numbers of steps for which a log of one step has room, and others for which it does not.
 static ROOM: [(u32, Option<LockRefusal>); 5] = [
     (0, None),
     (1, None),
@@ -113,7 +114,7 @@ static ROOM: [(u32, Option<LockRefusal>); 5] = [
     (u32::MAX, Some(LockRefusal::Full)),
 ];
 
-/// Room is made for as many steps as the log may have, and for no more. It changes nothing that is seen.
+/// Room is reserved up to the greatest number of steps of a log, and no further. That changes nothing visible.
 #[test]
 fn room_is_made_to_the_limit(rt: HostRuntime) -> Result<(), Fail> {
     lend(four_adds(&rt)?, |log| {

@@ -1,4 +1,4 @@
-//! Rounds by hand.
+//! Rounds of the sweep, worked out by hand.
 
 ghost use Rattle.std.specs.Prelude.{◌≤◌};
 
@@ -10,7 +10,7 @@ use std::test::Fail;
 use steps::Step;
 use test_support::{assert_same, lend};
 
-/// The steps of a round, one after another.
+/// The steps of a round, in their order.
 pub(super) fn round_of(alloc: Global, k: u8) -> Result<Vec<Step>, AllocError>
     requires { k ≤ 6 }
 {
@@ -52,7 +52,7 @@ fn round_of_one_stage(rt: HostRuntime) -> Result<(), Fail> {
     Ok(())
 }
 
-/// A round of machines with this many stages has this many steps, and these at these places.
+/// Checks that a round of a machine with `k` stages has this many steps, and these at their places.
 fn expect_steps(
     rt: &(impl Abort + AllocGlobal),
     k: u8,
@@ -70,7 +70,7 @@ fn expect_steps(
     Ok(())
 }
 
-/// Steps of the round of four processors: the moves up from the last stage, and those down from the first.
+/// Steps of the round of four processors: moves up from the last stage on, and moves down from the first stage on.
 static TWO_STAGES: [(usize, Step); 5] = [
     (4, Step::Up { stage: 1, wire: 0 }),
     (11, Step::Up { stage: 0, wire: 3 }),
@@ -84,7 +84,7 @@ fn round_of_two_stages(rt: HostRuntime) -> Result<(), Fail> {
     expect_steps(&rt, 2, 24, &TWO_STAGES)
 }
 
-/// The ends of a round of the largest machine.
+/// The first and the last step of a round of the largest machine.
 static SIX_STAGES: [(usize, Step); 2] = [
     (0, Step::Turn(0)),
     (895, Step::Down { stage: 5, wire: 63 }),
@@ -95,7 +95,8 @@ fn round_of_six_stages(rt: HostRuntime) -> Result<(), Fail> {
     expect_steps(&rt, 6, 896, &SIX_STAGES)
 }
 
-/// Rounds are counted by the order in which the sweep asks: its round is one, and taken from its end each step is one.
+/// Rounds are counted by the order of the sweep. All its steps in that order are one round. In reverse order, each step
+/// is a round of its own.
 #[test]
 fn counts_rounds_by_the_order_of_the_sweep(rt: HostRuntime) -> Result<(), Fail> {
     for k in 0..7 {
