@@ -60,7 +60,7 @@ fn replays_a_trace(rt: HostRuntime) -> Result<(), Fail> {
     Ok(())
 }
 
-/// The trace with a step put in at this place that names nothing of the machine.
+/// The trace with one more step at this place, which names nothing of the machine.
 fn with_a_stall(alloc: Global, place: usize) -> Result<Vec<Step>, AllocError> {
     let (before, behind) = COMBINED.split_at(place.min(COMBINED.len()));
     let mut steps = Vec::from_slice(alloc, before)?;

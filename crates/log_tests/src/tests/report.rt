@@ -20,7 +20,7 @@ fn call(out: Option<u8>) -> Outcome {
     })
 }
 
-/// Tallies steps of two processors, and a step of a processor that there is not.
+/// Tallies steps of two processors, and a step of a third processor, which does not exist.
 fn note_all(tally: &mut Tally) -> Result<(), AllocError>
     requires { tally.old.observed ≡ 0 }
 {

@@ -61,8 +61,8 @@ static DRAINED: [Step; 14] = [
     Step::Turn(0),
 ];
 
-/// Processor 1 stops by a fault in the round in which processor 0 issues its reference. A drain then completes that:
-/// the request goes up to module 0, is served, the reply comes down, and the processor takes it.
+/// Processor 1 stops by a fault in the round in which processor 0 issues its reference. A drain then completes it:
+/// the request goes up to module 0 and is served, the reply comes down, and the processor takes it.
 #[test]
 fn drains_behind_a_fault(rt: HostRuntime) -> Result<(), Fail> {
     lend(log_of(rt.alloc(), FAULTS, tight_size(1))?, |log| {

@@ -131,7 +131,7 @@ static CASES: [Case; 13] = [
         order: "turn 0, turn 2, turn 1, turn 3",
         ..ADDS
     },
-    // If no record is free, a request goes by itself. With one more record, as in the case after this, it is combined.
+    // If no record is free, a request goes by itself. With one more record, as in the next case, it is combined.
     Case {
         name: "no record is free",
         machine: "machine 2 4 1 1024",

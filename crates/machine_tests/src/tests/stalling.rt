@@ -10,7 +10,7 @@ fn steps_stall(rt: HostRuntime) -> Result<(), Fail> {
     check(rt.alloc(), &CASES)
 }
 
-/// Numbers that name no place of a machine of four processors and two stages.
+/// Steps that name no place of a machine of four processors and two stages.
 const NO_PLACES: &str = "
     turn 4, turn 64, turn 255, serve 4, serve 64, serve 255: stalled
     up 2 0, up 6 0, up 255 0, up 0 4, up 1 4, up 0 255: stalled

@@ -147,7 +147,7 @@ impl Both {
         self.pool.port_take(p) == taken && shown == taken
     }
 
-    /// Takes some steps, and returns whether both networks gave the same results.
+    /// Takes a few steps, and returns whether both networks gave the same results.
     fn step(&mut self, injects: bool) -> bool {
         (!injects || self.inject()) && self.asked() && self.take()
     }

@@ -156,7 +156,7 @@ impl Pair {
         Some(shown == reply && reply == self.plain.port_take(usize::from(p)))
     }
 
-    /// Whether both did the same.
+    /// Takes a few random steps, and returns whether both networks gave the same results.
     fn step(&mut self, injects: bool) -> Option<bool> {
         let injected = !injects || self.inject()?;
         Some(injected && self.moved()? && self.serve()? && self.take()?)

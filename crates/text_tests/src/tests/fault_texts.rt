@@ -18,7 +18,7 @@ macro_rules! text {
     };
 }
 
-/// Each fault that can be reported. (If a text, an image or a trace is out of memory, so is the command: `Memory`.)
+/// Each fault that can be reported. A text, an image or a trace for which there is no memory is a `Fault::Memory` too.
 const REPORTS: [(Fault, &str, u8); 34] = [
     (Fault::Line(1), "V1 line 1", 2),
     (Fault::Line(16_385), "V1 line 16385", 2),

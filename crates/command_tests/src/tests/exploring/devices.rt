@@ -1,5 +1,5 @@
 //! Lines of sizes that cannot be printed or reported, and tests that run with each of their allocations refused in
-//! turn. The checks of the program let each read and write of the command fail in turn.
+//! turn. The checks of the program make each read and write of the command fail in turn.
 
 ghost use Rattle.std.specs.Prelude.{◌≡◌, false};
 

@@ -13,7 +13,7 @@ fn narrow(k: u8) -> Config {
     }
 }
 
-/// Counts for ever, so that no state of the processor comes again.
+/// Counts for ever, so that its states never repeat.
 const COUNT: &str = "loop: addi x3, x3, 1\njal x0, loop";
 
 /// Adds 1 to the first word, and stops. Two processors have four states: neither, one, the other or both have added.

@@ -7,7 +7,7 @@ use std::fmt::Write;
 use std::test::Fail;
 use test_support::{assert_same, image_of};
 
-/// Each processor adds 1 to the first word. If there are n, a state is how many have added, 0 to n, or which of them.
+/// Each processor adds 1 to the first word. A state is which processors have added or, up to exchanges, how many.
 const SUM: &str = "
  lui x1, 0x80000
  addi x4, x0, 1
@@ -67,7 +67,7 @@ k 5: 32 processors, 1 result, 33 states, every schedule ends, fault 8
 k 6: 64 processors, 1 result, 65 states, every schedule ends, fault 8
 ";
 
-/// Too many states decide the exit status, although a size before them has a fault.
+/// Too many states decide the exit status, even if a smaller size has a fault.
 const DRAWS_UP_TO_10: &str = "\
 k 0: 1 processor, 1 result, 2 states, every schedule ends, halt 00
 k 1: 2 processors, 1 result, 3 states, every schedule ends, halt 01
@@ -129,7 +129,7 @@ k 5: 32 processors, 1 result, 65 states, some schedule never ends; an end can al
 k 6: 64 processors, 1 result, 129 states, some schedule never ends; an end can always be reached, halt ff
 ";
 
-/// Counts for ever, so that no state of the processor comes again.
+/// Counts for ever, so that its states never repeat.
 const COUNT: &str = "loop: addi x3, x3, 1\njal x0, loop";
 
 const COUNTS: &str = "\
@@ -142,7 +142,8 @@ k 5: 32 processors, not explored: alone
 k 6: 64 processors, not explored: alone
 ";
 
-/// Each processor adds 1 to the first word, and spins. After one spins, it does not matter what the others do.
+/// Each processor adds 1 to the first word, and spins. After one spins, no end can be reached, whatever the
+/// others do.
 const DONE: &str = "lui x1, 0x80000\naddi x4, x0, 1\namoadd.w x5, x4, (x1)\ndone: jal x0, done";
 
 const NEVER_DONE: &str = "\

@@ -77,7 +77,7 @@ fn see(rt: &impl Abort, ran: &Ran, (out, reported, status): (&[u8], &str, u8), a
     assert_same!(rt; ran.status, status, at);
 }
 
-/// What is expected if a file cannot be read, for which this is reported, and otherwise.
+/// What is expected: this fault and no report if a file cannot be read, and otherwise the report.
 fn report_unless(fails: bool, reported: &str) -> (&[u8], &str, u8) {
     if fails {
         (&[], reported, 3)

@@ -31,7 +31,7 @@ fn budget_that_is_just_enough(rt: HostRuntime) -> Result<(), Fail> {
     Ok(())
 }
 
-/// A jump to itself uses up each budget.
+/// A jump to itself uses up any budget.
 #[test]
 fn run_without_end(rt: HostRuntime) -> Result<(), Fail> {
     for budget in [1, 1000] {
@@ -156,7 +156,7 @@ fn refuses_an_image(rt: HostRuntime) -> Result<(), Fail> {
     Ok(())
 }
 
-/// A size out of its limits is reported before the run. A refused image is reported instead, if both are wrong.
+/// A size out of its limits is refused before the run, but an error of the image is reported first.
 #[test]
 fn refuses_a_size(rt: HostRuntime) {
     let alloc = rt.alloc();

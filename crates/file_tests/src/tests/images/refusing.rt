@@ -210,7 +210,7 @@ fn first_faults(alloc: Global, parts: &[Part]) -> Result<[Option<ImageError>; 3]
     Ok([entry, version, first_byte])
 }
 
-/// If there are several errors, one of the header is reported before one of a segment, and that before the entry's.
+/// Errors of the headers take precedence over those of segments, and these over an error of the entry.
 #[test]
 fn first_fault_first(rt: HostRuntime) {
     for (parts, expected) in &FIRST_FAULTS {

@@ -115,8 +115,8 @@ fn entries(rt: HostRuntime) {
     }
 }
 
-/// Bytes with several errors, and the first of them, which is reported. A header or record that is cut short is
-/// truncated, whatever its bytes.
+/// Bytes with several errors, and the first of them, which is reported. A header or record that is cut short
+/// gives `Truncated`, whatever its bytes.
 static SEVERAL_FAULTS: [(&[u8], TraceError); 5] = [
     (&[0xFF; 11], Truncated),
     (&[0xFF; 12], Header),

@@ -76,8 +76,8 @@ fn one_wants_an_idle_machine(rt: HostRuntime) -> Result<(), Fail> {
     })
 }
 
-/// Checks that after the first steps of the adds that combine, `taken` of them, a drain takes and enters `moves` steps,
-/// and then none.
+/// Checks a drain after the first `taken` steps of the adds that combine. It takes and enters `moves` steps, and a
+/// second drain takes none.
 fn expect_drain(
     rt: &(impl Abort + AllocGlobal),
     taken: usize,

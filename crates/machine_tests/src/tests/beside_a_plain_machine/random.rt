@@ -116,7 +116,7 @@ fn opened(alloc: Global, config: Config) -> Result<Watched, Fail> {
     Ok(Watched::new(alloc, program.machine(alloc, config)?))
 }
 
-/// Puts each processor at another place of the program, with operands of its own.
+/// Puts each processor at a random place of the program, with random operands.
 fn place_processors(
     rt: &(impl Abort + AllocGlobal),
     watched: &mut Watched,
