@@ -19,7 +19,7 @@ use std::process::Abort;
 use std::test::Fail;
 use test_support::{machine_of, tight_size};
 
-/// Ends the test where the two differ, and says them and the case that they are of ([`assert_same!`]).
+/// Fails the test if the two differ, and prints both and their case ([`assert_same!`]).
 fn same<T: PartialEq + Debug, A: Debug>(rt: &impl Abort, found: &T, wanted: &T, at: &A) {
     assert_eq!(rt; found, wanted, "{at:?}");
 }
@@ -33,7 +33,7 @@ const fn each(limit: u32) -> Search {
     }
 }
 
-/// A search up to exchanges of processors that stand alike.
+/// A search up to exchanges of processors that are alike.
 const fn exchanged(limit: u32) -> Search {
     Search {
         limit,
@@ -42,7 +42,7 @@ const fn exchanged(limit: u32) -> Search {
     }
 }
 
-/// What a search comes to, of a text on 2^k processors.
+/// The outcome of a search of a text on 2^k processors.
 fn explored(
     alloc: Global,
     text: &str,
@@ -57,7 +57,7 @@ fn explored(
     Ok(explore(alloc, &machine, search, &mut NoProgress))
 }
 
-/// What a search finds, of a text on 2^k processors.
+/// What a search of a text on 2^k processors finds. A refusal fails the test.
 fn found(alloc: Global, text: &str, k: u8, search: Search) -> Result<Explored, Fail> {
     match explored(alloc, text, k, search)? {
         Ok(found) => Ok(found),
@@ -65,7 +65,7 @@ fn found(alloc: Global, text: &str, k: u8, search: Search) -> Result<Explored, F
     }
 }
 
-/// A line for each processor of a result: where it stands, how it stopped and what it printed.
+/// A line for each processor of a result: its `pc`, its status and its console.
 fn reported(alloc: Global, last: &FinalResult) -> Result<String, Fail> {
     let mut text = String::new(alloc);
     for processor in last.processors.iter() {

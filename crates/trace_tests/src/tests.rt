@@ -1,4 +1,4 @@
-//! The commands that say what is in a trace, from its bytes and those of an image to the bytes of the lines.
+//! The commands that show what is in a trace, from its bytes and those of an image to the bytes of the lines.
 
 ghost use Rattle.std.specs.Prelude.{◌≡◌, false};
 
@@ -21,7 +21,7 @@ use std::process::Abort;
 use trace_commands::{Order, Stats, Story, order_command, trace_command};
 use trace_lines::Choice;
 
-/// Ends the test where the two differ, and says them and the case that they are of ([`assert_same!`]).
+/// Fails the test if the two differ, and prints both and their case ([`assert_same!`]).
 fn same<T: PartialEq + Debug, A: Debug>(rt: &impl Abort, found: &T, wanted: &T, at: &A) {
     assert_eq!(rt; found, wanted, "{at:?}");
 }
@@ -32,7 +32,7 @@ const ALL: Choice = Choice {
     word: None,
 };
 
-/// What is to be reported of a trace.
+/// A report on a trace.
 #[derive(Clone, Copy, Debug)]
 enum Asked {
     /// The chosen lines of its serial order.
@@ -41,10 +41,10 @@ enum Asked {
     Stats,
 }
 
-/// All that the commands say.
+/// Each kind of report, with all entries of the serial order.
 const WHOLE: [Asked; 3] = [Asked::Order(ALL), Asked::Story, Asked::Stats];
 
-/// Carries the command out.
+/// Carries out the command for a report.
 fn ask<T: Read + Drop, R: Read + Drop, W: LinkWrite, E: Write>(
     alloc: Global,
     asked: Asked,
@@ -66,7 +66,7 @@ fn ask<T: Read + Drop, R: Read + Drop, W: LinkWrite, E: Write>(
     }
 }
 
-/// What the command comes to.
+/// The exit status of a command, and what it wrote.
 #[derive(Drop)]
 struct Ran {
     status: u8,
@@ -74,7 +74,7 @@ struct Ran {
     err: Vec<u8>,
 }
 
-/// What is said of a trace on an image.
+/// Runs the command for a report on this trace and image.
 fn run(
     alloc: Global,
     asked: Asked,

@@ -1,4 +1,4 @@
-//! What is found with exchange stands for what is found without, and no two results stand for the same.
+//! The results up to exchanges stand for all results, and no two of them for the same one.
 
 use super::texts::{
     ASKS_LATE, BREAK_BEHIND, DEADLOCK, DRAWS, HALVES, KEPT, LEADER, LOST_SUM, NEEDED_SUM,
@@ -11,11 +11,12 @@ use std::process::Abort;
 use std::test::Fail;
 use test_support::assert_same;
 
-/// Programs with the number of their results, up to exchanges and by themselves. Who draws which of n numbers are n!
-/// results, if no draw is like another; if two are of one class and two of another, C(4, 2) up to exchanges. Where each
-/// draws twice there are as many as ways to go, (2n)! / 2^n, and n! of them are one up to exchanges. The second draws
-/// are those of a row in which no more second draws come than first ones, up to any place: these rows are as many as
-/// the n-th Catalan number, and each of the n! ways to give them out is a result.
+/// Programs, each with its `k` and the numbers of its results, up to exchanges and one by one. If each of n processors
+/// draws a number, there are n! results, and one up to exchanges; with two classes of two processors, C(4, 2). If each
+/// draws two numbers, there is a result for each order of the draws, (2n)! / 2^n, and n! of them are one up to
+/// exchanges. If each shows only its second number, these are the places of second draws in a row of 2n draws that
+/// nowhere has had more second draws than first ones. There are as many such rows as the n-th Catalan number, and n!
+/// ways to give the numbers to processors.
 const COUNTED: [(&str, u8, usize, usize); 23] = [
     (LOST_SUM, 1, 2, 2),
     (LOST_SUM, 2, 4, 4),
@@ -60,8 +61,7 @@ fn count(last: &FinalResult, classes: &[u8], class: u8, shown: &ProcessorResult)
     count
 }
 
-/// Whether one result stands for the other: in both each class shows the same, in whatever order, and the words are the
-/// same.
+/// Whether one result stands for the other: in both the words are the same, and each class shows the same in any order.
 fn stands_for(one: &FinalResult, other: &FinalResult, classes: &[u8]) -> bool {
     if one.words.as_slice() != other.words.as_slice() {
         return false;
@@ -85,7 +85,7 @@ fn standing_for(results: &[FinalResult], last: &FinalResult, classes: &[u8]) -> 
     count
 }
 
-/// What is said of schedules, without the number of states.
+/// The verdict on schedules, without the number of states.
 fn kind(schedules: Termination) -> u8 {
     match schedules {
         Termination::Always => 0,
@@ -94,7 +94,7 @@ fn kind(schedules: Termination) -> u8 {
     }
 }
 
-/// Sees that each result stands for itself alone.
+/// Checks that each result stands for itself alone.
 fn see_once(rt: &impl Abort, found: &Explored, text: &str) {
     for last in found.results.iter() {
         let count = standing_for(found.results.as_slice(), last, found.classes.as_slice());
@@ -102,7 +102,8 @@ fn see_once(rt: &impl Abort, found: &Explored, text: &str) {
     }
 }
 
-/// Sees that each of all results is stood for by one of some, and each of some stands for one at least.
+/// Checks that for each of all results exactly one of some stands, that each of some stands for at least one, and that
+/// the verdicts on schedules agree.
 fn see_agreement(rt: &impl Abort, some: &Explored, all: &Explored, text: &str) {
     let classes = some.classes.as_slice();
     for last in all.results.iter() {

@@ -1,4 +1,4 @@
-//! How many results and states there are.
+//! Numbers of results and of states.
 
 use super::texts::{
     ASKS_LATE, CALL, COUNTER, COUNTS_ON, DEADLOCK, LONG_STRETCH, LOST_SUM, NEIGHBOURS, PRINTED,
@@ -16,7 +16,7 @@ fn results(alloc: Global, text: &str, k: u8, search: Search) -> Result<usize, Fa
     Ok(found.results.len())
 }
 
-/// How many states are found of a text, or why they are not.
+/// The number of states of a text, or why the search is refused.
 fn states(
     alloc: Global,
     text: &str,
@@ -29,8 +29,8 @@ fn states(
     })
 }
 
-/// Of the two that add without care 1 or 2 are left; of two that look at each other at least one sees the other. Who
-/// adds as the i-th can see each sum from i on, so what n see are the (n + 1)^(n - 1) parking functions.
+/// Two processors that add by a load and a store leave 1 or 2. Of two that look at each other at least one sees the
+/// other. The i-th of n to add can see each sum from i to n: these are the (n + 1)^(n - 1) parking functions.
 #[test]
 fn results_are_counted(rt: HostRuntime) -> Result<(), Fail> {
     for (text, k, count) in [
@@ -52,7 +52,7 @@ fn results_are_counted(rt: HostRuntime) -> Result<(), Fail> {
     Ok(())
 }
 
-/// Up to exchanges, those of what n see are as many as the n-th Catalan number.
+/// Up to exchanges there are as many parking functions as the n-th Catalan number.
 #[test]
 fn results_are_counted_up_to_exchanges(rt: HostRuntime) -> Result<(), Fail> {
     for (text, k, count) in [
@@ -72,7 +72,7 @@ fn results_are_counted_up_to_exchanges(rt: HostRuntime) -> Result<(), Fail> {
     Ok(())
 }
 
-/// A result says where each processor stands, why it stopped and what it printed, and what is in the words.
+/// A result has the `pc`, the status and the console of each processor, and the words.
 #[test]
 fn results_are_told(rt: HostRuntime) -> Result<(), Fail> {
     for (text, k, lines, words) in [
@@ -99,8 +99,8 @@ fn results_are_told(rt: HostRuntime) -> Result<(), Fail> {
     Ok(())
 }
 
-/// As many states as the limit are too many, in the search that is made once more too; and so are a million
-/// instructions before a reference, of which the loop here has 999,999.
+/// A search that finds as many states as its limit is refused, also if it began again without exchanges (`ASKS_LATE`).
+/// So is one in which a processor takes a million instructions before a reference; `LONG_STRETCH` has 999,999.
 #[test]
 fn limits(rt: HostRuntime) -> Result<(), Fail> {
     for (text, k, search, count) in [
@@ -122,9 +122,10 @@ fn limits(rt: HostRuntime) -> Result<(), Fail> {
     Ok(())
 }
 
-/// What a register holds that is written before it is read distinguishes no states. Three adds are four states of each
-/// processor, 4^n of all; the others were counted by a search of another program. Before a jump to an address in a
-/// register all are kept, and so two that add in a call stand at the add, or have stopped: four states.
+/// A register that is written before it is read does not distinguish states: with three adds a processor has four
+/// states, and n processors have 4^n. The states of `LOST_SUM` and `TICKETS` were counted by another program. In `CALL`
+/// all registers are live before the jump to an address in a register, but each of two processors is at the add or has
+/// stopped: four states.
 #[test]
 fn states_are_counted(rt: HostRuntime) -> Result<(), Fail> {
     for (text, k, count) in [
@@ -141,8 +142,8 @@ fn states_are_counted(rt: HostRuntime) -> Result<(), Fail> {
     Ok(())
 }
 
-/// Of n that are in one of four states each it matters only how many are in which: C(n + 3, 3). If one asks for its
-/// number there are as many as where each result is listed.
+/// Of n processors with four states each, it matters only how many are in which state: C(n + 3, 3). If one asks for its
+/// number, there are as many states as without exchanges.
 #[test]
 fn states_are_counted_up_to_exchanges(rt: HostRuntime) -> Result<(), Fail> {
     for (text, k, count) in [

@@ -10,20 +10,21 @@ use std::alloc::Global;
 use std::test::Fail;
 use test_support::assert_same;
 
-/// What is said of the schedules of a text.
+/// The verdict on the schedules of a text.
 fn schedules(alloc: Global, text: &str, k: u8, search: Search) -> Result<Termination, Fail> {
     let found = found(alloc, text, k, search)?;
     Ok(found.termination)
 }
 
-/// No end can be reached from this many states, of which this is the first.
+/// No end can be reached from this many states, the first of which has this number.
 fn stuck(states: usize, first: u32) -> Termination {
     Termination::Deadlock { states, first }
 }
 
-/// Straight programs end on every schedule. One that waits for another may go on for ever, but can always end where the
-/// other may still come; two that wait for each other, or one for nobody, cannot. Two that lose an addition wait for
-/// ever, from when both have loaded: one has stored then or the other, or both.
+/// Programs without loops end by every schedule. A processor that waits for another may wait for ever, but can always
+/// end while the other can still come. Two that wait for each other cannot end, nor one that waits for a word that
+/// nobody writes. In `NEEDED_SUM` both wait for ever if an addition is lost, from when both have loaded: then neither
+/// has stored, or one, or the other, or both.
 #[test]
 fn schedules_are_told(rt: HostRuntime) -> Result<(), Fail> {
     for (text, k, reported) in [
@@ -44,7 +45,7 @@ fn schedules_are_told(rt: HostRuntime) -> Result<(), Fail> {
     Ok(())
 }
 
-/// The same up to exchanges. Which of two has stored that have lost an addition is no matter then.
+/// The same up to exchanges. In `NEEDED_SUM` it does not matter then which of the two has stored.
 #[test]
 fn schedules_are_told_up_to_exchanges(rt: HostRuntime) -> Result<(), Fail> {
     for (text, k, reported) in [

@@ -11,7 +11,7 @@ use std::process::Abort;
 use std::test::Fail;
 use test_support::assert_same;
 
-/// Sees that the processors have these classes, and that this many states are found.
+/// Checks the classes of the processors and the number of states.
 fn see(
     rt: &impl Abort,
     alloc: Global,
@@ -25,8 +25,8 @@ fn see(
     Ok(())
 }
 
-/// Processors that stand alike before their first reference are of one class. A number distinguishes the m that one of
-/// them may still read, in a register or in local memory.
+/// Processors that are alike before their first reference are of one class. Their numbers distinguish them if they may
+/// still read them, from a register or from local memory.
 #[test]
 fn alike_processors_are_exchanged(rt: HostRuntime) -> Result<(), Fail> {
     for (text, k, classes, states) in [
@@ -46,7 +46,7 @@ fn alike_processors_are_exchanged(rt: HostRuntime) -> Result<(), Fail> {
     Ok(())
 }
 
-/// If they are not to be exchanged, or one asks for its number after a reference, each has a class of its own.
+/// If processors are not exchanged, or one asks for its number after a reference, each has a class of its own.
 #[test]
 fn others_have_classes_of_their_own(rt: HostRuntime) -> Result<(), Fail> {
     for (text, k, search, classes, states) in [
@@ -63,8 +63,8 @@ fn others_have_classes_of_their_own(rt: HostRuntime) -> Result<(), Fail> {
     Ok(())
 }
 
-/// On 64 processors the last two may lose an addition, and can be exchanged, as the others can. Those are one state of
-/// theirs.
+/// The last two of 64 processors may lose an addition, and are one class. The others stop at once, and are another: so
+/// there are as many states as of `LOST_SUM` on two processors.
 #[test]
 fn last_two_are_exchanged(rt: HostRuntime) -> Result<(), Fail> {
     let mut classes = [0; 64];

@@ -1,5 +1,5 @@
-//! `ultra hunt`, from the bytes of an image to the bytes of the lines. Images are those of texts that are assembled;
-//! the results are worked out by hand.
+//! `ultra hunt`, from the bytes of an image to the bytes of the lines. The images are assembled from texts, and the
+//! results are worked out by hand.
 
 ghost use Rattle.std.specs.Prelude.{⊤};
 
@@ -14,20 +14,20 @@ use std::process::Abort;
 use std::test::Fail;
 use test_support::{Sink, assert_same, image_of, size};
 
-/// Traces that are kept, in the order in which they come.
+/// Keeps the traces in memory, in the order in which they are closed.
 #[derive(Drop)]
 struct Kept {
     alloc: Global,
-    /// The number under which there is one already, if any.
+    /// The number of a trace that is there already, if any.
     there: Option<u32>,
-    /// Which call on the writer of which number fails, if any.
+    /// The number of the trace whose writer fails, and the call that fails, if any.
     fails: Option<(u32, usize)>,
-    /// What the writer that was handed out last is for.
+    /// The number of the trace that was opened last.
     number: u32,
     traces: Vec<(u32, Vec<u8>)>,
 }
 
-/// Traces of which none is there, and no write fails.
+/// No trace is there yet, and no write fails.
 fn keeping(alloc: Global) -> Kept {
     Kept {
         alloc,
@@ -69,7 +69,7 @@ impl Traces for Kept {
     }
 }
 
-/// What is said of how far a hunt is: the last numbers of runs and of results, and how often it was over.
+/// The progress that a hunt reported: the last numbers of runs and of results, and how often it was over.
 #[derive(Drop)]
 struct Heard {
     runs: u32,
@@ -88,7 +88,7 @@ impl HuntObserver for Heard {
     }
 }
 
-/// What the command comes to.
+/// The exit status of the command, what it wrote, the traces that it left, and its progress.
 #[derive(Drop)]
 struct Ran {
     status: u8,
@@ -98,7 +98,7 @@ struct Ran {
     heard: Heard,
 }
 
-/// Hunts on the image of a text, for 1,000 steps a run, and keeps the traces.
+/// Hunts on this image, with a budget of 1,000 a run, and keeps the traces.
 fn hunted(image: &[u8], config: Config, start: u32, runs: u32, kept: Kept) -> Ran {
     let alloc = kept.alloc;
     let hunt = Hunt {
@@ -136,14 +136,13 @@ fn hunted(image: &[u8], config: Config, start: u32, runs: u32, kept: Kept) -> Ra
     }
 }
 
-/// The one turn in which the processor of `ecall` halts.
+/// The trace of `ecall` on one processor: it halts in its only turn.
 const HALTS: [u8; 24] = [
     0x55, 0x4C, 0x54, 0x52, 1, 0, 4, 4, 1, 0, 0, 0, // the header
     1, 0, 0, 0, 0, 0, 0, 0, 0, 0, 0, 0, // the record
 ];
 
-/// Where all runs come to one result. The numbers go on from the greatest to 0. The first run's trace is written, and
-/// no other.
+/// All runs come to one result. After the greatest number of a run comes 0. Only the trace of the first run is written.
 #[test]
 fn one_result(rt: HostRuntime) -> Result<(), Fail> {
     let alloc = rt.alloc();
@@ -182,10 +181,10 @@ fn one_result(rt: HostRuntime) -> Result<(), Fail> {
     Ok(())
 }
 
-/// Both of two processors add 1 to word 0 by a load and a store, and one of the adds may be lost.
+/// Both of two processors add 1 to word 0 by a load and a store, so that one of the adds may be lost.
 const ADDS: &str = "lui x5, 0x80000\nlw x6, 0(x5)\naddi x6, x6, 1\nsw x6, 0(x5)\necall";
 
-/// Each result is printed, its trace is written under the number of its first run, and how far the hunt is is reported.
+/// Each result is printed, its trace is written under the number of its first run, and the progress is reported.
 #[test]
 fn lost_add(rt: HostRuntime) -> Result<(), Fail> {
     let alloc = rt.alloc();
@@ -219,8 +218,8 @@ fn two_of(traces: &Vec<(u32, Vec<u8>)>) -> Result<(&(u32, Vec<u8>), &(u32, Vec<u
     Ok((first, second))
 }
 
-/// Where the write of the second trace fails, the first is whole, the second has a beginning, and nothing is printed;
-/// nothing is written where one of them is there.
+/// If a write of the second trace fails, the first is whole, the second is written up to the failure, and nothing is
+/// printed. If one of the traces is there already, nothing is written.
 fn cut_traces(rt: &(impl Abort + AllocGlobal), image: &[u8], ran: &Ran) -> Result<(), Fail> {
     let (first, second) = two_of(&ran.traces)?;
     let mut fails = keeping(rt.alloc());

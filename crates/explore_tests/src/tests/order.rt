@@ -1,4 +1,4 @@
-//! In which order a result has its processors.
+//! The order of the processors in a result.
 
 use super::texts::{
     BREAK_BEFORE, BREAK_BEHIND, DRAWS, DRAWS_BACK, NO_ADDRESS, PRINTS, PRINTS_AND_HALTS,
@@ -9,7 +9,7 @@ use std::alloc::Global;
 use std::test::Fail;
 use test_support::assert_same;
 
-/// The one result of a text on 2^k processors that are exchanged, as lines.
+/// The only result up to exchanges of a text on 2^k processors, as lines.
 fn only_result(alloc: Global, text: &str, k: u8) -> Result<String, Fail> {
     let found = found(alloc, text, k, exchanged(1000))?;
     match found.results.as_slice() {
@@ -18,8 +18,8 @@ fn only_result(alloc: Global, text: &str, k: u8) -> Result<String, Fail> {
     }
 }
 
-/// They come by their `pc`; where that is the same by the halt's byte, and then by the fault's number; and where all
-/// this is the same by what they printed.
+/// Processors are sorted by `pc`, then by status (halts by their byte, and after them faults by their number), then by
+/// console.
 #[test]
 fn processors_are_in_order(rt: HostRuntime) -> Result<(), Fail> {
     for (text, k, lines) in [
@@ -72,8 +72,8 @@ fn processors_are_in_order(rt: HostRuntime) -> Result<(), Fail> {
     Ok(())
 }
 
-/// Processors of other classes keep their places: here 0 and 2 are of one, and 1 and 3. Two of the four numbers are for
-/// either, the smaller one first.
+/// Each class keeps its places: here 0 and 2 are of one class, and 1 and 3 of the other. Each class has two of the four
+/// numbers, the smaller one first.
 #[test]
 fn processors_are_in_order_in_their_classes(rt: HostRuntime) -> Result<(), Fail> {
     let found = found(rt.alloc(), SIDES, 2, exchanged(1000))?;
@@ -101,7 +101,7 @@ fn processors_are_in_order_in_their_classes(rt: HostRuntime) -> Result<(), Fail>
     Ok(())
 }
 
-/// Processors that are not exchanged stand by their numbers: either can draw first.
+/// Processors that are not exchanged are in the order of their numbers: either can draw first.
 #[test]
 fn processors_are_by_their_numbers(rt: HostRuntime) -> Result<(), Fail> {
     let found = found(rt.alloc(), DRAWS, 1, each(1000))?;

@@ -1,4 +1,4 @@
-//! Schedules and runs by hand. The states of the generator were computed apart.
+//! Random schedules and runs, worked out by hand. The states of the generator were computed by another program.
 
 ghost use Rattle.std.specs.Prelude.{◌≤◌};
 
@@ -9,7 +9,7 @@ use std::test::Fail;
 use steps::Step;
 use test_support::{assert_same, log_of, tight_size};
 
-/// The schedule has these turns, each with whether the network moves after it, and no more.
+/// Checks that the schedule has exactly these turns, each with whether the network moves after it.
 fn compare(rt: &impl Abort, k: u8, number: u32, turns: &[(u8, bool)])
     requires { k ≤ 6 }
 {
@@ -31,8 +31,8 @@ fn compare(rt: &impl Abort, k: u8, number: u32, turns: &[(u8, bool)])
     assert_same!(rt; schedule.next(), None);
 }
 
-/// Run 6 chooses a processor in each turn, run 1 where the upper half of the state is even, and run 8 where 4 divides
-/// it.
+/// Run 6 chooses a processor in each turn, run 1 if the upper half of the generator's state is even, and run 8 if 4
+/// divides it.
 #[test]
 fn schedules(rt: HostRuntime) {
     compare(
@@ -73,8 +73,8 @@ fn schedules(rt: HostRuntime) {
     );
 }
 
-/// In run 1 the network moves after each of the first three turns. A budget of two steps ends while the request is on
-/// its way.
+/// In run 1 the network moves after each of the first three turns. If the budget is two turns, the run ends while the
+/// reference is open, and a drain brings it home.
 #[test]
 fn runs_of_one_processor(rt: HostRuntime) -> Result<(), Fail> {
     let text = "lui x5, 0x80000\nlw x6, 0(x5)\necall";
@@ -88,7 +88,7 @@ fn runs_of_one_processor(rt: HostRuntime) -> Result<(), Fail> {
     Ok(())
 }
 
-/// In run 1 processor 1 has the first turns, and halts in the first. Turns that stall count for the budget too.
+/// In run 1 processor 1 has the first turns, and halts in the first. Turns that stall count towards the budget too.
 #[test]
 fn turns_are_bounded(rt: HostRuntime) -> Result<(), Fail> {
     let mut log = log_of(rt.alloc(), "ecall", tight_size(1))?;

@@ -11,8 +11,7 @@ use std::process::Abort;
 use std::test::Fail;
 use test_support::assert_same;
 
-/// Sees how many results and states are found, and that from this many of them, the first of which has this place, no
-/// end can be reached.
+/// Checks the numbers of results, of states, and of states that are stuck, and the number of the first of these.
 fn see(
     rt: &impl Abort,
     alloc: Global,
@@ -30,9 +29,9 @@ fn see(
     Ok(())
 }
 
-/// A processor that comes back to where it was never ends. A state in which one spins is not gone on from. Two that add
-/// by a load and a store, and spin unless they have loaded 0, both stop only if both load first: of 13 states 6 are
-/// those in which one has stored before the other has loaded. Processor 1 can look between the writes of processor 0.
+/// A processor that returns to a state of its own without a reference never ends, and the search does not go on from a
+/// state in which one spins. In `SPINS_IF_NOT_FIRST` both processors stop only if both load before either stores: in 6
+/// of 13 states one stored before the other loaded. In `GLIMPSE` processor 1 can look between the two writes.
 #[test]
 fn spinning_never_ends(rt: HostRuntime) -> Result<(), Fail> {
     for (text, k, reported) in [
@@ -55,7 +54,8 @@ fn spinning_never_ends(rt: HostRuntime) -> Result<(), Fail> {
     Ok(())
 }
 
-/// The same up to exchanges. One that asks for its number as it spins after a reference is exchanged with no other.
+/// The same up to exchanges. A processor that asks for its number after a reference is exchanged with no other, even if
+/// it spins then.
 #[test]
 fn spinning_never_ends_up_to_exchanges(rt: HostRuntime) -> Result<(), Fail> {
     for (text, k, reported) in [
@@ -72,7 +72,7 @@ fn spinning_never_ends_up_to_exchanges(rt: HostRuntime) -> Result<(), Fail> {
     Ok(())
 }
 
-/// A long loop that ends is none that spins.
+/// A long loop that ends does not count as spinning.
 #[test]
 fn loops_end(rt: HostRuntime) -> Result<(), Fail> {
     for (k, search, states) in [(0, each(100), 2), (1, each(100), 4), (1, exchanged(100), 3)] {
@@ -84,7 +84,7 @@ fn loops_end(rt: HostRuntime) -> Result<(), Fail> {
     Ok(())
 }
 
-/// One that counts in its local memory, or prints, never stands as it did.
+/// A processor that counts in local memory, or prints, never returns to a state of its own.
 #[test]
 fn others_go_on_too_long(rt: HostRuntime) -> Result<(), Fail> {
     for text in [COUNTS_ON_LOCALLY, PRINTS_ON] {
@@ -97,7 +97,7 @@ fn others_go_on_too_long(rt: HostRuntime) -> Result<(), Fail> {
     Ok(())
 }
 
-/// Processor 0 writes the 1, and then processor 1 looks, and spins.
+/// In `GLIMPSE` processor 0 writes the 1, and then processor 1 looks, and spins.
 #[test]
 fn ways_lead_to_where_one_spins(rt: HostRuntime) -> Result<(), Fail> {
     for (text, search, way) in [

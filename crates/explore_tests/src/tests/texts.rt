@@ -2,7 +2,7 @@
 
 // ---- one word
 
-/// Each adds 1 to the first word, once, by a fetch and add.
+/// Each adds 1 to the first word by a fetch-and-add.
 pub const SUM: &str = "lui x1, 0x80000\naddi x4, x0, 1\namoadd.w x0, x4, (x1)\necall";
 
 /// The same by a load and a store: an addition may be lost.
@@ -13,7 +13,7 @@ pub const NEEDED_SUM: &str =
     "lui x1, 0x80000\naddi x5, x0, 2\nlw x2, 0(x1)\naddi x2, x2, 1\nsw x2, 0(x1)\nwait: lw x2, 0(x1)\n\
     bne x2, x5, wait\necall";
 
-/// Each adds 1 to the first word, three times, and never reads what it gets.
+/// Each adds 1 to the first word three times, and never reads what it finds.
 pub const COUNTER: &str =
     "lui x1, 0x80000\naddi x4, x0, 1\namoadd.w x5, x4, (x1)\namoadd.w x31, x4, (x1)\namoadd.w x5, x4, (x1)\necall";
 
@@ -21,7 +21,7 @@ pub const COUNTER: &str =
 pub const LONG_STRETCH: &str =
     "lui x1, 0x80000\nlui x3, 122\naddi x3, x3, 286\nloop: addi x3, x3, -1\nbne x3, x0, loop\nlw x2, 0(x1)\necall";
 
-/// The same with one instruction more.
+/// The same with one more instruction.
 pub const TOO_LONG_STRETCH: &str =
     "lui x1, 0x80000\naddi x0, x0, 0\nlui x3, 122\naddi x3, x3, 286\nloop: addi x3, x3, -1\nbne x3, x0, loop\n\
     lw x2, 0(x1)\necall";
@@ -30,13 +30,13 @@ pub const TOO_LONG_STRETCH: &str =
 pub const SEEN: &str =
     "lui x1, 0x80000\naddi x4, x0, 1\namoadd.w x5, x4, (x1)\nlw a0, 0(x1)\necall";
 
-/// Each takes a lock by tickets twice, and adds 1 inside by a load and a store.
+/// Each takes a ticket lock twice, and adds 1 inside it by a load and a store.
 pub const TICKETS: &str =
     "lui x1, 0x80000\naddi x2, x0, 1\naddi x3, x0, 2\nagain: amoadd.w x4, x2, (x1)\nwait: lw x5, 4(x1)\n\
     bne x5, x4, wait\nlw x6, 8(x1)\naddi x6, x6, 1\nsw x6, 8(x1)\naddi x5, x5, 1\nsw x5, 4(x1)\naddi x3, x3, -1\n\
     bne x3, x0, again\necall";
 
-/// Each calls a function that adds 1 to the first word, and comes back by the address that it was called with.
+/// Each calls a function that adds 1 to the first word, and returns to the address in its link register.
 pub const CALL: &str =
     "lui x1, 0x80000\naddi x4, x0, 1\njal x6, add\naddi a7, x0, 0\necall\nadd: amoadd.w x5, x4, (x1)\njalr x0, 0(x6)";
 
@@ -48,7 +48,7 @@ pub const PRINTED: &str = "addi a7, x0, 1\naddi a0, x0, 65\necall\nebreak";
 
 // ---- processors that know their numbers
 
-/// Each of two stores 1 into its own word, and halts with the other's: one of them sees a 1.
+/// Each of two stores 1 into its own word, and halts with the other's: at least one of them sees a 1.
 pub const NEIGHBOURS: &str =
     "addi a7, x0, 2\necall\nlui x1, 0x80000\nslli x2, a0, 2\nadd x3, x1, x2\naddi x4, x0, 1\nsw x4, 0(x3)\n\
     xori x2, x2, 4\nadd x3, x1, x2\nlw a0, 0(x3)\naddi a7, x0, 0\necall";
@@ -58,7 +58,7 @@ pub const SIGNAL: &str =
     "addi a7, x0, 2\necall\nlui x1, 0x80000\nbne a0, x0, wait\naddi x4, x0, 1\nsw x4, 0(x1)\nwait: lw x2, 0(x1)\n\
     beq x2, x0, wait\naddi a7, x0, 0\necall";
 
-/// The same, where all halt with 0, so that the others forget their numbers.
+/// The same, but all halt with 0, so that the others forget their numbers.
 pub const LEADER: &str =
     "addi a7, x0, 2\necall\nlui x1, 0x80000\nbne a0, x0, wait\naddi x4, x0, 1\nsw x4, 0(x1)\nwait: lw x2, 0(x1)\n\
     beq x2, x0, wait\naddi a7, x0, 0\naddi a0, x0, 0\necall";
@@ -68,7 +68,7 @@ pub const DEADLY_EMBRACE: &str =
     "addi a7, x0, 2\necall\nlui x1, 0x80000\nslli x2, a0, 2\nadd x3, x1, x2\nxori x2, x2, 4\nadd x4, x1, x2\n\
     wait: lw x5, 0(x3)\nbeq x5, x0, wait\naddi x6, x0, 1\nsw x6, 0(x4)\necall";
 
-/// Processor 1 writes 1, and then 0 again, while the other waits for the 1. It may come too late.
+/// Processor 1 writes 1, and then 0 again, while the other waits for the 1, and may look too late.
 pub const MISSED: &str =
     "addi a7, x0, 2\necall\nlui x1, 0x80000\nbeq a0, x0, wait\naddi x4, x0, 1\nsw x4, 0(x1)\nsw x0, 0(x1)\n\
     jal x0, done\nwait: lw x2, 0(x1)\nbeq x2, x0, wait\ndone: addi a7, x0, 0\necall";
@@ -90,22 +90,22 @@ pub const SIDE: &str = "addi a7, x0, 2\necall\nandi a0, a0, 1\naddi a7, x0, 0\ne
 pub const ASKS_LATE: &str =
     "lui x1, 0x80000\naddi x4, x0, 1\namoadd.w x5, x4, (x1)\naddi a7, x0, 2\necall\naddi a7, x0, 0\necall";
 
-/// The same, where only who comes second asks.
+/// The same, but only the second to add asks.
 pub const SECOND_ASKS: &str =
     "lui x1, 0x80000\naddi x4, x0, 1\namoadd.w x5, x4, (x1)\nbne x5, x4, done\naddi a7, x0, 2\necall\n\
     done: addi a7, x0, 0\necall";
 
-/// The same, where each asks how many processors there are, which is no matter of its own.
+/// The same, but each asks how many processors there are, and all get the same answer.
 pub const ASKS_HOW_MANY: &str =
     "lui x1, 0x80000\naddi x4, x0, 1\namoadd.w x5, x4, (x1)\naddi a7, x0, 3\necall\naddi a7, x0, 0\necall";
 
-// ---- who draws which number: a halt has in its lowest three bits that of a draw, in the next three that of another
+// ---- processors that draw numbers: the lowest three bits of a halt's byte have one, and the next three another
 
 /// Each draws a number, and halts with it.
 pub const DRAWS: &str =
     "lui x1, 0x80000\naddi x4, x0, 1\namoadd.w x5, x4, (x1)\nslli x6, x5, 3\nor a0, x5, x6\necall";
 
-/// The same, with a halt that is the smaller the greater the number is.
+/// The same, but the greater the number, the smaller the byte.
 pub const DRAWS_BACK: &str =
     "lui x1, 0x80000\naddi x4, x0, 1\namoadd.w x5, x4, (x1)\nslli x6, x5, 3\nor a0, x5, x6\nxori a0, a0, 63\necall";
 
@@ -114,70 +114,70 @@ pub const TWICE: &str =
     "lui x1, 0x80000\naddi x4, x0, 1\namoadd.w x5, x4, (x1)\namoadd.w x6, x4, (x1)\nslli x5, x5, 3\nor a0, x5, x6\n\
     ecall";
 
-/// The same, with a halt that is the smaller the greater the numbers are.
+/// The same, but the greater the numbers, the smaller the byte.
 pub const TWICE_BACK: &str =
     "lui x1, 0x80000\naddi x4, x0, 1\namoadd.w x5, x4, (x1)\namoadd.w x6, x4, (x1)\nslli x5, x5, 3\nor a0, x5, x6\n\
     xori a0, a0, 63\necall";
 
-/// Each draws two numbers, and halts with the second. It looks at the first only once it has the second, and then
-/// forgets it.
+/// Each draws two numbers, and halts with the second. It reads the first only after it has the second, and then forgets
+/// it.
 pub const SECOND: &str =
     "lui x1, 0x80000\naddi x4, x0, 1\namoadd.w x5, x4, (x1)\namoadd.w x6, x4, (x1)\nand x5, x5, x0\n\
     or a0, x5, x6\necall";
 
-/// Each draws a number, and halts with it and the last bit of its own.
+/// Each draws a number, and halts with it and the last bit of its own number.
 pub const SIDES: &str =
     "addi a7, x0, 2\necall\nandi x7, a0, 1\nslli x7, x7, 6\nlui x1, 0x80000\naddi x4, x0, 1\namoadd.w x5, x4, (x1)\n\
     slli x6, x5, 3\nor x6, x6, x5\nor a0, x6, x7\naddi a7, x0, 0\necall";
 
-/// The same with the bit above.
+/// The same with the bit above that.
 pub const HALVES: &str =
     "addi a7, x0, 2\necall\nsrli x7, a0, 1\nslli x7, x7, 6\nlui x1, 0x80000\naddi x4, x0, 1\namoadd.w x5, x4, (x1)\n\
     slli x6, x5, 3\nor x6, x6, x5\nor a0, x6, x7\naddi a7, x0, 0\necall";
 
-// ---- what comes of a number that is drawn
+// ---- what processors do with the number that they draw
 
-/// Who draws 1 makes a call that there is not, where the others halt.
+/// The processor that draws 1 makes an unknown call at the address at which the others halt.
 pub const UNKNOWN_CALL: &str =
     "lui x1, 0x80000\naddi x4, x0, 1\namoadd.w x5, x4, (x1)\nbne x5, x4, end\naddi a7, x0, 9\nend: ecall";
 
-/// Who draws 1 breaks, after where the others halt.
+/// The processor that draws 1 stops by EBREAK, after the address at which the others halt.
 pub const BREAK_BEHIND: &str =
     "lui x1, 0x80000\naddi x4, x0, 1\namoadd.w x5, x4, (x1)\nbeq x5, x4, bad\necall\nbad: ebreak";
 
-/// Who draws 1 breaks, before where the others halt.
+/// The processor that draws 1 stops by EBREAK, before the address at which the others halt.
 pub const BREAK_BEFORE: &str =
     "lui x1, 0x80000\naddi x4, x0, 1\namoadd.w x5, x4, (x1)\nbne x5, x4, fine\nebreak\nfine: ecall";
 
-/// Each loads from an address in no region; that of who draws 0 is aligned.
+/// Each loads from an address in no region. Only that of the processor that draws 0 is aligned.
 pub const NO_ADDRESS: &str =
     "lui x1, 0x80000\naddi x4, x0, 1\namoadd.w x5, x4, (x1)\nlw x6, 4(x5)\necall";
 
-/// Each prints 128 less what it draws.
+/// Each prints 128 minus the number that it draws.
 pub const PRINTS: &str =
     "lui x1, 0x80000\naddi x4, x0, 1\namoadd.w x5, x4, (x1)\naddi x6, x0, 128\nsub a0, x6, x5\naddi a7, x0, 1\n\
     ecall\naddi a7, x0, 0\naddi a0, x0, 0\necall";
 
-/// Each prints 3 less what it draws, and halts with what it draws.
+/// Each prints 3 minus the number that it draws, and halts with the number.
 pub const PRINTS_AND_HALTS: &str =
     "lui x1, 0x80000\naddi x4, x0, 1\namoadd.w x5, x4, (x1)\naddi x6, x0, 3\nsub a0, x6, x5\naddi a7, x0, 1\necall\n\
     addi a7, x0, 0\naddi a0, x5, 0\necall";
 
-/// Each prints a byte 3 times less what it draws.
+/// Each prints a byte n times, where n is 3 minus the number that it draws.
 pub const PRINTS_OFTEN: &str =
     "lui x1, 0x80000\naddi x4, x0, 1\namoadd.w x5, x4, (x1)\naddi x6, x0, 3\nsub x6, x6, x5\naddi a0, x0, 65\n\
     addi a7, x0, 1\nmore: beq x6, x0, end\necall\naddi x6, x6, -1\njal x0, more\nend: addi a7, x0, 0\n\
     addi a0, x0, 0\necall";
 
-// ---- processors that spin: that go on for ever without a reference
+// ---- processors that spin: they take turns for ever without a reference
 
-/// Goes to itself.
+/// Jumps to itself.
 pub const SPIN: &str = "spin: jal x0, spin";
 
-/// Turns a bit of a register over, and so stands as it did after four instructions.
+/// Flips a bit of a register, and so returns to its state after four instructions.
 pub const TURNS_OVER: &str = "loop: xori x3, x3, 1\njal x0, loop";
 
-/// The same of a word of local memory.
+/// The same with a word of local memory.
 pub const TURNS_OVER_LOCALLY: &str =
     "lui x2, 0x20\nloop: lw x3, 0(x2)\nxori x3, x3, 1\nsw x3, 0(x2)\njal x0, loop";
 
@@ -185,11 +185,11 @@ pub const TURNS_OVER_LOCALLY: &str =
 pub const SPINS_LATE: &str =
     "addi x3, x0, 2000\nloop: addi x3, x3, -1\nbne x3, x0, loop\nspin: jal x0, spin";
 
-/// Stands as it did only after 4,002 instructions.
+/// Returns to its state only after 4,002 instructions.
 pub const SPINS_WIDELY: &str =
     "again: addi x3, x0, 2000\nloop: addi x3, x3, -1\nbne x3, x0, loop\njal x0, again";
 
-/// Counts for ever, in a register, and never stands as it did within a million instructions.
+/// Counts for ever in a register, and does not return to any of its states within a million instructions.
 pub const COUNTS_ON: &str = "loop: addi x3, x3, 1\njal x0, loop";
 
 /// The same in local memory.
@@ -199,12 +199,12 @@ pub const COUNTS_ON_LOCALLY: &str =
 /// Prints for ever.
 pub const PRINTS_ON: &str = "addi a7, x0, 1\naddi a0, x0, 65\nagain: ecall\njal x0, again";
 
-/// Counts down from 50,000 before it adds 1 to the first word: 100,000 instructions and some.
+/// Counts down from 50,000 before it adds 1 to the first word: a little over 100,000 instructions.
 pub const LOOPS: &str =
     "lui x1, 0x80000\naddi x4, x0, 1\nlui x3, 12\naddi x3, x3, 848\nloop: addi x3, x3, -1\nbne x3, x0, loop\n\
     amoadd.w x5, x4, (x1)\necall";
 
-/// Each adds 1 to the first word, and spins when it is done.
+/// Each adds 1 to the first word, and then spins.
 pub const DONE: &str = "lui x1, 0x80000\naddi x4, x0, 1\namoadd.w x5, x4, (x1)\ndone: jal x0, done";
 
 /// Each adds 1 to the first word by a load and a store, and spins unless it has loaded 0.

@@ -1,4 +1,4 @@
-//! Ways to results, and to where no end can be reached.
+//! Ways to results, and to states that are stuck.
 
 use super::texts::{
     ASKS_LATE, DRAWS, DRAWS_BACK, HALVES, LOST_SUM, MISSED, NEEDED_SUM, SIDES, TWICE, TWICE_BACK,
@@ -11,7 +11,7 @@ use std::process::Abort;
 use std::test::Fail;
 use test_support::assert_same;
 
-/// The way to what has this number.
+/// The way to the result with this number, or to the first state that is stuck if it is 0.
 fn way_to(alloc: Global, text: &str, k: u8, search: Search, number: u32) -> Result<Vec<u8>, Fail> {
     let wish = Search {
         wanted: Some(number),
@@ -21,7 +21,7 @@ fn way_to(alloc: Global, text: &str, k: u8, search: Search, number: u32) -> Resu
     Ok(found.way)
 }
 
-/// One after the other leaves 2, by the first result's way; where both load before either stores, 1 is left.
+/// The first result is 2, from one processor after the other; the second is 1, because both load before either stores.
 #[test]
 fn ways_lead_to_results(rt: HostRuntime) -> Result<(), Fail> {
     let found = found(rt.alloc(), LOST_SUM, 1, each(100))?;
@@ -36,7 +36,7 @@ fn ways_lead_to_results(rt: HostRuntime) -> Result<(), Fail> {
     Ok(())
 }
 
-/// The sum that two leave who add by a load and a store, where their references come in this order.
+/// The sum that two processors leave that add by a load and a store, if their references come in this order.
 fn sum_of(way: &[u8]) -> u32 {
     let mut sum = 0u32;
     let mut loaded = [None; 2];
@@ -50,7 +50,7 @@ fn sum_of(way: &[u8]) -> u32 {
     sum
 }
 
-/// With exchange too each way has four references, and leaves the sum of its result.
+/// Up to exchanges too, each way has four references, and leaves the sum of its result.
 #[test]
 fn ways_lead_to_sums(rt: HostRuntime) -> Result<(), Fail> {
     let found = found(rt.alloc(), LOST_SUM, 1, exchanged(100))?;
@@ -63,7 +63,8 @@ fn ways_lead_to_sums(rt: HostRuntime) -> Result<(), Fail> {
     Ok(())
 }
 
-/// Whether each processor of a result refers where it draws a number that it halts with, once this mask is taken away.
+/// Whether a way explains the numbers with which processors halt, after this mask is taken off: the reference that
+/// draws number n is at place n of the way, and has to be of the processor that halts with n.
 fn is_drawn_on(way: &[u8], last: &FinalResult, mask: u8) -> bool {
     for (p, processor) in last.processors.iter().enumerate() {
         let Status::Halted(byte) = processor.status else {
@@ -80,7 +81,7 @@ fn is_drawn_on(way: &[u8], last: &FinalResult, mask: u8) -> bool {
     true
 }
 
-/// Sees that the way to each result leads to it.
+/// Checks that the way to each result leads to it.
 fn see_ways(
     rt: &impl Abort,
     alloc: Global,
@@ -99,8 +100,8 @@ fn see_ways(
     Ok(())
 }
 
-/// Where processors halt with the numbers that they have drawn, a result says its way. With exchange processors have
-/// the names that they have in the result.
+/// If processors halt with the numbers that they drew, a result determines its way. Up to exchanges, the processors of
+/// a way have the numbers that they have in the result.
 #[test]
 fn ways_lead_to_numbers(rt: HostRuntime) -> Result<(), Fail> {
     for (text, k, search, mask, references) in [
@@ -122,7 +123,7 @@ fn ways_lead_to_numbers(rt: HostRuntime) -> Result<(), Fail> {
     Ok(())
 }
 
-/// Processor 1 writes twice before the other has read. Both load before either stores.
+/// In `MISSED` processor 1 writes twice before the other reads. In `NEEDED_SUM` both load before either stores.
 #[test]
 fn ways_lead_to_where_no_end_can_be_reached(rt: HostRuntime) -> Result<(), Fail> {
     for (text, search, way) in [
@@ -138,8 +139,7 @@ fn ways_lead_to_where_no_end_can_be_reached(rt: HostRuntime) -> Result<(), Fail>
     Ok(())
 }
 
-/// There is none to a result that there is not, to a state without an end where there is no such state, or where none
-/// is wanted.
+/// There is no way to a result that does not exist, to a state that is stuck if none is, or if none is wanted.
 #[test]
 fn there_may_be_no_way(rt: HostRuntime) -> Result<(), Fail> {
     for (text, wanted) in [
@@ -157,7 +157,7 @@ fn there_may_be_no_way(rt: HostRuntime) -> Result<(), Fail> {
     Ok(())
 }
 
-/// If one asks for its number the way is that of the search that is made once more: 0 comes first.
+/// If a processor asks for its number, the way is that of the second search, without exchanges: 0 comes first.
 #[test]
 fn way_where_one_asks(rt: HostRuntime) -> Result<(), Fail> {
     let way = way_to(rt.alloc(), ASKS_LATE, 1, exchanged(100), 1)?;

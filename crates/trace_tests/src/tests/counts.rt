@@ -1,4 +1,4 @@
-//! Counts of small traces, by hand, and of a hot spot.
+//! Counts of small traces, worked out by hand, and of a hot spot.
 
 use super::{Asked, run};
 use flat_machine::Config;
@@ -8,10 +8,10 @@ use std::alloc::Global;
 use std::test::Fail;
 use test_support::{ADD_AT_X12, FOUR_ADDS, assert_same, image_of, trace_of};
 
-/// The counts of the trace, but for the rounds.
+/// The first line of the counts, without the number of rounds.
 const COUNTS: &str = "steps 27 turns 8 up 6 serve 1 down 3 poke 9 rounds ";
 
-/// Requests that meet stand alone in their queues, and so do the replies of those that were split.
+/// The other lines. All requests that meet combine, so no queue holds more than one request or reply.
 const PARTS: &str = "
 stage 0 up 2 combined 2 down 0 split 2 requests 1 records 1 replies 1
 stage 1 up 1 combined 1 down 0 split 1 requests 1 records 1 replies 1
@@ -25,11 +25,12 @@ processor 2 turns 2 retired 1
 processor 3 turns 2 retired 1
 ";
 
-/// The whole trace; and cut after the service, so that a drain brings all home. Of the first stage's four requests two
-/// move in the first round, and two that stand on smaller wires than the last in the second; in the third both
-/// requests of the second stage move, the module serves, and the reply goes down; in the fourth both replies do, and
-/// in the fifth all retire. A drain takes a turn as soon as a reply has come: so it needs one round for the first of
-/// the two replies, and two more for the turns that the second is between.
+/// The whole trace, and the trace cut after the service, so that a drain brings the replies home. A step that comes
+/// before its predecessor in the order of the sweep begins a new round. The requests on wires 0 and 2 leave the first
+/// stage in the first round, and those on wires 1 and 3 in the second. In the third round both requests leave the
+/// second stage, the module serves, and the reply comes down a stage. In the fourth both replies come down, and in
+/// the fifth all processors retire. A drain takes a turn as soon as a reply has come: the first reply comes down in
+/// the fourth round, two turns and the second reply are in the fifth, and the other turns are in the sixth.
 #[test]
 fn four_adds(rt: HostRuntime) -> Result<(), Fail> {
     let alloc = rt.alloc();
@@ -52,7 +53,7 @@ fn four_adds(rt: HostRuntime) -> Result<(), Fail> {
     Ok(())
 }
 
-/// A hundred times each processor adds 1 to word 0 and then reads it.
+/// Each processor adds 1 to word 0 and then reads it, a hundred times.
 const HOT_SPOT: &str = "
 start: lui s2, 0x80000
  addi s3, x0, 100
@@ -95,10 +96,10 @@ fn hot_spot(alloc: Global, image: &[u8], b: u8) -> Result<Vec<u8>, Fail> {
     }
 }
 
-/// All eight processors meet at one word 200 times. Without combining each reference takes three moves there, a
-/// service and three moves back. With combining half of the requests that come to a stage go on from there, one of
-/// eight comes to the module, and its reply is split again at each stage. A processor retires 605 instructions, of
-/// which 200 take two turns, and halts in one turn more. The longest queues and the rounds are those of a simulator of
+/// All eight processors refer to one word at the same time, 200 times. Without combining, each reference takes three
+/// moves up, a service and three moves down. With combining, half of the requests that enter a stage leave it, one of
+/// eight reaches the module, and its reply is split again at each stage. A processor retires 605 instructions, of
+/// which 200 take two turns, and halts in one more turn. The longest queues and the rounds come from a simulator of
 /// the sweep that was written for this test alone.
 #[test]
 fn all_meet_at_one_word(rt: HostRuntime) -> Result<(), Fail> {

@@ -1,11 +1,11 @@
-//! A write that fails, at each call; and each allocation of a test is to be refused in turn.
+//! Reads and writes that fail, and a test of which `tests/cli/memory.sh` refuses each request for memory in turn.
 
 use super::{Asked, WHOLE, ask};
 use link::Meter;
 use std::test::Fail;
 use test_support::{Deaf, EBREAK, ONE_TURN, Sink, Source, assert_same};
 
-/// What is said of an image of `ebreak` on one processor.
+/// The report on one turn of an image of `ebreak` on one processor.
 fn stopped(asked: Asked) -> &'static [u8] {
     match asked {
         Asked::Order(_) => b"0 0 00010000 fault 8\n",
@@ -19,7 +19,8 @@ processor 0 turns 1 retired 0
     }
 }
 
-/// A beginning of the lines is printed, and standard output comes before the processor's fault.
+/// If a write fails, the bytes before it are printed, and the exit status is that of the failed write and not that of
+/// the processor's fault.
 #[test]
 fn lines_that_cannot_be_printed(rt: HostRuntime) {
     let alloc = rt.alloc();
@@ -43,7 +44,7 @@ fn lines_that_cannot_be_printed(rt: HostRuntime) {
     }
 }
 
-/// A trace and an image that cannot be read. Where standard error fails too, the exit status alone says the fault.
+/// A trace and an image that cannot be read. If standard error fails too, only the exit status reports the fault.
 #[test]
 fn files_that_cannot_be_read(rt: HostRuntime) {
     let alloc = rt.alloc();

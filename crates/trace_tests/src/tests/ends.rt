@@ -1,4 +1,4 @@
-//! What is reported where there are no lines.
+//! What is reported if no lines are printed.
 
 use super::{Asked, WHOLE, run};
 use std::alloc::Global;
@@ -7,7 +7,7 @@ use std::process::Abort;
 use std::test::Fail;
 use test_support::{EBREAK, ONE_TURN, assert_same, image_of, trace_of};
 
-/// Of a trace on an image nothing is printed, and this is reported.
+/// Checks that nothing is printed of this trace and image, and that this fault is reported.
 fn assert_told(
     rt: &impl Abort,
     alloc: Global,
@@ -21,7 +21,7 @@ fn assert_told(
     assert_same!(rt; ran.status, status, fault);
 }
 
-/// The second turn stalls, since the first has halted the processor.
+/// The second turn stalls, because the first halted the processor.
 #[test]
 fn step_that_stalls(rt: HostRuntime) -> Result<(), Fail> {
     let alloc = rt.alloc();
@@ -35,7 +35,8 @@ fn step_that_stalls(rt: HostRuntime) -> Result<(), Fail> {
     Ok(())
 }
 
-/// A trace's fault is reported before the file of the image is looked at, and the image's before the machine's size.
+/// A fault of the trace is reported before one of the image, and a fault of the image before one of the machine's
+/// size.
 #[test]
 fn tells_the_first_fault(rt: HostRuntime) -> Result<(), Fail> {
     let alloc = rt.alloc();

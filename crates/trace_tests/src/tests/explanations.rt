@@ -1,4 +1,4 @@
-//! `ultra explain`: what no clause says of it.
+//! `ultra explain`, as far as no clause says what it does.
 
 use explain_command::{Topic, all_topics, explain_command};
 use link::{Link, Meter};
@@ -7,7 +7,7 @@ use std::process::Abort;
 use std::test::Fail;
 use test_support::{Full, Sink, assert_same};
 
-/// What asking for a word comes to.
+/// The exit status of the command, and what it wrote.
 #[derive(Drop)]
 struct Ran {
     status: u8,
@@ -26,8 +26,8 @@ fn run(alloc: Global, word: Option<&str>) -> Ran {
     }
 }
 
-/// What is to be explained, in the order of the list: all that commands and libraries say, the faults of a processor,
-/// the errors of the debugger, the pages.
+/// The names in the order of the list: the codes and ends of commands and libraries, the faults of a processor, the
+/// errors of the debugger, and the pages.
 static NAMES: [&str; 50] = [
     "V1",
     "A1",
@@ -81,7 +81,7 @@ static NAMES: [&str; 50] = [
     "memory-map",
 ];
 
-/// The name of a topic, in letters of both cases.
+/// The name of a topic in lower case and in upper case.
 fn words_of(alloc: Global, name: &str) -> Result<[String; 2], AllocError> {
     let mut words = [String::new(alloc), String::new(alloc)];
     for letter in name.chars() {
@@ -91,7 +91,7 @@ fn words_of(alloc: Global, name: &str) -> Result<[String; 2], AllocError> {
     Ok(words)
 }
 
-/// Each name is explained in both cases, by a text that begins with its line.
+/// Each name is explained in both cases, by a text that begins with the name and a colon.
 #[test]
 fn explains_each_name(rt: HostRuntime) -> Result<(), Fail> {
     for name in &NAMES {
@@ -107,7 +107,7 @@ fn explains_each_name(rt: HostRuntime) -> Result<(), Fail> {
     Ok(())
 }
 
-/// The lines of the list that are neither empty nor above others, up to their colon.
+/// The lines of the list that have a colon begin with the names, in their order; empty lines and headings have none.
 #[test]
 fn lists_each_name(rt: HostRuntime) -> Result<(), Fail> {
     let ran = run(rt.alloc(), None);
@@ -124,7 +124,8 @@ fn lists_each_name(rt: HostRuntime) -> Result<(), Fail> {
     Ok(())
 }
 
-/// The meaning is one line, and the advice whole lines that a terminal of 100 columns shows.
+/// Whether the meaning is one line, with its name shorter than 100 bytes, and the advice consists of whole lines of at
+/// most 102 bytes.
 fn is_laid_out(topic: &Topic) -> bool {
     topic.name.len() + topic.meaning.len() < 100
         && !topic.meaning.contains('\n')
@@ -148,12 +149,12 @@ fn assert_laid_out(rt: &impl Abort, topics: &[Topic]) {
     }
 }
 
-/// What a word that names nothing is answered.
+/// The answer to a word that names nothing.
 fn refusal_of(alloc: Global, word: &str) -> Result<String, AllocError> {
     format!(in alloc; "error: unrecognized code '{word}'\n\n`ultra explain` lists what there is.\n")
 }
 
-/// Words that name nothing, though a part of them, or of what they are cut from, does.
+/// Words that are close to names, but name nothing.
 #[test]
 fn refuses_an_unknown_word(rt: HostRuntime) -> Result<(), Fail> {
     for word in [
@@ -180,7 +181,8 @@ fn refuses_an_unknown_word(rt: HostRuntime) -> Result<(), Fail> {
     Ok(())
 }
 
-/// Where standard output fails, a beginning of the text is printed.
+/// If standard output fails, the text is printed up to the failure. An unknown word has status 2 even if nothing can
+/// be written.
 #[test]
 fn tells_that_it_cannot_print(rt: HostRuntime) {
     let alloc = rt.alloc();
@@ -200,8 +202,8 @@ fn tells_that_it_cannot_print(rt: HostRuntime) {
     assert!(rt; !out.failed());
 }
 
-/// Each allocation of this test is to be refused in turn. Then the answer is that of ample memory, or that there is
-/// none.
+/// `tests/cli/memory.sh` refuses each request of this test for memory in turn. The answer is that of ample memory, or
+/// that there is none.
 #[test]
 fn is_short_of_memory(rt: HostRuntime) -> Result<(), Fail> {
     let alloc = rt.alloc();

@@ -1,4 +1,4 @@
-//! Lines of an order by hand. Instructions and what they do are the RISC-V manual's.
+//! Lines of a serial order, written by hand. What instructions do is taken from the RISC-V manual.
 
 use flat_machine::{Cause, Event, Fault, Poke, Retired};
 use rv_table::{AmoOp, Immediate, ImmediateOp, Insn, LoadOp, Register, StoreOp};
@@ -20,7 +20,7 @@ fn add() -> Insn {
     }
 }
 
-/// A load to `x1`, from so far after what `x5` has.
+/// A load into `x1`, from this offset to `x5`.
 fn load(op: LoadOp, imm: Immediate<12>) -> Insn {
     Insn::Load {
         op,
@@ -40,7 +40,7 @@ fn store() -> Insn {
     }
 }
 
-/// An instruction that has retired at 0x0001000c.
+/// An instruction that retired at 0x0001000c.
 fn retired(insn: Insn, value: Option<u32>, out: Option<u8>) -> Event {
     Event::Retired(Retired {
         pc: 0x0001_000C,
@@ -141,7 +141,7 @@ fn pokes(rt: HostRuntime) -> Result<(), Fail> {
     Ok(())
 }
 
-/// Accesses with base registers at the ends of 16 shared words, and of other regions.
+/// Accesses at both ends of 16 shared words and just beyond them, and in another region.
 #[test]
 fn words_of_instructions(rt: HostRuntime) {
     for (insn, base, word) in [

@@ -1,4 +1,4 @@
-//! Orders of small traces, an entry at a time.
+//! Serial orders of small traces, entry by entry.
 
 use super::{ALL, Asked, run};
 use flat_machine::Config;
@@ -16,8 +16,8 @@ const ONE_ADD: &str = "
  ecall
 ";
 
-/// `x7` of processor 0 is made 5, that of processor 1 is made 7, and shared word 0 is made 0x100. Processor 0 sends its
-/// request first. That of processor 1 is moved first, so that of processor 0 is combined into it: processor 1 leads,
+/// Pokes set `x7` of processor 0 to 5, that of processor 1 to 7, and shared word 0 to 0x100. Processor 0 sends its
+/// request first, but that of processor 1 moves first, so that of processor 0 is combined into it: processor 1 leads,
 /// and finds what was there. It takes its reply and halts. Processor 0 takes its own in the drain.
 static COMBINED: [[u8; 12]; 13] = [
     [5, 0, 7, 0, 0, 0, 0, 0, 5, 0, 0, 0],
@@ -41,7 +41,7 @@ static TURN: [u8; 12] = [1, 0, 0, 0, 0, 0, 0, 0, 0, 0, 0, 0];
 /// A service by module 0.
 static SERVE: [u8; 12] = [3, 0, 0, 0, 0, 0, 0, 0, 0, 0, 0, 0];
 
-/// The lines of the trace. 0x100 and 7 are 0x107, and 0x107 and 5 are 0x10c.
+/// The lines of the trace: 0x100 + 7 is 0x107, and 0x107 + 5 is 0x10c.
 static LINES: [&str; 8] = [
     "0 0 poke x7 00000005\n",
     "1 1 poke x7 00000007\n",
@@ -53,8 +53,8 @@ static LINES: [&str; 8] = [
     "7 1 00010008 halt 00\n",
 ];
 
-/// The order is that in which the group is served, and no order in which the requests were sent. The lines keep their
-/// numbers where not all are chosen.
+/// The order is that in which the group is served, not that in which the requests were sent. If only some lines are
+/// chosen, they keep their numbers.
 #[test]
 fn two_adds_combine(rt: HostRuntime) -> Result<(), Fail> {
     let alloc = rt.alloc();
@@ -90,8 +90,8 @@ fn two_adds_combine(rt: HostRuntime) -> Result<(), Fail> {
     Ok(())
 }
 
-/// Numbers that a machine of two processors and 1,024 shared words has not, and what is said of them: of two, the
-/// processor's.
+/// Numbers that a machine of two processors and 1,024 shared words does not have, and their refusals. If both numbers
+/// are wrong, the processor's is reported.
 static UNKNOWN: [(Option<u8>, Option<u32>, &str); 4] = [
     (
         Some(2),
@@ -115,7 +115,7 @@ static UNKNOWN: [(Option<u8>, Option<u32>, &str); 4] = [
     ),
 ];
 
-/// What is wrong with the trace is reported before that, and what is wrong with the image after it.
+/// A fault of the trace is reported before such a number, and a fault of the image after it.
 #[test]
 fn refuses_what_the_machine_has_not(rt: HostRuntime) -> Result<(), Fail> {
     let alloc = rt.alloc();
@@ -145,8 +145,8 @@ fn refuses_what_the_machine_has_not(rt: HostRuntime) -> Result<(), Fail> {
     Ok(())
 }
 
-/// Cut after the two requests: in the drain that of processor 0 goes up and is served, before that of processor 1
-/// does.
+/// The trace is cut after the two requests are sent. In the drain that of processor 0 goes up and is served before that
+/// of processor 1.
 #[test]
 fn served_in_the_drain(rt: HostRuntime) -> Result<(), Fail> {
     let alloc = rt.alloc();
@@ -172,8 +172,8 @@ fn served_in_the_drain(rt: HostRuntime) -> Result<(), Fail> {
     Ok(())
 }
 
-/// A byte to the console, a store and a load of half a word, a load to a register that is always 0, a byte of local
-/// memory and a jump; then a fault.
+/// What lines say of a byte to the console, a store and a load of a halfword, a load into `x0`, a store to local
+/// memory, a jump and a fault.
 #[test]
 fn what_a_line_tells(rt: HostRuntime) -> Result<(), Fail> {
     let alloc = rt.alloc();
@@ -231,7 +231,7 @@ on: ebreak
     Ok(())
 }
 
-/// Nothing is printed of a machine as it opens.
+/// A trace without steps has no lines, and a trace of one turn has one.
 #[test]
 fn no_steps(rt: HostRuntime) -> Result<(), Fail> {
     let alloc = rt.alloc();
@@ -253,8 +253,8 @@ fn no_steps(rt: HostRuntime) -> Result<(), Fail> {
     Ok(())
 }
 
-/// However the requests of 64 processors combine, each of the 6,400 adds finds what the one before it left; and after
-/// them each processor loads the word.
+/// However the requests of 64 processors combine, each of the 6,400 adds finds what the one before it left. Each
+/// processor loads the word once, after its own adds.
 #[test]
 fn each_add_goes_on_from_the_last(rt: HostRuntime) -> Result<(), Fail> {
     let alloc = rt.alloc();

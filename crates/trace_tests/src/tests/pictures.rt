@@ -1,5 +1,5 @@
-//! Pictures of small traces: which messages stand where is worked out by hand from the wires of the network, and what
-//! is reported where there is no picture.
+//! Pictures of small traces. The places of messages are worked out by hand from the wires of the network. Also what is
+//! reported if no picture is drawn.
 
 mod ends;
 mod travelling;
@@ -11,7 +11,7 @@ use std::alloc::Global;
 use std::io;
 use trace_commands::{Picture, trace_command};
 
-/// What the command comes to.
+/// The exit status of the command, and what it wrote.
 #[derive(Drop)]
 struct Ran {
     status: u8,

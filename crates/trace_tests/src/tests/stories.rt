@@ -27,7 +27,7 @@ const GOING_UP: &str = "0 poke 0 x11 00000001: writes
 19 serve 0: serves 4: 0 2 1 3
 ";
 
-/// After it the trace answers all, and then takes all turns.
+/// After the service the trace answers all processors, and then takes all turns.
 const BY_THE_TRACE: &str = "20 down 1 0: answers 1 at stage 1
 21 down 0 0: answers 2 at stage 0
 22 down 0 2: answers 3 at stage 0
@@ -37,7 +37,7 @@ const BY_THE_TRACE: &str = "20 down 1 0: answers 1 at stage 1
 26 turn 3: retires amoadd.w x10, x11, (x12) = 00000011
 ";
 
-/// A drain has a processor take its reply as soon as it is there.
+/// In a drain a processor takes its reply as soon as it has come.
 const BY_A_DRAIN: &str = "20 down 1 0: answers 1 at stage 1
 21 down 0 0: answers 2 at stage 0
 22 turn 0: retires amoadd.w x10, x11, (x12) = 0000000a
@@ -47,7 +47,7 @@ const BY_A_DRAIN: &str = "20 down 1 0: answers 1 at stage 1
 26 turn 3: retires amoadd.w x10, x11, (x12) = 00000011
 ";
 
-/// The whole trace; and cut after the service, so that a drain brings all home.
+/// The whole trace, and the trace cut after the service, so that a drain brings the replies home.
 #[test]
 fn four_adds(rt: HostRuntime) -> Result<(), Fail> {
     let alloc = rt.alloc();

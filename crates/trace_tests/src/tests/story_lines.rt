@@ -1,4 +1,4 @@
-//! Lines of a story by hand: two adds that meet in a switch and come back, and writes from outside.
+//! Lines of a story, written by hand: two adds that combine in a switch and come back, and pokes.
 
 use flat_machine::{Cause, Fault, PC, Poke};
 use messages::Seconds;
@@ -7,7 +7,7 @@ use steps::{Groups, Outcome, Step};
 use test_support::assert_same;
 use trace_lines::push_line;
 
-/// Two processors add to a word. The second comes first, so it leads.
+/// Processors 0 and 1 add to a word. The request of 1 moves first, so 1 leads.
 const MEETING: [(Step, Outcome, &str); 8] = [
     (
         Step::Poke(Poke::Shared {
@@ -64,7 +64,7 @@ fn adds_that_meet(rt: HostRuntime) -> Result<(), Fail> {
     Ok(())
 }
 
-/// Other writes from outside, replies that move and that are split, a halt, and a step that did nothing.
+/// Other pokes, replies that move and that are split, a halt, and a step that stalls.
 #[test]
 fn other_lines(rt: HostRuntime) -> Result<(), Fail> {
     let alloc = rt.alloc();

@@ -1,5 +1,5 @@
-//! Views of machines: what stands where is worked out by hand from the wires of the network, and for whom a request
-//! stands is what its steps reported.
+//! Views of machines. The place of each message is worked out by hand from the wires of the network, and the group of
+//! a request has to be the one that the steps reported.
 
 use flat_machine::{Config, Poke, Status};
 use machine_picture::{MachineView, ProcessorView, SharedWord, view_of};
@@ -12,14 +12,14 @@ use std::test::Fail;
 use steps::{Groups, Step};
 use test_support::{COMBINED_ADDS, FOUR_ADDENDS, adders, assert_same, lend};
 
-/// Where each program stands: an add, a swap and a minimum of `a1` and the word at `a2`.
+/// An add, a swap and a minimum of `a1` and the word at `a2`. Each processor starts at one of them.
 const REFERENCES: &str = "
  amoadd.w x10, x11, (x12)
  amoswap.w x10, x11, (x12)
  amomin.w x10, x11, (x12)
 ";
 
-/// Some steps, and what stands in the network after them and those before.
+/// Some steps, and what the network holds after them.
 type Stand = (&'static str, &'static str);
 
 /// Processors that refer to shared words.
@@ -27,16 +27,16 @@ struct Meeting {
     size: (u8, u8, u8),
     /// The value of word 0.
     word: u8,
-    /// Which processors, and the value of `a1` of each.
+    /// The processors, each with the value of its `a1`.
     addends: &'static [(u8, u32)],
-    /// A register of a processor that is written besides.
+    /// Another register that is poked: its processor, its number and its value.
     register: Option<(u8, u8, u32)>,
     stands: &'static [Stand],
 }
 
-/// Of a request are reported its leader, its word, what its function makes of 7, how often it was combined there and
-/// for whom it stands; of a record its leader, what the kept function makes of 7, and the second; of a reply its
-/// leader, its value, and for whom it stands. Before each stands its depth and its wire.
+/// Each text begins with a depth and a wire. A request (`>`) has its leader, its word (`w`), what its function makes of
+/// 7 (`f`), its marks (`m`) and its group; a record (`+`) its leader, what the kept function makes of 7 (`f`), and the
+/// second; a reply (`<`) its leader, its value (`v`) and its group.
 static MEETINGS: [Meeting; 6] = [
     // Two adds combine at each stage, and the reply is split on its way back.
     Meeting {
@@ -69,7 +69,7 @@ static MEETINGS: [Meeting; 6] = [
             ("t0", "01<1v15[1] 02<2v11[2] 03<3v17[3]"),
         ],
     },
-    // An add comes before a swap,
+    // An add, and a swap that is combined into it;
     Meeting {
         size: (2, 4, 4),
         word: 7,
@@ -77,7 +77,7 @@ static MEETINGS: [Meeting; 6] = [
         register: Some((2, 32, 0x0001_0004)),
         stands: &[("t0 t2 u00 u02", "10>0w0f100m1[0 2] 10+0f12,2")],
     },
-    // and after it.
+    // and the other way round.
     Meeting {
         size: (2, 4, 4),
         word: 7,
@@ -85,7 +85,7 @@ static MEETINGS: [Meeting; 6] = [
         register: Some((2, 32, 0x0001_0004)),
         stands: &[("t0 t2 u02 u00", "10>2w0f105m1[2 0] 10+2f100,0")],
     },
-    // A minimum and an add do not combine: one stands after the other.
+    // A minimum and an add do not combine: one queues behind the other.
     Meeting {
         size: (2, 4, 4),
         word: 5,
@@ -98,7 +98,7 @@ static MEETINGS: [Meeting; 6] = [
             ("d10 s0", "10<0v5[0] 20<2v3[2]"),
         ],
     },
-    // Where there is one record, the last request goes by itself.
+    // A wait buffer of one record is full after one combination: later requests go on by themselves.
     Meeting {
         size: (2, 4, 1),
         word: 0,
@@ -115,7 +115,7 @@ static MEETINGS: [Meeting; 6] = [
             ),
         ],
     },
-    // The reply of 0 waits for two places, and that of 4 is before it.
+    // The reply to 0 and 2 needs two places in a queue, and waits while the reply to 4 takes one of them.
     Meeting {
         size: (3, 2, 1),
         word: 0,
@@ -136,12 +136,12 @@ static MEETINGS: [Meeting; 6] = [
     },
 ];
 
-/// The number of a digit.
+/// The value of a digit.
 fn number(digit: u8) -> u8 {
     digit.saturating_sub(b'0')
 }
 
-/// The step that a word names: `t P`, `u STAGE WIRE`, `s M` or `d STAGE WIRE`.
+/// The step that a word names: `tP`, `uSW`, `sM` or `dSW`, with a digit for a processor, a stage, a wire or a module.
 fn step_of(word: &str) -> Option<Step> {
     match word.as_bytes() {
         [b't', p] => Some(Step::Turn(number(*p))),
@@ -158,7 +158,7 @@ fn step_of(word: &str) -> Option<Step> {
     }
 }
 
-/// Appends for whom a message stands.
+/// Appends the group of a message.
 fn push_group(text: &mut String, group: &[u8]) -> Result<(), Fail> {
     text.push('[')?;
     for (place, member) in group.iter().enumerate() {
@@ -171,7 +171,7 @@ fn push_group(text: &mut String, group: &[u8]) -> Result<(), Fail> {
     Ok(())
 }
 
-/// What stands in the network of a view, by depth and wire.
+/// What the network of a view holds, by depth and wire.
 fn text_of(alloc: Global, view: &MachineView) -> Result<String, Fail> {
     let mut text = String::new(alloc);
     for (depth, places) in view.places.as_slice().iter().enumerate() {
@@ -206,7 +206,7 @@ fn text_of(alloc: Global, view: &MachineView) -> Result<String, Fail> {
     Ok(text)
 }
 
-/// Each request of a view stands for the group that the steps reported.
+/// Checks that each request of a view has the group that the steps reported.
 fn expect_groups(rt: &impl Abort, view: &MachineView, groups: &Groups) {
     for places in view.places.as_slice() {
         for place in places.as_slice() {
@@ -218,7 +218,7 @@ fn expect_groups(rt: &impl Abort, view: &MachineView, groups: &Groups) {
     }
 }
 
-/// Takes the steps of a meeting, and looks at the views after them.
+/// Takes the steps of a meeting, and checks the views after them.
 fn expect_stands(
     rt: &impl Abort,
     alloc: Global,
@@ -266,7 +266,7 @@ fn places(rt: HostRuntime) -> Result<(), Fail> {
     Ok(())
 }
 
-/// A processor that stands at the first instruction, with or without a reference to word 0.
+/// A processor at its first instruction, with an open reference to word 0, which has this value, or without one.
 fn at_first(word: Option<u32>) -> ProcessorView {
     ProcessorView {
         pc: 0x0001_0000,
@@ -276,7 +276,7 @@ fn at_first(word: Option<u32>) -> ProcessorView {
     }
 }
 
-/// Four adds to word 0, which is 10 before their service and 25 after it; and then processor 0 halts.
+/// Four adds to word 0, which is 10 before their service and 25 after it. Then processor 0 retires its add and halts.
 #[test]
 fn processors(rt: HostRuntime) -> Result<(), Fail> {
     let alloc = rt.alloc();

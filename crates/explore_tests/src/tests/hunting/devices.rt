@@ -1,4 +1,4 @@
-//! What is refused, a write that fails, at each call; and each allocation of a test is to be refused in turn.
+//! Refusals, writes that fail, and a test of which `tests/cli/memory.sh` refuses each request for memory in turn.
 
 use super::{Kept, hunted, keeping, size};
 use hunt_command::{Hunt, NoHuntProgress, hunt_command};
@@ -6,7 +6,7 @@ use link::Meter;
 use std::test::Fail;
 use test_support::{EBREAK, Sink, assert_same};
 
-/// What runs of `ebreak` on one processor come to.
+/// The result of runs of `ebreak` on one processor.
 const STOPPED: &[u8] = b"runs 2 first 1 over\nprocessor 0 fault 8 console -\n";
 
 const HUNT: Hunt = Hunt {
@@ -29,8 +29,8 @@ fn refusals(rt: HostRuntime) {
     }
 }
 
-/// A trace that cannot be written is reported, and then nothing is printed; a beginning of the lines is, where they
-/// fail.
+/// A trace that cannot be written is reported, and then nothing is printed. Lines that cannot be printed are printed up
+/// to the failure.
 #[test]
 fn writes_that_fail(rt: HostRuntime) {
     let alloc = rt.alloc();

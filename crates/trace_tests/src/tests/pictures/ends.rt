@@ -1,4 +1,4 @@
-//! What is reported where there is no picture, and the exit statuses.
+//! What is reported if no picture is drawn, and the exit statuses.
 
 use super::run;
 use link::Meter;
@@ -19,7 +19,7 @@ const WHOLE: Picture<Svg> = Picture {
 /// A turn of processor 0.
 static TURN: [u8; 12] = [1, 0, 0, 0, 0, 0, 0, 0, 0, 0, 0, 0];
 
-/// Of a trace on an image nothing is printed, and this is reported.
+/// Checks that nothing is printed of this trace and image, and that this fault is reported.
 fn assert_told(
     rt: &impl Abort,
     alloc: Global,
@@ -32,8 +32,8 @@ fn assert_told(
     assert_same!(rt; ran.status, status, fault);
 }
 
-/// A fault is reported as by `replay`, though no step was asked for: a trace's before the file of the image is looked
-/// at, and the image's before the machine's size.
+/// A picture before the first step is refused as `replay` refuses the trace: a fault of the trace is reported before
+/// one of the image, a fault of the image before one of the machine's size, and a step that stalls is a fault.
 #[test]
 fn tells_the_first_fault(rt: HostRuntime) -> Result<(), Fail> {
     let alloc = rt.alloc();
@@ -56,7 +56,7 @@ fn tells_the_first_fault(rt: HostRuntime) -> Result<(), Fail> {
     Ok(())
 }
 
-/// The fault of a processor is reported where the picture shows it.
+/// The exit status reports the fault of a processor only if the picture shows it.
 #[test]
 fn tells_a_fault_that_is_drawn(rt: HostRuntime) -> Result<(), Fail> {
     let alloc = rt.alloc();
@@ -77,7 +77,7 @@ fn tells_a_fault_that_is_drawn(rt: HostRuntime) -> Result<(), Fail> {
     Ok(())
 }
 
-/// A beginning of the picture is printed, where a write fails.
+/// If a write fails, the picture is printed up to it.
 #[test]
 fn picture_that_cannot_be_printed(rt: HostRuntime) -> Result<(), Fail> {
     let alloc = rt.alloc();
@@ -96,7 +96,7 @@ fn picture_that_cannot_be_printed(rt: HostRuntime) -> Result<(), Fail> {
     Ok(())
 }
 
-/// A trace and an image that cannot be read. Where standard error fails too, the exit status alone says the fault.
+/// A trace and an image that cannot be read. If standard error fails too, only the exit status reports the fault.
 #[test]
 fn files_that_cannot_be_read(rt: HostRuntime) -> Result<(), Fail> {
     let alloc = rt.alloc();
@@ -117,7 +117,7 @@ fn files_that_cannot_be_read(rt: HostRuntime) -> Result<(), Fail> {
     Ok(())
 }
 
-/// Each allocation of this test is to be refused in turn. Then the picture is that of ample memory, or there is none.
+/// `tests/cli/memory.sh` refuses each request of this test for memory in turn. The picture is whole, or there is none.
 #[test]
 fn is_short_of_memory(rt: HostRuntime) -> Result<(), Fail> {
     let alloc = rt.alloc();

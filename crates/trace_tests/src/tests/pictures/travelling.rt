@@ -1,4 +1,4 @@
-//! Which messages stand where.
+//! Where the messages are after some of the steps.
 
 use super::{Ran, run};
 use machine_picture::push_escaped;
@@ -6,8 +6,8 @@ use std::alloc::Global;
 use std::test::Fail;
 use test_support::{ADD_AT_X12, FOUR_ADDS, assert_same, image_of, trace_of};
 
-/// The texts of a class, in the order of the picture: from left to right by columns, and in each from the top. `|`
-/// stands between two.
+/// The texts of a class in the order of the picture, with `|` between them: the columns from the left, and each column
+/// from the top.
 fn texts_of(alloc: Global, picture: &str, class: &str) -> Result<String, Fail> {
     let mut texts = String::new(alloc);
     let begin = format!(in alloc; "class=\"{class}\">")?;
@@ -20,7 +20,7 @@ fn texts_of(alloc: Global, picture: &str, class: &str) -> Result<String, Fail> {
     Ok(texts)
 }
 
-/// How many steps, and the texts of requests, wait records and replies after them.
+/// Numbers of steps, each with the texts of requests, records and replies after them.
 static FOUR_STANDS: [(u32, &str, &str, &str); 13] = [
     (0, "", "", ""),
     (9, "", "", ""),
@@ -62,7 +62,8 @@ fn four_adds(rt: HostRuntime) -> Result<(), Fail> {
     Ok(())
 }
 
-/// After the service processor 0 still waits, and the word has its new value, 10 + 1 + 2 + 4 + 8.
+/// After the service all processors still wait, and the word has its new value, 10 + 1 + 2 + 4 + 8 = 0x19. After the
+/// whole trace none waits.
 #[test]
 fn processors_and_words(rt: HostRuntime) -> Result<(), Fail> {
     let alloc = rt.alloc();
@@ -90,7 +91,7 @@ fn processors_and_words(rt: HostRuntime) -> Result<(), Fail> {
     Ok(())
 }
 
-/// Without wait records the requests of 0 and 2 stand one after another, the first at the right.
+/// Without wait buffers the requests of 0 and 2 queue one behind the other, the first at the right.
 #[test]
 fn first_comes_first(rt: HostRuntime) -> Result<(), Fail> {
     let alloc = rt.alloc();
@@ -103,7 +104,7 @@ fn first_comes_first(rt: HostRuntime) -> Result<(), Fail> {
     Ok(())
 }
 
-/// Where no number is given, and where the number is that of all steps or more, all are taken.
+/// All steps are taken if no number is given, or if the number is that of all steps or more.
 #[test]
 fn behind_all(rt: HostRuntime) -> Result<(), Fail> {
     let alloc = rt.alloc();
@@ -125,7 +126,8 @@ fn behind_all(rt: HostRuntime) -> Result<(), Fail> {
     Ok(())
 }
 
-/// Steps after a cut trace are those of a drain: 19 services are followed by what brings the replies home.
+/// Steps after the end of a cut trace are those of a drain. Its first two, after the service, bring the reply down one
+/// stage, and then those of 0 and 2 down the other.
 #[test]
 fn behind_a_drain(rt: HostRuntime) -> Result<(), Fail> {
     let alloc = rt.alloc();
