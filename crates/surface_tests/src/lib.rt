@@ -1,7 +1,7 @@
-//! Tests that use every call of the public surface once, each through the crate that offers it to callers. So an item
-//! is seen to be missing where its crate no longer shows it.
+//! Tests that use every call of the public interface once, each through the crate that offers it to callers. So they no
+//! longer compile if that crate does not export it.
 //!
-//! They stand in a crate of their own, which uses none of the crates below those that it tests.
+//! They have a crate of their own, which uses none of the crates below those that it tests.
 #![tactic(auto)]
 
 #[cfg(test)]

@@ -1,5 +1,5 @@
-//! From single words to the commands of the program. What instructions do is the RISC-V manual's; all other values are
-//! worked out by hand.
+//! From single words to the commands of the program. What instructions do is taken from the RISC-V manual; all other
+//! values are worked out by hand.
 
 ghost use Rattle.std.specs.Prelude.{◌≡◌, [], IfOk};
 ghost use Rattle.machine_steps.specs.Machines.{AreHome, IsIdle};
@@ -29,12 +29,12 @@ use std::fmt::Debug;
 use std::process::Abort;
 use std::test::Fail;
 
-/// Ends the test where the two differ, and says them and the case that they are of ([`assert_same!`]).
+/// Fails the test if the two differ, and prints both and their case ([`assert_same!`]).
 fn same<T: PartialEq + Debug, A: Debug>(rt: &impl Abort, found: &T, wanted: &T, at: &A) {
     assert_eq!(rt; found, wanted, "{at:?}");
 }
 
-/// `2^k` processors and 1,024 shared words, with queues of four and four records for each output of a switch.
+/// `2^k` processors and 1,024 shared words, with queues of four messages and wait buffers of four records.
 const fn size(k: u8) -> Config
     ensures { result ≡ record { k = k; c = 4; b = 4; r = 1; shared_words = 1024 } }
 {

@@ -1,6 +1,6 @@
 //! Tests of what runs on threads: consoles, the rounds of the processors, and whole runs.
 //!
-//! They stand in a crate of their own, so that what stands on these parts need not wait for them.
+//! They have a crate of their own, so that the crates above these parts need not wait for them.
 #![tactic(auto)]
 
 #[cfg(test)]

@@ -1,4 +1,4 @@
-//! Exit statuses, and what standard error is reported.
+//! Exit statuses, and what is written to standard error.
 
 ghost use Rattle.std.specs.Prelude.{⊤};
 
@@ -14,7 +14,7 @@ use std::sync::Wait;
 use std::test::Fail;
 use test_support::{Broken, EBREAK, Sink, Source, assert_same, lend, machine_of, size};
 
-/// A link over memory, of which a read or a write fails, or none.
+/// A link over memory. It may be shut, and a read or a write may fail.
 #[derive(Drop)]
 struct LoopbackPort {
     alloc: Global,
@@ -43,7 +43,7 @@ impl Connect for LoopbackPort {
     }
 }
 
-/// A door that is open, after which these lines come.
+/// An open port that gives these lines.
 fn open_door(alloc: Global, input: &'static [u8]) -> LoopbackPort {
     LoopbackPort {
         alloc,
@@ -55,7 +55,7 @@ fn open_door(alloc: Global, input: &'static [u8]) -> LoopbackPort {
     }
 }
 
-/// A command on this file has this exit status, and standard error is reported this.
+/// Checks the exit status of a command on this file, and what it writes to standard error.
 fn ends<F: Read + Drop>(
     rt: &(impl Wait + Abort + AllocGlobal),
     (file, config): (F, Config),
@@ -79,7 +79,7 @@ fn ends<F: Read + Drop>(
     assert_same!(rt; err.as_slice(), reported.as_bytes());
 }
 
-/// A session that ends well has status 0, or 1 where a processor is faulted.
+/// A session that ends well has status 0, or 1 if a processor is faulted.
 #[test]
 fn sessions_end(rt: HostRuntime) {
     for (input, status) in [
@@ -95,7 +95,7 @@ fn sessions_end(rt: HostRuntime) {
     }
 }
 
-/// A fault of the link is reported, for any processors did.
+/// A failure of the link is reported, whatever the processors did.
 #[test]
 fn links_fail(rt: HostRuntime) {
     for (read_fails_at, write_fails_at, is_shut) in [
@@ -120,7 +120,7 @@ fn links_fail(rt: HostRuntime) {
     }
 }
 
-/// What is refused before has its own fault, and no link is asked for.
+/// An image or a size that is refused has its own fault, and no link is opened.
 #[test]
 fn images_are_refused(rt: HostRuntime) {
     let mut door = open_door(rt.alloc(), b"quit\n");
@@ -136,7 +136,7 @@ fn images_are_refused(rt: HostRuntime) {
     assert_same!(rt; door.knocks, 0);
 }
 
-/// How a session ends, the exit status then, and what is reported.
+/// How a session ends, its exit status, and what is reported.
 static ENDS: [(SessionEnd, u8, &str); 4] = [
     (SessionEnd::Quit, 0, ""),
     (SessionEnd::ReadFailed, 3, "ultra: link\n"),
@@ -144,7 +144,7 @@ static ENDS: [(SessionEnd, u8, &str); 4] = [
     (SessionEnd::TraceFull, 4, "ultra: L2\n"),
 ];
 
-/// out of memory and of room.
+/// Each end of a session has its exit status and its report, also out of memory and without room for the trace.
 #[test]
 fn ends_are_told(rt: HostRuntime) -> Result<(), Fail> {
     lend(machine_of(rt.alloc(), "ebreak", size(2))?, |machine| {

@@ -1,4 +1,4 @@
-//! Streams in pieces, and commands by hand.
+//! Streams in pieces, and commands worked out by hand.
 
 ghost use Rattle.std.specs.Prelude.{◌<◌};
 
@@ -8,7 +8,7 @@ use std::alloc::{AllocError, Global};
 use std::test::Fail;
 use test_support::assert_same;
 
-/// Each line and the command that it asks for, with one space between the parts of a line as it is meant.
+/// Lines, each with the command that it asks for. One space is between the words of a line.
 const COMMANDS: &str = "\
 state 0: State { processor: 0 }
 state ffffffff: State { processor: 4294967295 }
@@ -28,7 +28,7 @@ cont: Continue
 quit: Quit
 ";
 
-/// Lines that are no command in its form.
+/// Lines that are malformed.
 const MALFORMED: &str = "\
 \x20
 state
@@ -91,7 +91,7 @@ fn malformed(rt: HostRuntime) {
     }
 }
 
-/// The longest line writes 507 bytes. One that would be longer is no line.
+/// The longest line writes 507 bytes. A longer one is malformed.
 #[test]
 fn longest_write(rt: HostRuntime) -> Result<(), Fail> {
     let mut line = Vec::new(rt.alloc());
@@ -110,8 +110,7 @@ fn longest_write(rt: HostRuntime) -> Result<(), Fail> {
     Ok(())
 }
 
-/// The events of a stream that comes in pieces of this size: each line with a bar after it, `!` where it is too
-/// long.
+/// The events of a stream that comes in pieces of this size: each line, or `!` if it is too long, with a bar after it.
 fn reported(alloc: Global, stream: &[u8], size: usize) -> Result<Vec<u8>, AllocError>
     requires { 0 < size }
 {
@@ -133,7 +132,7 @@ fn reported(alloc: Global, stream: &[u8], size: usize) -> Result<Vec<u8>, AllocE
     Ok(reported)
 }
 
-/// Lines are the same wherever the stream is cut. Bytes after the last line feed are none.
+/// Lines are the same wherever the stream is cut. Bytes after the last line feed are no line.
 #[test]
 fn lines_in_any_pieces(rt: HostRuntime) -> Result<(), Fail> {
     let stream = b"state 0\n\n cont\r\n\xFF\0\nquit";
@@ -144,7 +143,7 @@ fn lines_in_any_pieces(rt: HostRuntime) -> Result<(), Fail> {
     Ok(())
 }
 
-/// A line has at most 1,024 bytes, and what follows a longer one is read as ever.
+/// A line has at most 1,024 bytes, and the line after a longer one is read as usual.
 #[test]
 fn longest_line(rt: HostRuntime) -> Result<(), Fail> {
     let alloc = rt.alloc();

@@ -1,4 +1,4 @@
-//! Breaks at the limits of code, and replies and errors of the commands of small machines. Expected texts are worked
+//! Breaks at the limits of code, and the replies and errors of commands on small machines. Expected texts are worked
 //! out by hand.
 
 mod breaking;
@@ -14,7 +14,7 @@ use std::test::Fail;
 use steps::{Outcome, Step};
 use test_support::{assert_same, machine_of};
 
-/// A machine of two processors with two shared words. Code is `ebreak`, one byte and, at its third word, `ecall`;
+/// A machine of two processors with two shared words. Code is `ebreak`, a word that is no instruction, and `ecall`;
 /// local memory begins with two bytes, shared memory with `2A 00 00 80`.
 fn two(alloc: Global) -> Result<Machine, Fail> {
     let config = Config {
@@ -34,12 +34,12 @@ fn two(alloc: Global) -> Result<Machine, Fail> {
     machine_of(alloc, text, config)
 }
 
-/// Writes from outside.
+/// Takes a poke.
 fn poke(rt: &impl Abort, machine: &mut Machine, poke: Poke) {
     assert_same!(rt; machine.apply(Step::Poke(poke)), Outcome::Poked);
 }
 
-/// Takes a turn, by which the processor stops.
+/// Takes a turn, which stops the processor.
 fn stop(rt: &impl Abort, machine: &mut Machine, processor: u8) {
     let outcome = machine.apply(Step::Turn(processor));
     assert!(rt; matches!(outcome, Outcome::Stopped { .. }), "{outcome:?}");

@@ -1,4 +1,5 @@
-//! Sessions over memory, and over devices that fall short or fail. Expected replies are worked out by hand.
+//! Sessions over memory, over devices that fail or give few bytes, and over a connection. Expected replies are worked
+//! out by hand.
 
 ghost use Rattle.std.specs.Prelude.{◌≡◌, false};
 
@@ -27,18 +28,18 @@ const ROW: &str = "
  sb x11, 3(x12)
 ";
 
-/// Two instructions that take no reference, and a halt, at 0x10000, 0x10004 and 0x10008.
+/// Two local instructions and a halt, at 0x10000, 0x10004 and 0x10008.
 const THREE: &str = "addi x1, x0, 1\naddi x2, x0, 2\necall";
 
-/// Steps that a `cont` enters at most.
+/// The most steps that a `cont` enters.
 const BUDGET: u32 = 1000;
 
-/// The log of four processors that are to add 1, 2, 4 and 8 to word 0, which is 10.
+/// The log of four processors that will add 1, 2, 4 and 8 to word 0, which is 10.
 fn adders(alloc: Global) -> Result<Logged, Fail> {
     adders_log(alloc, ROW, size(2), 10, &FOUR_ADDENDS)
 }
 
-/// How a session ends that reads from this link, and what it writes.
+/// How a session that reads from this link ends, and what it writes.
 fn talk<R: LinkRead>(
     rt: &(impl Wait + AllocGlobal),
     log: &mut Logged,
@@ -51,7 +52,7 @@ fn talk<R: LinkRead>(
     (end, writer.device.bytes)
 }
 
-/// A session of these lines has these replies, and ends so. No reference is open then.
+/// Checks the replies to these lines, how their session ends, and that no reference is open then.
 fn replies_are(
     rt: &(impl Wait + Abort + AllocGlobal),
     log: &mut Logged,

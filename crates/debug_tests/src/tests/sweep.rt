@@ -1,4 +1,4 @@
-//! Sweeps with breaks, by hand.
+//! Sweeps with breaks, worked out by hand.
 
 use debug_replies::Breaks;
 use debug_session::{Runner, Sweep};
@@ -18,7 +18,7 @@ fn breaks_at(rt: &impl Abort, addresses: &[u32]) -> Breaks {
     breaks
 }
 
-/// Goes on, and gives the answer; no reference is open after it.
+/// Runs a sweep and returns its answer. No reference is open after it.
 fn go_on(
     rt: &impl Abort,
     log: &mut Logged,
@@ -31,7 +31,7 @@ fn go_on(
     answer
 }
 
-/// Goes on, which nothing refuses, until the log has this many steps.
+/// Runs a sweep, which has to succeed and to leave this many steps in the log.
 fn goes_on(rt: &impl Abort, log: &mut Logged, breaks: &Breaks, budget: u32, steps: usize) {
     assert_same!(rt; go_on(rt, log, breaks, budget), Ok(()));
     assert_same!(rt; log.steps().len(), steps);
@@ -52,7 +52,7 @@ static REFERRED: [Step; 5] = [
     Step::Turn(0),
 ];
 
-/// A break is met before its instruction, and a further run gets past it, to the next, and then to the end.
+/// A sweep stops before the instruction of a break. The next sweep gets past it to the next break, and then to the end.
 #[test]
 fn goes_from_break_to_break(rt: HostRuntime) -> Result<(), Fail> {
     let breaks = breaks_at(&rt, &[0x10004, 0x10008]);
@@ -63,13 +63,13 @@ fn goes_from_break_to_break(rt: HostRuntime) -> Result<(), Fail> {
         assert_same!(rt; log.machine().pc(0), Some(0x10008));
         goes_on(&rt, log, &breaks, 100, 3);
         assert_same!(rt; log.machine().status(0), Some(Status::Halted(0)));
-        // Where none runs, nothing is done.
+        // If no processor runs, nothing is done.
         goes_on(&rt, log, &breaks, 100, 3);
     });
     Ok(())
 }
 
-/// The break at which a processor stands when the sweep begins does not stop it, as often as it comes there.
+/// The break at which a processor is when a sweep begins does not stop it at once, but when it comes there again.
 #[test]
 fn gets_past_the_first_break(rt: HostRuntime) -> Result<(), Fail> {
     let breaks = breaks_at(&rt, &[0x10000]);
@@ -85,7 +85,7 @@ fn gets_past_the_first_break(rt: HostRuntime) -> Result<(), Fail> {
     Ok(())
 }
 
-/// Of two processors that take turns, processor 1 comes to 0x10010, and the other stays before it.
+/// Processor 1 comes to 0x10010, and processor 0 stays in a loop before it.
 const APART: &str = "
  addi x17, x0, 2
  ecall
@@ -105,7 +105,8 @@ static TURNS: [Step; 7] = [
     Step::Turn(0),
 ];
 
-/// Processor 1 comes to its break in the fourth round, when processor 0 has gone on to a loop without one.
+/// The sweep stops in the fourth round, before the turn of processor 1 at its break. Processor 0 is then in a loop
+/// without one.
 #[test]
 fn stops_all_at_the_break_of_one(rt: HostRuntime) -> Result<(), Fail> {
     let breaks = breaks_at(&rt, &[0x10010]);
@@ -118,8 +119,8 @@ fn stops_all_at_the_break_of_one(rt: HostRuntime) -> Result<(), Fail> {
     Ok(())
 }
 
-/// A processor whose reference is open does not stand at a break, whatever it has retired: the load at
-/// 0x10004 is reached, stopped at, and then taken whole.
+/// A processor with an open reference does not stop at a break, although its `pc` is there: a sweep stops before the
+/// load at 0x10004, and the next one takes it whole.
 #[test]
 fn finishes_an_open_reference(rt: HostRuntime) -> Result<(), Fail> {
     let breaks = breaks_at(&rt, &[0x10004]);
@@ -132,7 +133,7 @@ fn finishes_an_open_reference(rt: HostRuntime) -> Result<(), Fail> {
     Ok(())
 }
 
-/// A used-up budget ends it too, and a reference that is open then is brought to its end.
+/// A used-up budget ends a sweep too, and a reference that is open then is completed.
 #[test]
 fn ends_with_the_budget(rt: HostRuntime) -> Result<(), Fail> {
     let breaks = breaks_at(&rt, &[]);
@@ -144,7 +145,7 @@ fn ends_with_the_budget(rt: HostRuntime) -> Result<(), Fail> {
     Ok(())
 }
 
-/// Each of four processors stops by a fault in its first turn, and each such turn ends a sweep.
+/// Each of four processors stops by a fault in its first turn, and each of these turns ends a sweep.
 #[test]
 fn ends_at_each_fault(rt: HostRuntime) -> Result<(), Fail> {
     let breaks = breaks_at(&rt, &[0x10000]);
@@ -157,14 +158,14 @@ fn ends_at_each_fault(rt: HostRuntime) -> Result<(), Fail> {
     Ok(())
 }
 
-/// There is no room for a sweep with this budget, and nothing is done.
+/// Checks that there is no room for a sweep with this budget, and that nothing is done.
 fn is_refused(rt: &impl Abort, log: &mut Logged, breaks: &Breaks, budget: u32) {
     let before = log.steps().len();
     assert_same!(rt; go_on(rt, log, breaks, budget), Err(LockRefusal::Full));
     assert_same!(rt; log.steps().len(), before);
 }
 
-/// Room is asked for the steps of the sweep and of its drain, before the first of them is taken.
+/// A sweep asks for room for its own steps and those of its drain before it takes the first.
 #[test]
 fn asks_for_room_first(rt: HostRuntime) -> Result<(), Fail> {
     let breaks = breaks_at(&rt, &[0x10004]);

@@ -31,7 +31,7 @@ fn words_are_settings(rt: HostRuntime) -> Result<(), Fail> {
     Ok(())
 }
 
-/// What `ultra words` prints of a program that halts at once.
+/// What `ultra words` prints for a program that halts at once.
 fn blank_report(alloc: Global) -> Result<String, AllocError> {
     let mut text = String::new(alloc);
     for number in 0..32u8 {
@@ -65,7 +65,7 @@ fn texts_become_images_and_lines(rt: HostRuntime) -> Result<(), Fail> {
     .comes_to(0, b"00010000 00100073 ebreak\n", "")
 }
 
-/// The report of the text `ecall` on one processor.
+/// The report on the text `ecall` on one processor.
 const REPORT: &str = "processor 0 pc 00010000 halt 00 retired 0 console -\n";
 
 /// The trace of its run: one turn.

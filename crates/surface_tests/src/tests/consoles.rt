@@ -28,7 +28,7 @@ fn bytes_go_through(rt: HostRuntime) -> Result<(), Fail> {
     Ok(())
 }
 
-/// A sender puts one byte, and ends with another in its hand.
+/// The end of a sender that has put one byte, and holds another.
 fn end_of<R: Wait + Abort>(rt: &R, mut sender: Sender) -> End
     ensures { end_queue result ≡ sender_queue sender }
 {
@@ -39,7 +39,7 @@ fn end_of<R: Wait + Abort>(rt: &R, mut sender: Sender) -> End
     }
 }
 
-/// Each sender does so.
+/// The ends of all senders, each of which does so.
 fn ended<R: Wait + Abort>(
     rt: &R,
     alloc: Global,
@@ -54,14 +54,14 @@ fn ended<R: Wait + Abort>(
     Ok(ends)
 }
 
-/// What is left of two senders.
+/// What is left of the bytes of two senders.
 fn left<R: Wait + Abort>(rt: &R, alloc: Global) -> Result<Vec<Vec<u8>>, ConsoleRefusal> {
     let (senders, monitor) = console(alloc, 2)?;
     let ends = ended(rt, alloc, senders)?;
     monitor.finish(rt, alloc, ends)
 }
 
-/// What nobody has taken comes at the end, and after it what each sender still had.
+/// The bytes that nobody took are left, and after them the byte that each sender holds.
 #[test]
 fn bytes_are_left(rt: HostRuntime) -> Result<(), Fail> {
     let left = left(&rt, rt.alloc())?;

@@ -57,7 +57,7 @@ fn turn(core: &mut Core, code: &Code, reply: u32) -> Result<Retired, Cause> {
     Err(cause)
 }
 
-/// What a turn writes to a register; none where it stops the processor.
+/// What a turn writes to a register, or none if it stops the processor.
 fn result_of(core: &mut Core, code: &Code, reply: u32) -> Option<u32> {
     match turn(core, code, reply) {
         Ok(retired) => retired.result,
@@ -96,32 +96,32 @@ impl Rig {
         Ok(Rig { code, port })
     }
 
-    /// Begins a turn of a port that runs and is not open.
+    /// Begins a turn of a port whose processor runs and is not open.
     fn begin(&mut self, rt: &impl Abort) -> Begun {
         assert!(rt; self.port.is_running());
         assert!(rt; !self.port.is_open());
         self.port.begin(&self.code)
     }
 
-    /// Writes a register of the core, which is here.
+    /// Pokes a register of the core, which is home.
     fn poke_register(&mut self, rt: &impl Abort, register: u8, value: u32) -> bool {
         assert!(rt; !self.port.is_away());
         self.port.poke_register(register, value)
     }
 
-    /// Writes a byte of the local memory of the core, which is here.
+    /// Pokes a byte of the local memory of the core, which is home.
     fn poke_byte(&mut self, rt: &impl Abort, address: u32, value: u8) -> bool {
         assert!(rt; !self.port.is_away());
         self.port.poke_byte(address, value)
     }
 
-    /// The core, which is here.
+    /// The core, which is home.
     fn core(&self, rt: &impl Abort) -> &Core {
         self.port.core().expect(rt, "the core is here")
     }
 }
 
-/// Writes from outside, a local turn, and a reference, which opens the port.
+/// Pokes, a local turn, and a reference, which opens the port.
 #[test]
 fn a_port_begins_turns(rt: HostRuntime) -> Result<(), Fail> {
     let mut rig = Rig::new(&rt)?;

@@ -1,4 +1,4 @@
-//! Each fault and each refusal, by its text.
+//! The text of each fault and of each refusal.
 
 use assembler::{AsmError, AsmFault};
 use console_monitor::ConsoleRefusal;
@@ -13,7 +13,7 @@ use std::process::Abort;
 use test_support::assert_same;
 use trace_file::TraceError;
 
-/// The texts of these, with a blank after each.
+/// The texts of these, each with a space after it.
 fn reported<T: Display>(alloc: Global, faults: &[T]) -> Result<String, AllocError> {
     let mut text = String::new(alloc);
     for fault in faults {
@@ -22,7 +22,7 @@ fn reported<T: Display>(alloc: Global, faults: &[T]) -> Result<String, AllocErro
     Ok(text)
 }
 
-/// Compares the texts of these.
+/// Checks the texts of these.
 fn compare<T: Display>(rt: &(impl Abort + AllocGlobal), faults: &[T], wanted: &str) {
     let text = reported(rt.alloc(), faults).expect(rt, "memory");
     assert_same!(rt; text.as_str(), wanted);

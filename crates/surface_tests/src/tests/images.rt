@@ -1,4 +1,4 @@
-//! Images, there and back, on devices that work and on devices that fail.
+//! Images that are read and written, on devices that work and on devices that fail.
 
 ghost use Rattle.std.specs.Prelude.{◌≡◌, true};
 ghost use Rattle.elf_image.specs.Spellings.{FitsRegions};
@@ -26,7 +26,7 @@ fn copy_of_ebreak(alloc: Global) -> Result<Image, ImageError> {
     image.copy(alloc)
 }
 
-/// What is written of a layout on a device that fails at this call, how it ended, and whether the device has failed.
+/// What is written of a layout to a device that fails at this call, how the write ended, and whether the device failed.
 fn written(
     rt: &impl Abort,
     alloc: Global,
@@ -50,7 +50,7 @@ fn an_image_has_its_layout(rt: HostRuntime) -> Result<(), Fail> {
     Ok(())
 }
 
-/// A writer takes a byte at each call, and has those before the call that fails.
+/// A writer that takes a byte a call has the bytes before the call that fails.
 #[test]
 fn an_image_is_written(rt: HostRuntime) -> Result<(), Fail> {
     let image = copy_of_ebreak(rt.alloc())?;
@@ -62,7 +62,7 @@ fn an_image_is_written(rt: HostRuntime) -> Result<(), Fail> {
     Ok(())
 }
 
-/// Why these bytes are refused, of which a read fails, and whether the reader has failed.
+/// Why these bytes are refused if this read of them fails, and whether the reader failed.
 fn refusal(alloc: Global, bytes: &[u8], fails_at: usize) -> (Option<ImageError>, bool) {
     let mut reader = Meter::new(Source::new(bytes, fails_at));
     let refused = read_image(alloc, &mut reader, &size(0)).err();

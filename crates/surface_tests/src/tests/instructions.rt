@@ -1,4 +1,4 @@
-//! Rows, words, what rows compute, functions of words, and the words of a module.
+//! Rows of the table, words of instructions, what instructions compute, functions of shared words, and a module.
 
 use decode::{decode, encode};
 use hart_ops::{
@@ -86,7 +86,7 @@ fn functions_compose(rt: HostRuntime) {
     assert_same!(rt; after_nothing, Some(3));
 }
 
-/// A module gives the word before, and stores the word after.
+/// A module returns the word as it was, and stores what the function makes of it.
 #[test]
 fn words_are_served(rt: HostRuntime) -> Result<(), Fail> {
     let mut module = Module::new(rt.alloc(), 2)?;

@@ -4,8 +4,8 @@ use arrayvec::ArrayVec;
 use debug_lines::{Command, Event, LineReader, pack};
 use test_support::assert_same;
 
-/// What the first bytes of a piece come to: how many are taken, and the line's length if one is whole, `usize::MAX`
-/// where it is too long.
+/// How many bytes of a piece a reader takes, and the length of the line if these end one, or `usize::MAX` if it is too
+/// long.
 fn fed(reader: &mut LineReader, piece: &[u8]) -> (usize, Option<usize>) {
     let (count, event) = reader.feed(piece);
     let length = match event {

@@ -8,10 +8,10 @@ use std::process::Abort;
 use std::test::Fail;
 use test_support::{assert_same, lend};
 
-/// An instruction that refers to none, one that refers to shared word 0, and a stop.
+/// A local instruction, one that refers to shared word 0, and a stop.
 const TEXT: &str = "lui x12, 0x80000\namoadd.w x10, x12, (x12)\nebreak";
 
-/// What is entered of them.
+/// The steps that are entered.
 static STEPS: [Step; 5] = [
     Step::Turn(0),
     Step::Turn(0),
@@ -27,7 +27,7 @@ fn log_from(rt: &(impl Abort + AllocGlobal), machine: Machine) -> Logged {
     Logged::new(rt.alloc(), machine)
 }
 
-/// Whether a log has room for this many steps more.
+/// Makes room in a log for this many more steps.
 fn room_for(log: &mut Logged, extra: u32) -> Result<(), LockRefusal> {
     match log.room(extra) {
         Ok(_) => Ok(()),
@@ -35,7 +35,7 @@ fn room_for(log: &mut Logged, extra: u32) -> Result<(), LockRefusal> {
     }
 }
 
-/// A drain brings the reference home, by a service and a turn. What stalls or is refused is not entered.
+/// A drain brings the reference home, by a service and a turn. A step that stalls or is refused is not entered.
 #[test]
 fn steps_are_entered(rt: HostRuntime) -> Result<(), Fail> {
     let machine = machine_of(rt.alloc(), TEXT, size(0))?;
@@ -53,7 +53,7 @@ fn steps_are_entered(rt: HostRuntime) -> Result<(), Fail> {
     })
 }
 
-/// A log has 4,194,304 steps at most.
+/// A log has at most 4,194,304 steps.
 #[test]
 fn room_is_made(rt: HostRuntime) -> Result<(), Fail> {
     let machine = machine_of(rt.alloc(), TEXT, size(0))?;

@@ -1,4 +1,4 @@
-//! A machine of two processors, which add 1 and 2 to shared word 0, which is 10.
+//! A machine of two processors that add 1 and 2 to shared word 0, which is 10.
 
 use super::{machine_of, size};
 use machine_steps::{
@@ -9,10 +9,10 @@ use std::process::Abort;
 use std::test::Fail;
 use test_support::{assert_same, lend};
 
-/// The instruction of each, and a stop.
+/// The add of each processor, and its stop.
 const TEXT: &str = "amoadd.w a0, a1, (a2)\nebreak";
 
-/// A write of a register.
+/// A poke of a register.
 macro_rules! register {
     ($processor:expr, $register:expr, $value:expr) => {
         Poke::Register {
@@ -23,7 +23,7 @@ macro_rules! register {
     };
 }
 
-/// A write of a byte of local memory, and those by which the adds are as they are to be.
+/// A poke of a byte of local memory, and those that set up the adds.
 static POKES: [Poke; 6] = [
     Poke::Local {
         processor: 1,
@@ -40,7 +40,7 @@ static POKES: [Poke; 6] = [
     register!(1, 12, 0x8000_0000),
 ];
 
-/// The machine after these writes.
+/// The machine after these pokes.
 fn adders(rt: &impl Abort, alloc: Global) -> Result<Machine, Fail> {
     let mut machine = machine_of(alloc, TEXT, size(1))?;
     for poke in &POKES {
@@ -49,7 +49,7 @@ fn adders(rt: &impl Abort, alloc: Global) -> Result<Machine, Fail> {
     Ok(machine)
 }
 
-/// Both requests combine at the one stage, and one service answers both.
+/// Both requests combine at the only stage, and one service answers both.
 static ADDS: [Step; 8] = [
     Step::Turn(0),
     Step::Turn(1),
@@ -61,7 +61,7 @@ static ADDS: [Step; 8] = [
     Step::Turn(1),
 ];
 
-/// What the first six of these steps do.
+/// The outcomes of the first six of these steps.
 fn outcomes() -> [Outcome; 6] {
     [
         Outcome::Issued,
@@ -78,7 +78,7 @@ fn outcomes() -> [Outcome; 6] {
     ]
 }
 
-/// What an instruction that has retired wrote to a register.
+/// What an instruction that retired wrote to a register.
 fn result_of(outcome: Outcome) -> Option<u32> {
     match outcome {
         Outcome::Retired(retired) => retired.result,
@@ -86,7 +86,7 @@ fn result_of(outcome: Outcome) -> Option<u32> {
     }
 }
 
-/// Both have added, processor 0 first, and no reference is open.
+/// Checks that both have added, processor 0 first, and that no reference is open.
 fn have_added(rt: &impl Abort, machine: &Machine) {
     assert!(rt; machine.is_idle());
     assert_same!(rt; machine.drain_step(), None);
@@ -132,8 +132,8 @@ fn order_of(
     machine.order(alloc, steps)
 }
 
-/// One service answers both references, processor 0 first. A turn of no processor is not in the order; a write and a
-/// stop are.
+/// One service answers both references, processor 0 first. A poke and a stop are in the order; a turn of a processor
+/// that the machine does not have is not.
 #[test]
 fn steps_have_an_order(rt: HostRuntime) -> Result<(), Fail> {
     lend(adders(&rt, rt.alloc())?, |machine| {
@@ -150,7 +150,7 @@ fn steps_have_an_order(rt: HostRuntime) -> Result<(), Fail> {
     })
 }
 
-/// Each request goes to the module and back by itself: four moves each.
+/// Each request goes to the module and back by itself, in four steps.
 #[test]
 fn references_are_drained(rt: HostRuntime) -> Result<(), Fail> {
     lend(adders(&rt, rt.alloc())?, |machine| {
@@ -178,7 +178,7 @@ fn instructions_are_whole(rt: HostRuntime) -> Result<(), Fail> {
     Ok(())
 }
 
-/// Why no machine of this size opens on a copy of the image of another, which has 1,024 shared words.
+/// Why a copy of the image of this machine, which has 1,024 shared words, is refused at this size, if it is.
 fn refusal(alloc: Global, machine: &Machine, config: Config) -> Result<Option<NewError>, Fail> {
     let image = machine.image().copy(alloc)?;
     Ok(Machine::new(alloc, image, config).err())

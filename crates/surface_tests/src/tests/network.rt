@@ -13,7 +13,7 @@ use std::test::Fail;
 use test_support::assert_same;
 use wait_buffers::WaitBuffer;
 
-/// From processor 101 to module 011: shuffled 011, it leaves by port 0, on wire 010.
+/// From processor 101 to module 011, in binary: the shuffle makes it 011, and it leaves by port 0, on wire 010.
 #[test]
 fn wires_of_a_path(rt: HostRuntime) {
     assert_same!(rt; (rotate_left(3, 5), rotate_right(3, 3)), (3, 5));
@@ -41,7 +41,7 @@ fn request(leader: u8, addend: u32) -> Request
     }
 }
 
-/// Two such requests, of which the first is of processor 3, once they are combined.
+/// Two such requests after they combined. The first is that of processor 3.
 const JOINT: Request = Request {
     leader: 3,
     word: 0,
@@ -79,7 +79,7 @@ fn a_switch_combines(rt: HostRuntime) -> Result<(), Fail> {
     Ok(())
 }
 
-/// Without records nothing is combined, and a queue of two takes no third request.
+/// Without wait buffers no requests combine, and a queue of two takes no third one.
 #[test]
 fn a_switch_is_full(rt: HostRuntime) -> Result<(), Fail> {
     let mut pool = Pool::new(rt.alloc(), 8, 2, 2)?;
@@ -93,7 +93,7 @@ fn a_switch_is_full(rt: HostRuntime) -> Result<(), Fail> {
     Ok(())
 }
 
-/// The reply of a request that was not combined.
+/// The reply to a request that did not combine.
 #[test]
 fn a_switch_answers(rt: HostRuntime) -> Result<(), Fail> {
     let mut pool = Pool::new(rt.alloc(), 8, 2, 2)?;
@@ -115,7 +115,7 @@ fn a_switch_answers(rt: HostRuntime) -> Result<(), Fail> {
     }
 }
 
-/// Whether a processor can put a request into its slot.
+/// Puts a request of a processor into its slot, and returns whether it fits.
 fn puts(network: &mut Network, p: u8, addend: u32) -> bool {
     let fits = p < network.wires() && network.slot_is_free(p) && !network.names(p);
     if fits {
@@ -124,7 +124,7 @@ fn puts(network: &mut Network, p: u8, addend: u32) -> bool {
     fits
 }
 
-/// Moves a request; it stalls where there is no such place.
+/// Moves a request, or stalls if there is no such place.
 fn up(network: &mut Network, stage: u8, wire: u8) -> UpMove {
     if stage < network.stages() && wire < network.wires() {
         network.up(stage, wire)
@@ -133,7 +133,7 @@ fn up(network: &mut Network, stage: u8, wire: u8) -> UpMove {
     }
 }
 
-/// Moves a reply; it stalls where there is no such place.
+/// Moves a reply, or stalls if there is no such place.
 fn down(network: &mut Network, stage: u8, wire: u8) -> DownMove {
     if stage < network.stages() && wire < network.wires() {
         network.down(stage, wire)
@@ -142,7 +142,7 @@ fn down(network: &mut Network, stage: u8, wire: u8) -> DownMove {
     }
 }
 
-/// Takes the request at module 0, and replies with a value: what it adds.
+/// Takes the request at module 0, replies with this value, and returns the request's function.
 fn serve(network: &mut Network, value: u32) -> Option<Phi> {
     let shown = network.module_front(0)?;
     network.module_take(0);
@@ -154,7 +154,7 @@ fn serve(network: &mut Network, value: u32) -> Option<Phi> {
     Some(shown.phi)
 }
 
-/// What a processor takes, where that is what it was shown.
+/// The value that a processor takes, if it is the one that it was shown.
 fn take(network: &mut Network, p: u8) -> Option<u32> {
     if p >= network.wires() {
         return None;
@@ -166,7 +166,7 @@ fn take(network: &mut Network, p: u8) -> Option<u32> {
     }
 }
 
-/// Two processors add 1 and 2 to a word of 10. Their requests combine at the one stage, and their replies part there.
+/// Two processors add 1 and 2 to a word that is 10. Their requests combine at the only stage, where the reply is split.
 #[test]
 fn a_network_combines(rt: HostRuntime) -> Result<(), Fail> {
     let mut network = Network::new(rt.alloc(), 1, 2, 1, 1)?;

@@ -13,7 +13,7 @@ use std::sync::Wait;
 use std::test::Fail;
 use test_support::{assert_same, lend};
 
-/// Two instructions that refer to none, and one that adds 5 to shared word 0.
+/// Two local instructions, and one that adds 5 to shared word 0.
 const TEXT: &str = "lui x12, 0x80000\naddi x11, x0, 5\namoadd.w x10, x11, (x12)";
 
 /// Takes local instructions with the core on loan, as many as there are.
@@ -64,7 +64,7 @@ fn take_all<N: Run, R: Wait + Abort>(
     Ok(())
 }
 
-/// The same by the first of the passes.
+/// The same with the first of the passes.
 fn take_all_first<N: Run, R: Wait + Abort>(
     rt: &R,
     alloc: Global,
@@ -80,7 +80,7 @@ fn take_all_first<N: Run, R: Wait + Abort>(
     take_all(rt, alloc, shared, &mut passes[0])
 }
 
-/// A pass has three retirements, at places 0, 1 and 4, and was reported last of the turn at place 4.
+/// Checks that a pass has three retirements, at places 0, 1 and 4, and that its last answer was to the turn at place 4.
 fn has_retired<N: Run>(rt: &impl Abort, pass: &Pass<N>) {
     assert_same!(rt; (pass.processor(), pass.steps(), pass.is_lent()), (0, 5, false));
     assert_same!(rt; pass.pass_events().len(), 3);
@@ -96,7 +96,7 @@ fn has_retired<N: Run>(rt: &impl Abort, pass: &Pass<N>) {
     }
 }
 
-/// Takes all, and brings the pass and the log together.
+/// Takes all of them, and gathers the log.
 fn by_passes<N: Run, R: Wait + Abort>(
     rt: &R,
     alloc: Global,
@@ -135,7 +135,7 @@ fn go<N: Run, R: Wait + Abort>(
     }
 }
 
-/// The same for a log that is just made.
+/// The same with a new table.
 fn attempt<R: Wait + Abort>(rt: &R, alloc: Global, logged: Logged) -> Result<(), Fail> {
     match NewTable::new(alloc) {
         Ok(room) => go::<Brand, R>(rt, alloc, room, logged),

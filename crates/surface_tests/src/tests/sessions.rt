@@ -14,7 +14,7 @@ use std::sync::Wait;
 use std::test::Fail;
 use test_support::{assert_same, lend};
 
-/// Refers to the shared word at `a2`, at which there is no memory where that is 0.
+/// Refers to the shared word at `a2`. At address 0 there is no memory.
 const TEXT: &str = "amoadd.w a0, a1, (a2)";
 
 /// What a command shows of a machine.
@@ -25,7 +25,7 @@ fn shown(rt: &impl Abort, machine: &Machine, line: &[u8]) -> ArrayVec<u8, 1024> 
     text
 }
 
-/// What is said of a machine in which nothing has stopped since it opened: no processor is named.
+/// The stop reply of a machine in which no processor has stopped since it opened: it names none.
 fn stop_of(rt: &impl Abort, machine: &Machine) -> ArrayVec<u8, 1024> {
     let mut text = ArrayVec::new();
     assert!(rt; machine.are_home());
@@ -56,13 +56,13 @@ fn replies_over_a_machine(rt: HostRuntime) -> Result<(), Fail> {
     Ok(())
 }
 
-/// Goes on, up to a break or a stop.
+/// Runs a sweep up to a break or a stop.
 fn go_on(rt: &impl Abort, log: &mut Logged, breaks: &Breaks) -> Result<(), LockRefusal> {
     assert!(rt; log.machine().is_idle());
     Sweep.run(log, breaks, 100)
 }
 
-/// A break is met before its instruction. Once it is cleared, the processor halts.
+/// A sweep stops before the instruction of a break. After the break is cleared, the processor halts.
 #[test]
 fn sweeps_meet_breaks(rt: HostRuntime) -> Result<(), Fail> {
     let mut breaks = Breaks::new();
@@ -81,7 +81,7 @@ fn sweeps_meet_breaks(rt: HostRuntime) -> Result<(), Fail> {
     Ok(())
 }
 
-/// A session of these lines on a new machine of four: how it ends, what it writes, and the exit status.
+/// A session of these lines on a new machine of four processors: how it ends, what it writes, and the exit status.
 fn session(rt: &impl Wait, alloc: Global, input: &[u8]) -> Result<(SessionEnd, Vec<u8>, u8), Fail> {
     let mut log = log_of(alloc, TEXT, size(2))?;
     let mut writer = Meter::new(Vec::new(alloc));
@@ -97,7 +97,7 @@ fn session(rt: &impl Wait, alloc: Global, input: &[u8]) -> Result<(SessionEnd, V
     Ok((end, writer.device, status))
 }
 
-/// A session that ends well leaves the status to the machine; any other end has its own.
+/// The status of a session that ends well depends on the machine; any other end has its own.
 #[test]
 fn sessions_have_their_status(rt: HostRuntime) -> Result<(), Fail> {
     lend(machine_of(rt.alloc(), TEXT, size(0))?, |machine| {

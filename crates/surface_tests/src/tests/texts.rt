@@ -1,4 +1,4 @@
-//! Lines and texts of the assembler, there and back.
+//! Lines and texts that are assembled, and instructions that are disassembled.
 
 use arrayvec::ArrayString;
 use asm_lines::{Instruction, LineError, LineFault, Statement, read_line};

@@ -27,7 +27,7 @@ const TEXT: &str = "
  ecall
 ";
 
-/// Lets all threads through, and keeps whether those of processors 0 and 1 have come.
+/// Lets all threads through, and records whether those of processors 0 and 1 have come.
 #[derive(Drop)]
 struct Counted {
     first: AtomicU64,
@@ -55,7 +55,7 @@ fn arbiters(alloc: Global, logged: &Logged) -> Result<Vec<Shuffled>, Fail>
     Ok(arbiters)
 }
 
-/// The machine has the adds, and each console its byte.
+/// Checks that the machine has the adds, and each console its byte.
 fn has_run<N: Run>(rt: &impl Abort, ended: &Ended<N>) {
     assert_same!(rt; ended.fault, None);
     assert_same!(rt; ended.faults.as_slice(), [None, None].as_slice());
@@ -110,8 +110,8 @@ fn two_threads(rt: HostRuntime) -> Result<(), Fail> {
     run_two(&rt, rt.alloc())
 }
 
-/// From state 1 the generator goes on with 270369 and 67634689. On two stages the steps are 20, of which the tenth is
-/// the service of module 1: both pick it.
+/// After state 1 the generator has the states 270369 and 67634689. Two stages have 20 steps, of which both states pick
+/// the tenth, the service of module 1.
 #[test]
 fn steps_are_shuffled(rt: HostRuntime) {
     let mut arbiter = Shuffled::new(1, 0);

@@ -1,4 +1,4 @@
-//! The trace of a program that halts at its first instruction: on a device, and taken again.
+//! The trace of a program that halts at its first instruction: it is written, read and replayed.
 
 use super::{machine_of, size};
 use elf_image::{Config, Meter};
@@ -16,7 +16,7 @@ static TRACE: [u8; 24] = [
     1, 0, 0, 0, 0, 0, 0, 0, 0, 0, 0, 0, // the record
 ];
 
-/// What is written of steps that have a trace.
+/// The trace of these steps, as it is written.
 fn written(rt: &impl Abort, alloc: Global, config: &Config, steps: &[Step]) -> Vec<u8> {
     assert!(rt; is_trace(config, steps));
     let mut writer = Meter::new(Vec::new(alloc));

@@ -1,4 +1,4 @@
-//! A fault that decides how a run ends, on which the other threads stop.
+//! A fault that decides how a run ends stops the other threads.
 
 use super::rounds::{run_text, shuffled};
 use processor_threads::{Gate, RunFault};
@@ -19,9 +19,9 @@ impl<C: Clock> Gate for Slow<'_, C> {
     }
 }
 
-/// No processor ever stops, so each of four threads uses its budget up, for which no other is cancelled. That takes
-/// 300 milliseconds at least. Where the host refuses one of the five threads, whichever it is, the others are
-/// cancelled before.
+/// No processor ever stops, so each of four threads uses up its budget, which takes 300 milliseconds at least and
+/// cancels no other thread. If the host refuses one of the five threads, whichever it is, the others are cancelled
+/// before that.
 #[test]
 fn a_fault_ends_a_run_without_end(rt: HostRuntime) -> Result<(), Fail> {
     let gate = Slow { clock: &rt };

@@ -1,4 +1,4 @@
-//! Bytes through the queues.
+//! Bytes through the queues of consoles.
 
 ghost use Rattle.std.specs.Prelude.{◌≡◌, IfOk, map};
 ghost use Rattle.console_monitor.specs.Ends.{sender_queue};
@@ -11,7 +11,7 @@ use std::sync::Wait;
 use std::test::*;
 use test_support::assert_same;
 
-/// Bytes come in order, each from its own sender.
+/// The bytes of each sender come in order, apart from those of the other.
 #[test]
 fn two_senders(rt: HostRuntime) -> Result<(), Fail> {
     let (mut senders, mut monitor) = console(rt.alloc(), 2)?;
@@ -26,7 +26,7 @@ fn two_senders(rt: HostRuntime) -> Result<(), Fail> {
     Ok(())
 }
 
-/// A full queue gives the byte back, which is put once there is room, and no byte is lost.
+/// A full queue gives the byte back. After a byte is taken, the queue has room for it.
 #[test]
 fn full_queue(rt: HostRuntime) -> Result<(), Fail> {
     let alloc = rt.alloc();
@@ -44,8 +44,7 @@ fn full_queue(rt: HostRuntime) -> Result<(), Fail> {
     Ok(())
 }
 
-/// The end of a sender that has sent two bytes and holds a third, of which this is the first, and each follows the one
-/// before.
+/// The end of a sender that has sent this byte and the next, and holds the one after them.
 fn end_of<R: Wait + Abort>(rt: &R, mut sender: Sender, first: u8) -> End
     ensures { end_queue result ≡ sender_queue sender }
 {
@@ -55,7 +54,7 @@ fn end_of<R: Wait + Abort>(rt: &R, mut sender: Sender, first: u8) -> End
     End { sender, held }
 }
 
-/// The ends of such senders: the first has sent `a` and `b` and holds `c`, the second goes on with `d`.
+/// The ends of such senders: the first has sent `a` and `b` and holds `c`, and the second goes on with `d`.
 fn ends_of<R: Wait + Abort>(
     rt: &R,
     alloc: Global,
@@ -72,8 +71,8 @@ fn ends_of<R: Wait + Abort>(
     Ok(ends)
 }
 
-/// What is left of each sender's bytes is what was not taken. Each allocation of this test is to be refused in turn:
-/// then a call says that there is no memory.
+/// What is left of each sender's bytes is what was not taken. If a request for memory is refused
+/// (`tests/cli/memory.sh`), a call reports it.
 #[test]
 fn finish_is_short_of_memory(rt: HostRuntime) -> Result<(), Fail> {
     let alloc = rt.alloc();

@@ -1,5 +1,5 @@
-//! Arbiters that name steps by a list: each is asked for once, in that order, whether a thread has its arbiter name
-//! one at a time or many ahead. So it is known how many rounds a run has.
+//! Arbiters that name the steps of a list. Each step is asked for once, in that order, whether a thread has its arbiter
+//! name one step at a time or many ahead. So the number of rounds of a run is known.
 
 ghost use Rattle.std.specs.Prelude.{◌≤◌};
 
@@ -30,7 +30,7 @@ done: addi x17, x0, 0
 /// A service at a module to which no request comes.
 const NOTHING: Step = Step::Serve(1);
 
-/// The way of the request and of the reply, with steps among theirs that do nothing.
+/// The steps of the request and of the reply, with steps between them that do nothing.
 static WAY: [Step; 7] = [
     NOTHING,
     NOTHING,
@@ -41,7 +41,7 @@ static WAY: [Step; 7] = [
     Step::Down { stage: 0, wire: 0 },
 ];
 
-/// Names this many steps that do nothing, then the steps of a list from a place on, and then others that do nothing.
+/// Names this many steps that do nothing, then the steps of the list from a place on, and then steps that do nothing.
 #[derive(Drop)]
 struct ByList {
     idle: usize,
@@ -65,8 +65,7 @@ impl Arbiter for ByList {
     }
 }
 
-/// Runs the program with such arbiters. That of processor 0 begins at the beginning, and that of the other after the
-/// end.
+/// Runs the program with such arbiters. That of processor 0 names the whole list, and that of the other none of it.
 fn run_listed<G: Gate + Sync, R: Threads + Wait + Sync>(
     rt: &R,
     alloc: Global,
@@ -81,11 +80,11 @@ fn run_listed<G: Gate + Sync, R: Threads + Wait + Sync>(
     run_text(rt, alloc, ADDS, 1, arbiter, gate, budget)
 }
 
-/// A gate that lets this many rounds pass at once, and sums up what threads call it with.
+/// A gate that lets this many rounds pass at once, and adds up the arguments of its calls.
 #[derive(Drop)]
 struct Sums {
     at_once: usize,
-    /// How often it was passed, and the sums of the processors and of the turns with which it was.
+    /// How often the gate was passed, and the sums of the processors and of the turns with which it was.
     passed: AtomicU64,
     processors: AtomicU64,
     turns: AtomicU64,
@@ -134,14 +133,14 @@ impl Gate for Sums {
     }
 }
 
-/// How many rounds pass a gate at once, how many steps that do nothing stand before the list, how many rounds count,
-/// and what the gate has summed up.
+/// How many rounds pass a gate at once, how many steps that do nothing come before the list, how many rounds count
+/// towards the budget, and the sums of the gate.
 ///
-/// Processor 0 sends its request in its first round, after what it does alone. With no step before the list the fourth
-/// moves it, the sixth serves it, the seventh moves the reply, the eighth takes it, and in the ninth it halts. The
-/// other halts in its first. Where one round passes at once, each counts. Where many do, six of processor 0 do
-/// something, and of the others the first of each 512 counts: with 507 before the list the move is in the 511th, and
-/// with 508 the 513th finds nothing.
+/// Processor 0 sends its request in its first round, after its local instructions. With no step before the list the
+/// fourth round moves it, the sixth serves it, the seventh moves the reply, the eighth takes it, and in the ninth the
+/// processor halts. The other halts in its first round. If one round passes at a time, each counts. If many do, the six
+/// rounds of processor 0 that do something count, and of the others the first of each 512: with 507 steps before the
+/// list the move is in the 511th round, and with 508 the 513th does nothing.
 static RUNS: [(usize, usize, u32, [u64; 5]); 6] = [
     (1, 0, 9, [10, 1, 36, 10, 12]),
     (1, 3, 12, [13, 1, 66, 13, 12]),
@@ -151,8 +150,8 @@ static RUNS: [(usize, usize, u32, [u64; 5]); 6] = [
     (usize::MAX, 1100, 9, [5, 1, 2644, 1110, 12]),
 ];
 
-/// A run of this row with this budget has this fault, which is that of processor 0's thread, and the processors have
-/// retired this many; the gate of the run.
+/// Checks the fault of a run of this row with this budget, which is that of processor 0's thread, and how many
+/// instructions the processors retired. Returns the gate of the run.
 fn ends(
     rt: &(impl Threads + Wait + Abort + Sync + AllocGlobal),
     (at_once, idle): (usize, usize),
@@ -169,8 +168,8 @@ fn ends(
     Ok(gate)
 }
 
-/// Each step is used once, so it is known how many rounds there are. As many as count are needed, and what is reported
-/// does not depend on the budget.
+/// Each step is named once, so the number of rounds is known. A run needs a budget of the rounds that count, and does
+/// the same with a larger one.
 #[test]
 fn each_step_once(rt: HostRuntime) -> Result<(), Fail> {
     for (at_once, idle, rounds, sums) in RUNS {
@@ -192,7 +191,7 @@ fn each_step_once(rt: HostRuntime) -> Result<(), Fail> {
 /// A processor that sends two bytes, and then halts.
 const SENDS_TWO: &str = "addi x17, x0, 1\naddi x10, x0, 65\necall\necall\naddi x17, x0, 0\necall\n";
 
-/// Runs it with an arbiter that names nothing of the list.
+/// Runs it with an arbiter that names no step of the list.
 fn run_sending<G: Gate + Sync, R: Threads + Wait + Sync>(
     rt: &R,
     alloc: Global,
@@ -206,7 +205,7 @@ fn run_sending<G: Gate + Sync, R: Threads + Wait + Sync>(
     run_text(rt, alloc, SENDS_TWO, 0, arbiter, gate, budget)
 }
 
-/// Each byte ends a loan, is held, and is sent in a round of its own, in which no gate is passed. With the halt they
+/// Each byte ends a loan, is held, and is sent in a round of its own, in which no gate is passed. With the halt there
 /// are five rounds.
 #[test]
 fn byte_takes_a_round(rt: HostRuntime) -> Result<(), Fail> {

@@ -1,5 +1,5 @@
-//! Cores on loan: two at once on one thread, one that is lent twice, one that leaves the log no room, and one that is
-//! lost.
+//! Cores on loan: two at once on one thread, one that is lent twice, one that leaves no room in the log, and one that
+//! is lost.
 
 ghost use Rattle.std.specs.Prelude.{◌≡◌, ◌≤◌, ℕ, Some};
 ghost use Rattle.machine_lock.specs.Passes.{IsWhole};
@@ -17,12 +17,12 @@ use std::test::Fail;
 use steps::Outcome;
 use test_support::{HUNDRED_ADDS, assert_same, lend, log_of, poke_often, prepared, size};
 
-/// A processor that writes the byte 65 to the console by its fourth instruction.
+/// A processor that writes the byte 65 to the console with its fourth instruction.
 const WRITES: &str =
     "addi x17, x0, 1\naddi x10, x0, 65\naddi x6, x0, 300\nloop: ecall\naddi x6, x6, -1\nbne x6, x0, loop\n";
 
-/// Lends the core of a pass for this many instructions, runs it once, and takes it back: how the run ended, and how
-/// many it retired.
+/// Lends the core of a pass for this many instructions, runs it once, and takes it back. Returns how the run ended, and
+/// how many instructions it retired.
 fn run_once<N: Run, R: Wait + Abort>(
     rt: &R,
     alloc: Global,
@@ -43,7 +43,7 @@ fn run_once<N: Run, R: Wait + Abort>(
     Ok((end, retired))
 }
 
-/// Whether a turn of the pass's processor is answered so. While its core is lent, the pass is not reported.
+/// Whether a turn of the pass's processor has this outcome. While its core is lent, the pass does not change.
 fn turn_is<N: Run, R: Wait>(rt: &R, shared: &Shared<N>, pass: &mut Pass<N>, wanted: Outcome) -> bool
     ensures { (most : ℕ) → pass.old.row.lent ≡ Some most → pass.new ≡ pass.old }
 {
@@ -61,8 +61,8 @@ fn last_place<N: Run>(pass: &Pass<N>) -> Option<u32> {
     }
 }
 
-/// Runs the core of one pass while that of another is away: how the two runs ended, and how many instructions each
-/// retired. While it is away, a turn stalls.
+/// Runs the core of one pass while that of another is away. Returns how the two runs ended, and how many instructions
+/// each retired. A turn of a processor whose core is away stalls.
 fn run_both<N: Run, R: Wait + Abort>(
     rt: &R,
     alloc: Global,
@@ -83,7 +83,7 @@ fn run_both<N: Run, R: Wait + Abort>(
     Ok([(end, retired), second?])
 }
 
-/// Lends both cores of two processors, and runs each once.
+/// Lends the cores of two processors, and runs each once.
 pub(super) fn both_away<N: Run, R: Wait + Abort>(
     rt: &R,
     alloc: Global,
@@ -104,8 +104,8 @@ pub(super) fn both_away<N: Run, R: Wait + Abort>(
     })
 }
 
-/// Both cores are away at once, on one thread, so no loan keeps the lock. Each takes the three instructions before its
-/// first add, and the log has six steps then.
+/// Both cores are away at once on one thread, so no loan holds the lock. Each takes the three instructions before its
+/// first add, so the log has six steps then.
 #[test]
 fn both_cores_away(rt: HostRuntime) -> Result<(), Fail> {
     let logged = log_of(rt.alloc(), HUNDRED_ADDS, size(1))?;
@@ -128,7 +128,7 @@ pub(super) fn lend_twice<N: Run, R: Wait + Abort>(
     })
 }
 
-/// The first loan ends where it has taken all that it may, and the second with the byte that its first instruction
+/// The first loan ends after all instructions that it may take, and the second with the byte that its first instruction
 /// gives. If a request for memory is refused (`tests/cli/memory.sh`), a call reports it.
 #[test]
 fn one_core_twice_or_short_of_memory(rt: HostRuntime) -> Result<(), Fail> {
@@ -136,8 +136,8 @@ fn one_core_twice_or_short_of_memory(rt: HostRuntime) -> Result<(), Fail> {
     attempt(&rt, rt.alloc(), logged, Trial::LentTwice)
 }
 
-/// Lends the core of one pass for three instructions, runs it, and takes it back: how the run ended, and how many it
-/// retired. While it is away, no place is left for another step or loan.
+/// Lends the core of one pass for three instructions, runs it, and takes it back. Returns how the run ended, and how
+/// many instructions it retired. While the core is away, no place is left for another step or loan.
 fn run_in_the_last_places<N: Run, R: Wait + Abort>(
     rt: &R,
     alloc: Global,
@@ -184,8 +184,8 @@ pub(super) fn lend_at_the_limit<N: Run, R: Wait + Abort>(
     })
 }
 
-/// The second loan takes one instruction of the three that it may. So the two places that were promised beyond it are
-/// free again: two turns find room, and a third does not. Nothing that was refused has taken a place.
+/// The second loan takes one of the three instructions that it may. So the other two places that it reserved are free
+/// again: two turns find room, and a third does not. No call that was refused took a place.
 #[test]
 fn places_are_released(rt: HostRuntime) -> Result<(), Fail> {
     let log = log_of(rt.alloc(), WRITES, size(1))?;
@@ -212,7 +212,7 @@ fn lose_one<N: Run, R: Wait + Abort>(
     }
 }
 
-/// All passes are back, and the loan of a core is not.
+/// Gathers all passes, while the core of one is still lent.
 pub(super) fn lose<N: Run, R: Wait + Abort>(
     rt: &R,
     alloc: Global,
@@ -234,7 +234,7 @@ pub(super) fn lose<N: Run, R: Wait + Abort>(
     Ok(())
 }
 
-/// A core that was lent and does not come back stands in the machine as it was lent: what it did alone has not
+/// A core that was lent and does not come back is in the machine as it was lent: its instructions on loan have not
 /// happened.
 #[test]
 fn core_that_is_lost(rt: HostRuntime) -> Result<(), Fail> {

@@ -1,5 +1,5 @@
-//! One thread with the passes of four processors: what each call answers, and what the passes and the log have at the
-//! end. The program and its steps are those by which four adds combine, worked out by hand.
+//! One thread with the passes of four processors: the answer to each call, and the passes and the log at the end. The
+//! program and its steps are those in which four adds combine, worked out by hand.
 
 ghost use Rattle.std.specs.Prelude.{◌≡◌};
 ghost use Rattle.machine_lock.specs.Passes.{IsWhole};
@@ -16,8 +16,7 @@ use test_support::{
     COMBINED_ADDS, FOUR_ADDENDS, add_pokes, adders_log, assert_same, combined_add, lend, size,
 };
 
-/// The processor whose pass asks for each of the steps: that of a turn, and any of them where a message moves or is
-/// served.
+/// The processor whose pass asks for each of the steps: for a turn its own, and for a move or a service any.
 static ASKERS: [u8; 18] = [0, 1, 2, 3, 3, 2, 1, 0, 0, 1, 2, 3, 0, 1, 0, 1, 2, 3];
 
 /// Asks for a step with a pass.
@@ -35,7 +34,7 @@ fn ask<N: Run, R: Wait>(
     }
 }
 
-/// Asks for a step with the pass of a processor, which is to be answered so.
+/// Asks for a step with the pass of a processor, and checks its outcome.
 fn ask_as<N: Run, R: Wait + Abort>(
     rt: &R,
     shared: &Shared<N>,
@@ -58,7 +57,7 @@ fn ask_as<N: Run, R: Wait + Abort>(
     Ok(())
 }
 
-/// Asks for the steps of the adds from one place to another, each with a pass, which is answered what the step does.
+/// Asks for the steps of the adds from one place to another, each with the pass of its asker, and checks the outcomes.
 fn ask_all<N: Run, R: Wait + Abort>(
     rt: &R,
     shared: &Shared<N>,
@@ -76,7 +75,7 @@ fn ask_all<N: Run, R: Wait + Abort>(
     Ok(())
 }
 
-/// The last answer of pass 0 was to this step, so, and at this place.
+/// Checks the step, the outcome and the place of the last answer to pass 0.
 fn last_is<N: Run>(rt: &impl Abort, passes: &[Pass<N>], step: Step, outcome: Outcome, place: u32) {
     let last = match passes.first() {
         Some(pass) => pass.last(),
@@ -90,8 +89,8 @@ fn last_is<N: Run>(rt: &impl Abort, passes: &[Pass<N>], step: Step, outcome: Out
     assert_same!(rt; last, Some(wanted), step);
 }
 
-/// Asks for all steps, and then for a move of a message that stands nowhere. The pokes are nine steps, so the first
-/// turn has place 9, and that by which processor 0 retires place 9 + 14.
+/// Asks for all steps, and then for a move of a message that is not there. The pokes are nine steps, so the first turn
+/// has place 9, and the turn in which processor 0 retires has place 9 + 14.
 fn ask_for_adds<N: Run, R: Wait + Abort>(
     rt: &R,
     shared: &Shared<N>,
@@ -108,7 +107,7 @@ fn ask_for_adds<N: Run, R: Wait + Abort>(
     Ok(())
 }
 
-/// The log has the pokes, and after them the steps of the adds.
+/// Checks that the log has the pokes, and after them the steps of the adds.
 fn assert_entered(rt: &impl Abort, alloc: Global, steps: &[Step]) {
     let (before, behind) = steps.split_at(steps.len().min(9));
     let pokes = add_pokes(alloc, 10, &FOUR_ADDENDS).expect(rt, "memory");
@@ -116,10 +115,10 @@ fn assert_entered(rt: &impl Abort, alloc: Global, steps: &[Step]) {
     assert_same!(rt; behind, COMBINED_ADDS.as_slice());
 }
 
-/// Of each pass its processor, the place of the retirement, and how many steps it has entered.
+/// For each pass its processor, the place of its retirement, and how many steps it entered.
 static ENDS: [(u8, u32, u32); 4] = [(0, 23, 5), (1, 24, 5), (2, 25, 4), (3, 26, 4)];
 
-/// The passes are as many, and each has ended so.
+/// Checks that the passes have ended as [`ENDS`] says.
 fn assert_ended<N: Run>(rt: &impl Abort, passes: &[Pass<N>]) {
     assert_same!(rt; passes.len(), ENDS.len());
     for (pass, end) in passes.iter().zip(ENDS) {

@@ -12,7 +12,7 @@ use std::test::Fail;
 use steps::{Outcome, Step};
 use test_support::{HUNDRED_ADDS, assert_same, lend, log_of, size};
 
-/// Steps that are none of the network of two processors.
+/// Steps that the network of two processors does not have.
 static UNNAMED: [Step; 4] = [
     Step::Serve(2),
     Step::Up { stage: 1, wire: 0 },
@@ -20,7 +20,7 @@ static UNNAMED: [Step; 4] = [
     Step::Turn(0),
 ];
 
-/// What a pass stores, but for the notices, of which it is the number.
+/// What a pass stores, and of its events the number.
 fn stored<N: Run>(pass: &Pass<N>) -> (usize, u32, Option<Answer>, bool) {
     (
         pass.pass_events().len(),
@@ -30,7 +30,7 @@ fn stored<N: Run>(pass: &Pass<N>) -> (usize, u32, Option<Answer>, bool) {
     )
 }
 
-/// Each of those steps is refused by this, and leaves the pass as it was.
+/// Checks that each of these steps is refused, and leaves the pass as it was.
 pub(super) fn refuses_unnamed<N: Run, R: Wait + Abort>(
     rt: &R,
     shared: &Shared<N>,
@@ -43,7 +43,7 @@ pub(super) fn refuses_unnamed<N: Run, R: Wait + Abort>(
     assert_same!(rt; stored(pass), before);
 }
 
-/// A loan for this many instructions is refused by this, and leaves the pass as it was.
+/// Checks that a loan for this many instructions has this refusal, and leaves the pass as it was.
 pub(super) fn refuses_to_lend<N: Run, R: Wait + Abort>(
     rt: &R,
     alloc: Global,
@@ -61,7 +61,7 @@ pub(super) fn refuses_to_lend<N: Run, R: Wait + Abort>(
     assert_same!(rt; stored(pass), before);
 }
 
-/// A turn and a step of the network find the log full, and leave the pass as it was.
+/// Checks that a turn and a step of the network find the log full, and leave the pass as it was.
 pub(super) fn finds_it_full<N: Run, R: Wait + Abort>(
     rt: &R,
     shared: &Shared<N>,
@@ -73,7 +73,7 @@ pub(super) fn finds_it_full<N: Run, R: Wait + Abort>(
     assert_same!(rt; stored(pass), before);
 }
 
-/// An answer, or that there is no memory: then the pass is as it was.
+/// The outcome of a turn. If there is no memory for it, the pass has to be as it was.
 fn answered<N: Run, R: Wait + Abort>(
     rt: &R,
     shared: &Shared<N>,
@@ -90,7 +90,7 @@ fn answered<N: Run, R: Wait + Abort>(
     }
 }
 
-/// Takes turns of the first pass until it has sent a request, and asks for what is refused.
+/// Takes turns of the first pass until it has sent a request, and makes calls that are refused.
 pub(super) fn refuse_without_memory<N: Run, R: Wait + Abort>(
     rt: &R,
     alloc: Global,
@@ -122,8 +122,8 @@ pub(super) fn refuse_without_memory<N: Run, R: Wait + Abort>(
     })
 }
 
-/// What the machine has not, or has away, is refused by that, whether there is memory or none. Each allocation of this
-/// test is to be refused in turn.
+/// A step that the machine does not have, or the loan of a core that is away or waits, has its own refusal, even if
+/// memory runs out: `tests/cli/memory.sh` refuses each request of this test for memory in turn.
 #[test]
 fn in_order_or_short_of_memory(rt: HostRuntime) -> Result<(), Fail> {
     let logged = log_of(rt.alloc(), HUNDRED_ADDS, size(1))?;

@@ -1,4 +1,4 @@
-//! Programs on threads. Images are those of texts that are assembled; what is expected is worked out by hand.
+//! Programs on threads. The images are assembled from texts, and what is expected is worked out by hand.
 
 ghost use Rattle.std.specs.Prelude.{◌≡◌, ◌^◌, IfOk, vec_len};
 
@@ -35,16 +35,16 @@ fn arbiters<A: Drop, F: Fn(u8) -> A>(
     Ok(arbiters)
 }
 
-/// What tests look at once a run has ended.
+/// What tests look at after a run.
 #[derive(Drop)]
 pub(super) struct Seen {
     pub(super) logged: Logged,
     pub(super) fault: Option<RunFault>,
-    /// Those of the processors' threads, and of the one that listens.
+    /// The fault of each processor's thread, and of the listener.
     pub(super) faults: Vec<Option<RunFault>>,
     pub(super) listener: Option<RunFault>,
     pub(super) consoles: Vec<Vec<u8>>,
-    /// How many instructions each processor has retired, as its pass has them.
+    /// How many instructions each processor retired, by its pass.
     pub(super) retired: Vec<usize>,
 }
 
@@ -78,7 +78,7 @@ fn run<N: Run + Send + Sync, A: Arbiter + Send + Drop, G: Gate + Sync, R: Thread
     })
 }
 
-/// How many instructions a processor has retired, as its pass has them.
+/// How many instructions a processor retired, by its pass.
 fn retired_by<N: Run>(pass: &Pass<N>) -> usize {
     let pass_events = pass.pass_events();
     pass_events
@@ -102,7 +102,7 @@ pub(super) fn run_text<
     run::<Brand, A, G, R>(rt, (alloc, gate, budget), room, logged, arbiters)
 }
 
-/// The arbiter of a processor, in a run that begins with 1.
+/// The arbiter of a processor, in a run whose start is 1.
 pub(super) fn shuffled(p: u8) -> Shuffled {
     Shuffled::new(1, p)
 }
@@ -110,7 +110,7 @@ pub(super) fn shuffled(p: u8) -> Shuffled {
 /// A budget that no program here uses up, unless a thread cannot go on.
 const AMPLE: u32 = 10_000_000;
 
-/// Each of two processors has retired its 311 instructions, and the word has all adds.
+/// Checks that each of two processors retired its 311 instructions, and that the word has all adds.
 fn have_added(rt: &impl Abort, seen: &Seen) {
     assert_same!(rt; seen.fault, None);
     assert_same!(rt; seen.faults.as_slice(), [None, None].as_slice());
@@ -151,7 +151,7 @@ loop: ecall
  ecall
 ";
 
-/// None of them is lost.
+/// None of the 300 bytes is lost.
 #[test]
 fn more_bytes_than_a_queue_holds(rt: HostRuntime) -> Result<(), Fail> {
     lend(
@@ -169,17 +169,17 @@ fn more_bytes_than_a_queue_holds(rt: HostRuntime) -> Result<(), Fail> {
     Ok(())
 }
 
-/// Holds the first turn of processor 1 back until that of processor 0 is about to be taken, and this one until
-/// processor 1 is about to take its second. So no thread can take all turns, one after another, and none can come to
-/// the gate with the lock in its hand.
+/// Holds back the first turn of processor 1 until processor 0 is about to take its first, and that turn until processor
+/// 1 is about to take its second. So no thread can take all turns one after another, and none can come to the gate
+/// while it holds the lock.
 #[derive(Drop)]
 struct Turnstile<'a, C: Clock> {
     clock: &'a C,
-    /// Not 0 once processor 0 is about to take its first turn.
+    /// Not 0 after processor 0 has come to the gate for its first turn.
     begun: AtomicU64,
-    /// Not 0 once processor 1 is about to take its second turn, with its first after it.
+    /// Not 0 after processor 1 has taken its first turn and come to the gate for its second.
     answered: AtomicU64,
-    /// Not 0 once a wait was too long.
+    /// Not 0 after a wait that was too long.
     gave_up: AtomicU64,
 }
 
@@ -211,7 +211,7 @@ impl<C: Clock> Gate for Turnstile<'_, C> {
 }
 
 /// Two threads run side by side: neither order in which one thread would run both processors gets through the gate.
-/// Both flags are up after it, so the gate was reported of each turn that it waits for.
+/// Both flags are up at the end, so the gate was called before each turn that it waits for.
 #[test]
 fn side_by_side(rt: HostRuntime) -> Result<(), Fail> {
     let gate = Turnstile {

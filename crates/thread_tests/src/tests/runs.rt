@@ -1,5 +1,5 @@
-//! Runs on threads, from the bytes of files to the bytes of a report. Images are those of texts that are assembled;
-//! what is expected is worked out by hand, and is the same for any threads do.
+//! Runs on threads, from the bytes of files to the bytes of a report. The images are assembled from texts. What is
+//! expected is worked out by hand, and is the same whatever the threads do.
 
 mod ends;
 mod reports;
@@ -16,17 +16,17 @@ use trace_commands::replay_command;
 /// A budget that no program here uses up, unless a thread cannot go on.
 const AMPLE: u32 = 10_000_000;
 
-/// What a command comes to.
+/// The exit status of a command, and what it wrote.
 #[derive(Drop)]
 struct Ran {
     status: u8,
     out: Vec<u8>,
     err: Vec<u8>,
-    /// The trace, where one was asked for.
+    /// The trace, if one was asked for.
     trace: Vec<u8>,
 }
 
-/// Runs an image from 1 on, with a trace.
+/// Runs an image with start 1, and with a trace.
 fn run<R: Threads + Wait + Sync>(
     rt: &R,
     alloc: Global,
@@ -37,7 +37,7 @@ fn run<R: Threads + Wait + Sync>(
     run_from(rt, alloc, &Open, 1, image, config, budget)
 }
 
-/// Runs an image from this number on, by this gate, with a trace.
+/// Runs an image with this start and this gate, and with a trace.
 fn run_from<G: Gate + Sync, R: Threads + Wait + Sync>(
     rt: &R,
     alloc: Global,

@@ -1,5 +1,5 @@
-//! Arbiters that name a place which the machine has not. The program is that of the other rounds; what is expected is
-//! worked out by hand.
+//! Arbiters that name a place that the machine does not have. The program is that of the other rounds, and what is
+//! expected is worked out by hand.
 
 ghost use Rattle.std.specs.Prelude.{◌≤◌};
 
@@ -10,7 +10,7 @@ use std::test::Fail;
 use steps::Step;
 use test_support::{HUNDRED_ADDS, assert_same, lend};
 
-/// Always asks for the service of a module that no machine has.
+/// Always names the service of a module that no machine has.
 #[derive(Drop)]
 struct Stray;
 
@@ -22,8 +22,8 @@ impl Arbiter for Stray {
     }
 }
 
-/// No reference gets on: each of two processors retires what stands before its first, sends that, and uses its budget
-/// up. Both passes come back. A drain then brings both references home, with four moves each.
+/// No request moves: each of two processors retires the three instructions before its first reference, sends its
+/// request, and uses up its budget. Both passes come back. A drain then brings both references home in four steps each.
 #[test]
 fn no_place_of_the_machine(rt: HostRuntime) -> Result<(), Fail> {
     let seen = run_text(&rt, rt.alloc(), HUNDRED_ADDS, 1, |_| Stray, &Open, 1000)?;

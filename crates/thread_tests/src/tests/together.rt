@@ -1,5 +1,4 @@
-//! Rounds of one processor with no other thread's step between them: how many there are, and what the last of them
-//! answers.
+//! Rounds of one processor with no other thread's step between them: how many there are, and the answer of the last.
 
 use super::trials::{Trial, attempt};
 use machine_lock::{Pass, Round, Rounds, Run, Shared};
@@ -14,7 +13,7 @@ use test_support::{assert_same, lend, log_of, size};
 /// A processor that adds to a shared word, and then halts.
 const ADDS: &str = "lui x12, 0x80000\namoadd.w x10, x11, (x12)\naddi x17, x0, 0\necall\n";
 
-/// The way of its request and of the reply, on a machine of two processors, and a service at a module to which no
+/// The steps of its request and of the reply on a machine of two processors, and a service at a module to which no
 /// request comes.
 static WAY: [Step; 4] = [
     Step::Up { stage: 0, wire: 0 },
@@ -23,7 +22,7 @@ static WAY: [Step; 4] = [
     Step::Serve(1),
 ];
 
-/// Rounds of which the last waits, and its step of the network was answered so.
+/// Rounds of which the last waits, with this answer to its step of the network.
 const fn waits(gone: usize, idle: usize, net: Result<Outcome, LockRefusal>) -> Rounds {
     Rounds {
         gone,
@@ -35,7 +34,7 @@ const fn waits(gone: usize, idle: usize, net: Result<Outcome, LockRefusal>) -> R
     }
 }
 
-/// There were this many rounds, of which this many found nothing, and the turn of the last has retired an instruction.
+/// Checks that there were this many rounds, that this many did nothing, and that the last retired an instruction.
 fn assert_retired(rt: &impl Abort, rounds: &Rounds, gone: usize, idle: usize) {
     assert_same!(rt; (rounds.gone, rounds.idle), (gone, idle));
     assert!(rt;
@@ -55,7 +54,7 @@ fn first_of<N: Run>(rt: &impl Abort, mut passes: Vec<Pass<N>>) -> Pass<N> {
     passes.pop().expect(rt, "a pass")
 }
 
-/// Rounds by turns alone.
+/// Rounds without a loan before them.
 pub(super) fn turn_by_turn<N: Run, R: Wait + Abort>(
     rt: &R,
     shared: Shared<N>,
@@ -74,15 +73,15 @@ pub(super) fn turn_by_turn<N: Run, R: Wait + Abort>(
     })
 }
 
-/// An instruction that retires ends them, and so does a step that the machine has not, or that no other is left. Else
-/// they go on, from the turn that begins a reference to that which takes the reply.
+/// Rounds end with an instruction that retires, with a step that the machine does not have, or after the last step of
+/// the list. Otherwise they go on from the turn that begins a reference to the one that takes the reply.
 #[test]
 fn until_the_reply_comes(rt: HostRuntime) -> Result<(), Fail> {
     let logged = log_of(rt.alloc(), ADDS, size(1))?;
     attempt(&rt, rt.alloc(), logged, Trial::TurnByTurn)
 }
 
-/// Rounds after a loan.
+/// Takes a loan, ends it, and takes the rounds after it.
 fn end_a_loan<N: Run, R: Wait + Abort>(
     rt: &R,
     alloc: Global,

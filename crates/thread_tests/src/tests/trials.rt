@@ -1,4 +1,4 @@
-//! What is tried on one thread with the passes of a machine's processors, and with what they share.
+//! Trials on one thread, with the passes of a machine's processors and what they share.
 
 ghost use Rattle.std.specs.Prelude.{◌≡◌, ◌^◌};
 
@@ -15,7 +15,7 @@ use std::process::Abort;
 use std::sync::Wait;
 use std::test::Fail;
 
-/// What is tried.
+/// A trial.
 #[derive(Clone, Copy, Drop)]
 pub(super) enum Trial {
     FourAdds,
@@ -28,7 +28,7 @@ pub(super) enum Trial {
     BehindALoan,
 }
 
-/// Tries it with the passes of this log.
+/// Makes the trial with the passes of this log, in this table.
 fn go<N: Run, R: Wait + Abort>(
     rt: &R,
     alloc: Global,
@@ -57,7 +57,7 @@ fn go<N: Run, R: Wait + Abort>(
     }
 }
 
-/// Tries it with the passes of a log that is just made.
+/// Makes the trial with the passes of this log, in a new table.
 pub(super) fn attempt<R: Wait + Abort>(
     rt: &R,
     alloc: Global,

@@ -1,4 +1,4 @@
-//! Sessions that are saved: what their traces replay to is what they showed.
+//! Sessions that are saved: their traces replay to what they showed.
 
 use super::{LoopbackPort, open_door};
 use debug_session::{SessionEnd, Sweep, debug_command, serve};
@@ -9,12 +9,11 @@ use std::test::Fail;
 use test_support::{EBREAK, Sink, assert_same, lend, log_of, size};
 use trace_commands::replay_command;
 
-/// Lines that write a byte and a `pc` from outside, and step into the `ebreak`; and then what shows this.
+/// Lines that poke a byte and a `pc`, step into the `ebreak`, and then show all this.
 const LINES: &[u8] =
     b"write 0 80000004 2a\nset 1 20 10004\nstep 3\nmem 0 80000004 4\nreg 1 20\nstate 3\n";
 
-/// The trace of these lines: the header of a machine of four processors, two writes from outside, and a turn of
-/// processor 3.
+/// The trace of these lines: the header of a machine of four processors, two pokes, and a turn of processor 3.
 const TRACE: [u8; 48] = [
     0x55, 0x4C, 0x54, 0x52, 1, 2, 4, 4, 3, 0, 0, 0, //
     7, 0, 0, 0, 4, 0, 0, 0x80, 0x2A, 0, 0, 0, //
@@ -22,10 +21,10 @@ const TRACE: [u8; 48] = [
     1, 3, 0, 0, 0, 0, 0, 0, 0, 0, 0, 0,
 ];
 
-/// What a session shows that these lines are sent to.
+/// The replies to these lines.
 const REPLIES: &[u8] = b"ok\nok\nat 3\n2a000000\n00010004\nfault 8\n";
 
-/// The same, as a report has it.
+/// The report on the machine after these lines.
 const REPORT: &str = "\
 processor 0 pc 00010000 run retired 0 console -
 processor 1 pc 00010004 run retired 0 console -
@@ -34,8 +33,8 @@ processor 3 pc 00010000 fault 8 retired 0 console -
 word 1 0000002a
 ";
 
-/// The exit status of a session of four processors at this door, what standard error is reported, and what is written
-/// of its trace. The call of this number to its writer fails.
+/// The exit status of a session of four processors at this port, what it writes to standard error, and what it writes
+/// of its trace, whose writer fails at this call.
 fn saved(
     rt: &(impl Wait + AllocGlobal),
     image: &'static [u8],
@@ -88,8 +87,8 @@ fn replays_to_what_was_shown(rt: HostRuntime) -> Result<(), Fail> {
     Ok(())
 }
 
-/// However a session ends, its trace has the lines that were carried out. The reader fails after the last of them, and
-/// the writer at the reply to the fourth, the first that shows something.
+/// However a session ends, its trace has the steps of the lines that were carried out. The reader fails after the last
+/// line, and the writer at the reply to the fourth, after all lines that take steps.
 #[test]
 fn sessions_are_saved(rt: HostRuntime) {
     for (read_fails_at, write_fails_at, status, reported) in [
@@ -109,8 +108,8 @@ fn sessions_are_saved(rt: HostRuntime) {
     }
 }
 
-/// Wherever the trace's writer fails, that is reported in place of how the session ended, and what was written before
-/// stays.
+/// Wherever the trace's writer fails, that is reported in place of how the session ended, and the bytes before the
+/// failure stay.
 #[test]
 fn traces_fail(rt: HostRuntime) {
     for read_fails_at in [0, LINES.len() + 1] {
@@ -127,8 +126,8 @@ fn traces_fail(rt: HostRuntime) {
     }
 }
 
-/// Without a session nothing is written; what comes after `quit` is not carried out, and a session that does nothing
-/// has an empty trace.
+/// Without a session no trace is written. Lines after `quit` are not carried out, and the trace of a session without
+/// steps is its header.
 #[test]
 fn nothing_is_saved(rt: HostRuntime) {
     for (image, is_shut, written, reported) in [

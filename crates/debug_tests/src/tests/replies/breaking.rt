@@ -3,7 +3,7 @@
 use debug_replies::Breaks;
 use test_support::{assert_same, lend};
 
-/// Addresses, and whether each is that of a code word: in code and divisible by 4.
+/// Addresses, each with whether it is that of a code word: in code and divisible by 4.
 static ADDRESSES: [(u32, bool); 14] = [
     (0, false),
     (0x0000_FFFC, false),
@@ -21,7 +21,7 @@ static ADDRESSES: [(u32, bool); 14] = [
     (0xFFFF_FFFC, false),
 ];
 
-/// A break is set and cleared at a code word alone, also where it is there and where it is not.
+/// A break can be set and cleared only at a code word, whether there is one already or not.
 #[test]
 fn breaks_at_the_limits(rt: HostRuntime) {
     for (address, is_code_word) in ADDRESSES.iter().copied() {
@@ -39,7 +39,7 @@ fn breaks_at_the_limits(rt: HostRuntime) {
     }
 }
 
-/// Each break is one of its own.
+/// To clear one break leaves the others.
 #[test]
 fn breaks_apart(rt: HostRuntime) {
     lend(Breaks::new(), |breaks| {

@@ -1,4 +1,4 @@
-//! The error of each command, the smallest number first.
+//! The errors of commands: of several, the one with the smallest number.
 
 use super::two;
 use debug_lines::Command;
@@ -6,7 +6,7 @@ use debug_replies::{Error, error_of};
 use std::test::Fail;
 use test_support::{assert_same, lend};
 
-/// Each line, and the error that it has on a machine of two processors with two shared words.
+/// Lines, each with its error on a machine of two processors with two shared words.
 const ERRORS: &str = "\
 stat 0: E01
 : E01
@@ -84,7 +84,7 @@ fn errors(rt: HostRuntime) -> Result<(), Fail> {
     })
 }
 
-/// The errors that no machine has, but its log.
+/// The errors that depend not on the machine, but on room in its log and on memory.
 #[test]
 fn texts(rt: HostRuntime) {
     assert_same!(rt; Error::Room.text(), "E05");

@@ -11,8 +11,8 @@ use std::process::Abort;
 use std::test::Fail;
 use test_support::{assert_same, lend};
 
-/// Each line, and what it shows of a machine of two processors. Processor 0 has stopped at `ebreak`; processor 1 runs,
-/// and was written to.
+/// Lines, each with what it shows of a machine of two processors. Processor 0 stopped at `ebreak`, and processor 1 runs
+/// after pokes.
 const REPLIES: &str = "\
 state 0: fault 8
 state 1: run
@@ -45,7 +45,7 @@ cont:
 step: 
 ";
 
-/// What a command shows, in place of what the text had.
+/// What a command shows, which replaces the text before it.
 fn shown(machine: &Machine, line: &str) -> ArrayVec<u8, 1024> {
     let mut text = ArrayVec::new();
     let _ = text.try_extend_from_slice(b"before");
@@ -55,7 +55,7 @@ fn shown(machine: &Machine, line: &str) -> ArrayVec<u8, 1024> {
     text
 }
 
-/// What is written to processor 1 and to shared memory.
+/// Pokes of processor 1 and of shared memory.
 static WRITTEN: [Poke; 6] = [
     Poke::Register {
         processor: 1,
@@ -87,7 +87,7 @@ static WRITTEN: [Poke; 6] = [
     },
 ];
 
-/// A machine of which each of two processors shows something else.
+/// A machine whose two processors show different things.
 fn written(rt: &(impl Abort + AllocGlobal)) -> Result<Machine, Fail> {
     let mut machine = two(rt.alloc())?;
     for written in &WRITTEN {

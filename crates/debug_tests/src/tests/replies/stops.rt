@@ -9,7 +9,7 @@ use std::process::Abort;
 use std::test::Fail;
 use test_support::{assert_same, lend};
 
-/// The stop reply of a machine that names this processor is this text, in place of what stood there.
+/// Checks the stop reply that names this processor, which replaces the text before it.
 fn shows(rt: &impl Abort, machine: &Machine, named: Option<u8>, reply: &str) {
     let mut text = ArrayVec::<u8, 1024>::new();
     let _ = text.try_extend_from_slice(b"before");
@@ -19,7 +19,7 @@ fn shows(rt: &impl Abort, machine: &Machine, named: Option<u8>, reply: &str) {
     assert_same!(rt; text.as_slice(), reply.as_bytes(), named);
 }
 
-/// Which processor is named, on a machine none of whose cores is away.
+/// The processor that is named, on a machine none of whose cores is away.
 fn named(rt: &impl Abort, machine: &Machine, breaks: &Breaks, before: &Faults) -> Option<u8> {
     assert!(rt; machine.are_home());
     named_stop(machine, breaks, before)
@@ -31,7 +31,7 @@ fn faults_of(rt: &impl Abort, machine: &Machine) -> Faults {
     Faults::of(machine)
 }
 
-/// Processors, or none, and how they are named: in hex without leading zeros.
+/// Processors, or none, each with its stop reply: in hex without leading zeros.
 static NAMES: [(Option<u8>, &str); 8] = [
     (None, "at -"),
     (Some(0), "at 0"),
@@ -53,7 +53,8 @@ fn names(rt: HostRuntime) -> Result<(), Fail> {
     Ok(())
 }
 
-/// `halted` is reported once all processors are: the word at 0x00010008 is an `ecall`, which halts where `a7` is 0.
+/// `halted` is reported after all processors have halted: the word at 0x00010008 is an `ecall`, which halts if `a7` is
+/// 0.
 #[test]
 fn halts(rt: HostRuntime) -> Result<(), Fail> {
     lend(two(rt.alloc())?, |machine| {
@@ -71,7 +72,7 @@ fn halts(rt: HostRuntime) -> Result<(), Fail> {
     Ok(())
 }
 
-/// A processor that a fault has stopped is not halted.
+/// A processor that a fault stopped has not halted.
 #[test]
 fn faulted_is_not_halted(rt: HostRuntime) -> Result<(), Fail> {
     lend(two(rt.alloc())?, |machine| {
@@ -83,8 +84,8 @@ fn faulted_is_not_halted(rt: HostRuntime) -> Result<(), Fail> {
     Ok(())
 }
 
-/// A processor that runs at a break is named before one that a fault has stopped, the smallest of either, and one that
-/// a fault had stopped before is not named.
+/// A processor that runs at a break is named rather than one that a fault stopped, and the smallest if there are
+/// several. One that a fault stopped before the run is not named.
 #[test]
 fn named_after_a_run(rt: HostRuntime) -> Result<(), Fail> {
     lend((two(rt.alloc())?, Breaks::new()), |(machine, breaks)| {

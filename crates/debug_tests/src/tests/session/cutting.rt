@@ -12,7 +12,7 @@ use std::sync::Wait;
 use std::test::Fail;
 use test_support::{Source, assert_same, enter_adds, lend, log_of, prepared, size};
 
-/// Gives a first part of its bytes, and at the next call the others.
+/// Gives the first part of its bytes, and at the next call the rest.
 #[derive(Drop)]
 struct Parts<'a> {
     first: &'a [u8],
@@ -33,7 +33,7 @@ impl<'a> Read for Parts<'a> {
     }
 }
 
-/// The four adders, whose references are combined and all retired: word 0 is 25.
+/// The log of the four adders after their references have combined and retired: word 0 is 25.
 fn added(alloc: Global) -> Result<Logged, Fail> {
     prepared(adders(alloc)?, |log| {
         enter_adds(log, 11)?;
@@ -42,7 +42,7 @@ fn added(alloc: Global) -> Result<Logged, Fail> {
     })
 }
 
-/// What a session on this log writes that reads from this device, to the end of its input.
+/// What a session on this log writes that reads this device to its end.
 fn written<R: Read + Drop>(
     rt: &(impl Wait + Abort + AllocGlobal),
     log: Logged,
@@ -69,7 +69,7 @@ fn in_two_parts(rt: HostRuntime) -> Result<(), Fail> {
     Ok(())
 }
 
-/// So are the replies of a session with a break, also where each read gives one byte.
+/// So are the replies of a session with a break, even if each read gives one byte.
 #[test]
 fn stops_in_two_parts(rt: HostRuntime) -> Result<(), Fail> {
     let input = b"break 10004\ncont\nreg 0 20\ncont\n";

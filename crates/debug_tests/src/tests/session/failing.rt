@@ -8,14 +8,14 @@ use std::process::Abort;
 use std::test::Fail;
 use test_support::{Sink, Source, assert_same, lend, log_of, size};
 
-/// A log after a session: the session ended so, the word is this, and no reference is open.
+/// Checks how a session ended, the value of word 0 after it, and that no reference is open.
 fn is_left(rt: &impl Abort, log: &Logged, ends: (SessionEnd, SessionEnd), word: u32, call: usize) {
     assert_same!(rt; ends.0, ends.1, call);
     assert_same!(rt; log.machine().word(0), Some(word), call);
     assert!(rt; log.machine().is_idle());
 }
 
-/// Where the reader fails, the lines are answered that were whole before.
+/// If the reader fails, the lines that were whole before are answered.
 #[test]
 fn fails_at_each_read(rt: HostRuntime) -> Result<(), Fail> {
     let input = b"write 0 80000000 2a000000\n";
@@ -39,7 +39,7 @@ fn fails_at_each_read(rt: HostRuntime) -> Result<(), Fail> {
     Ok(())
 }
 
-/// Where the writer fails, the line whose reply it was is carried out, and none after it.
+/// If the writer fails, the line whose reply was written is carried out, and none after it.
 #[test]
 fn fails_at_each_write(rt: HostRuntime) -> Result<(), Fail> {
     let input = b"write 0 80000000 2a000000\nwrite 0 80000000 2b000000\n".as_slice();

@@ -1,5 +1,5 @@
-//! Each allocation of this test is to be refused in turn. Then there is no session, or the command that asked for the
-//! memory is answered `E06`, and all others as with ample memory.
+//! `tests/cli/memory.sh` refuses each request of this test for memory in turn. Then there is no session, or the command
+//! that needs the memory is answered `E06`, and all others as with ample memory.
 
 use super::{BUDGET, THREE};
 use debug_session::{SessionEnd, Sweep, serve};
@@ -10,10 +10,10 @@ use std::process::Abort;
 use std::test::Fail;
 use test_support::{Sink, assert_same, lend, log_of, size};
 
-/// Commands that ask for steps, and one that asks for none.
+/// Commands that take steps, and one that takes none.
 const INPUT: &[u8] = b"write 0 20000 0102030405060708\nstep 0\ncont\nquit\n";
 
-/// Whether the reply says that the command was carried out, as this one does. Else it says that there was no memory.
+/// Whether the reply is this one, of a command that was carried out. Otherwise it has to report that memory ran out.
 fn is_done(rt: &impl Abort, reply: &str, wanted: &str) -> bool {
     if reply == "E06" {
         return false;
@@ -22,7 +22,7 @@ fn is_done(rt: &impl Abort, reply: &str, wanted: &str) -> bool {
     true
 }
 
-/// The machine and its log stand as these replies say.
+/// Checks that the machine and its log are as these replies say.
 fn is_left(rt: &impl Abort, log: &Logged, replies: &str) {
     let mut lines = replies.lines();
     let has_written = is_done(rt, lines.next().unwrap_or(""), "ok");
@@ -31,7 +31,7 @@ fn is_left(rt: &impl Abort, log: &Logged, replies: &str) {
     assert!(rt; is_done(rt, lines.next().unwrap_or(""), "ok"));
     assert!(rt; lines.next().is_none());
     let (written, byte) = if has_written { (8_usize, 8) } else { (0, 0) };
-    // Of three instructions, one is taken by `step`, and those that are left by `cont`.
+    // Of three instructions, `step` takes one, and `cont` takes the rest.
     let taken = match (has_stepped, has_gone_on) {
         (_, true) => 3,
         (true, false) => 1,
@@ -50,7 +50,7 @@ fn is_left(rt: &impl Abort, log: &Logged, replies: &str) {
     assert!(rt; machine.is_idle());
 }
 
-/// A session without memory for its beginning has read nothing, and changed nothing.
+/// A session that runs out of memory at its beginning reads nothing, and changes nothing.
 #[test]
 fn serve_is_short_of_memory(rt: HostRuntime) -> Result<(), Fail> {
     lend(log_of(rt.alloc(), THREE, size(0))?, |log| {

@@ -6,14 +6,14 @@ use std::alloc::{AllocError, Global};
 use std::test::Fail;
 use test_support::{assert_same, enter_adds, lend, log_of, size};
 
-/// A session on a new machine of four processors, or of one, with its replies.
+/// Sessions, each on a new machine of four processors, with their replies.
 static FOUR: &[(&str, &str)] = &[
     // The reference is at address 0, where there is no memory.
     (
         "step 0\nstate 0\nstate 3\nstate 4\n",
         "at 0\nfault 5\nrun\nE03\n",
     ),
-    // A processor that is stopped takes no instruction.
+    // A processor that has stopped takes no instruction.
     (
         "step 1\nstep 1\nregs 4\nstate 1\n",
         "at 1\nat 1\nE03\nfault 5\n",
@@ -28,22 +28,22 @@ static FOUR: &[(&str, &str)] = &[
         "set 0 0 7\nreg 0 0\nset 3 20 10004\nreg 3 20\n",
         "ok\n00000000\nok\n00010004\n",
     ),
-    // Two shared words, which all see, and local memory, which its processor sees alone.
+    // Two shared words, which all processors see, and local memory, which only its own processor sees.
     (
         "write 0 80000002 01020304\nmem 3 80000000 8\nwrite 1 20000 Ab\nmem 1 20000 2\nmem 0 20000 2\n",
         "ok\n0000010203040000\nok\nab00\n0000\n",
     ),
-    // Shared memory has 1,024 words. Code is not written.
+    // Shared memory has 1,024 words. Code cannot be written.
     (
         "write 0 80000ffe 010203\nwrite 0 80000ffe 0102\nmem 0 80000ffe 2\nwrite 0 1fffe 010203\nmem 0 10000 4\n",
         "E02\nok\n0102\nE02\n2f25b600\n",
     ),
-    // The smallest number is reported: an address before a processor.
+    // Of several errors the one with the smallest number is reported: an address before a processor.
     (
         "mem 4 0 1\nset 4 21 1\nset 3 21 1\nbreak 10002\nclear 20000\n",
         "E02\nE03\nE04\nE02\nE02\n",
     ),
-    // A line that is no command, in the cases of words and numbers.
+    // Lines that are no commands. A word has to be in lower case, and a number need not be.
     (
         "state 0\r\nSTATE 0\nstate  0\n\nreg 0 1F\n",
         "E01\nE01\nE01\nE01\n00000000\n",
@@ -63,7 +63,7 @@ fn replies_of_four(rt: HostRuntime) -> Result<(), Fail> {
     Ok(())
 }
 
-/// Breaks that are set and cleared, and where `cont` stops.
+/// Sessions, each on a new machine of one processor: breaks that are set and cleared, and where `cont` stops.
 static ONE: &[(&str, &str)] = &[
     (
         "break 10004\ncont\nreg 0 20\ncont\nstate 0\n",
@@ -78,7 +78,7 @@ static ONE: &[(&str, &str)] = &[
         "step 0\nreg 0 1\nstep 0\nstep 0\nstep 0\n",
         "at 0\n00000001\nat 0\nhalted\nhalted\n",
     ),
-    // The processor that a fault stops is named; where `cont` begins none runs.
+    // The processor that a fault stops is named. If no processor runs when `cont` begins, none is named.
     (
         "set 0 20 20000\ncont\ncont\nstate 0\n",
         "ok\nat 0\nat -\nfault 2\n",
@@ -101,7 +101,7 @@ fn replies_of_one(rt: HostRuntime) -> Result<(), Fail> {
     Ok(())
 }
 
-/// With the budget used up no processor is named.
+/// If the budget is used up, no processor is named.
 #[test]
 fn used_up_budget(rt: HostRuntime) -> Result<(), Fail> {
     lend(
@@ -114,7 +114,7 @@ fn used_up_budget(rt: HostRuntime) -> Result<(), Fail> {
     Ok(())
 }
 
-/// The reply to `regs 0`: the word that an add has found, its addend, the word's address, and the place after it.
+/// The reply to `regs 0`: the word that an add found, its addend, the word's address, and the address after the add.
 fn registers(alloc: Global) -> Result<Vec<u8>, AllocError> {
     let mut reply = Vec::new(alloc);
     for register in 0..33u8 {
@@ -130,7 +130,8 @@ fn registers(alloc: Global) -> Result<Vec<u8>, AllocError> {
     Ok(reply)
 }
 
-/// A reference that is open when a session begins is brought to its end before a line is answered: six steps.
+/// A reference that is open when a session begins is completed before a line is answered: two moves up, a service, two
+/// moves down and a turn.
 #[test]
 fn answers_behind_the_drain(rt: HostRuntime) -> Result<(), Fail> {
     lend(adders(rt.alloc())?, |log| {
@@ -149,7 +150,7 @@ fn answers_behind_the_drain(rt: HostRuntime) -> Result<(), Fail> {
     })
 }
 
-/// A line: its start, and this many of a byte after that.
+/// A line: its start, and after that this many of a byte.
 fn line(alloc: Global, start: &str, byte: u8, count: usize) -> Result<Vec<u8>, AllocError> {
     let mut line = vec![in alloc; byte; count]?;
     line.push(b'\n')?;
@@ -158,7 +159,8 @@ fn line(alloc: Global, start: &str, byte: u8, count: usize) -> Result<Vec<u8>, A
     Ok(whole)
 }
 
-/// A line of 1,025 bytes is none, whatever it says; one of 1,024 may be: 504 bytes in digits after 16 bytes.
+/// A line of 1,025 bytes is malformed, whatever it says. One of 1,024 bytes may write 504 bytes: their digits come
+/// after 16 bytes.
 #[test]
 fn longest_lines(rt: HostRuntime) -> Result<(), Fail> {
     for (start, byte, count, output, steps) in [

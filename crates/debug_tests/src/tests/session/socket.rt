@@ -1,4 +1,4 @@
-//! Sessions over a connection, both ends of which are in this process.
+//! Sessions over a connection whose two ends are both in this process.
 
 use super::{BUDGET, THREE};
 use debug_session::{SessionEnd, Sweep, serve};
@@ -14,8 +14,8 @@ use std::sync::Wait;
 use std::test::Fail;
 use test_support::{assert_same, lend, log_of, size};
 
-/// The two ends of a connection to a port of this machine that is free: that of who debugs, and that of the session.
-/// The first is there before the other is accepted.
+/// The two ends of a connection to a free port of this machine: the debugger's and the session's. The debugger connects
+/// before the session accepts.
 fn both_ends<R: Net>(net: &R) -> io::Result<(R::Stream, R::Stream)> {
     let listener = TcpListener::bind(net, SocketAddr::from((Ipv4Addr::LOCALHOST, 0)))?;
     let theirs = TcpStream::connect(net, listener.local_addr()?)?;
@@ -23,9 +23,8 @@ fn both_ends<R: Net>(net: &R) -> io::Result<(R::Stream, R::Stream)> {
     Ok((theirs, ours))
 }
 
-/// How a session ends whose lines are all sent before it begins, and the replies that have come when it is over. These
-/// are few, so the connection holds them until they are read. Who debugs sends no more after the lines, and says so
-/// where it is to be known.
+/// How a session ends whose lines are all sent before it begins, and its replies, which are read after it. They are
+/// few, so the connection holds them until then. After the lines, the debugger may say that it sends no more.
 fn talk_over<R: Net + Wait + AllocGlobal>(
     rt: &R,
     log: &mut Logged,

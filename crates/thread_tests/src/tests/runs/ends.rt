@@ -1,4 +1,4 @@
-//! How runs end of which there is no report.
+//! Runs that end without a report.
 
 ghost use Rattle.std.specs.Prelude.{◌≡◌, false};
 
@@ -13,7 +13,7 @@ use std::process::Abort;
 use std::test::Fail;
 use test_support::{EBREAK, Sink, assert_same, image_of, size};
 
-/// Nothing is printed and no trace is written, and this is reported.
+/// Checks that nothing is printed, that no trace is written, and that this is reported.
 fn tells(rt: &impl Abort, ran: Ran, reported: &str, status: u8) {
     assert_same!(rt; ran.err.as_slice(), reported.as_bytes());
     assert_same!(rt; ran.out.len(), 0, reported);
@@ -21,13 +21,13 @@ fn tells(rt: &impl Abort, ran: Ran, reported: &str, status: u8) {
     assert_same!(rt; ran.status, status, reported);
 }
 
-/// This is printed, and the processor has halted.
+/// Checks that this is printed, and that the status is 0.
 fn halts(rt: &impl Abort, ran: Ran, report: &str) {
     assert_same!(rt; ran.out.as_slice(), report.as_bytes());
     assert_same!(rt; ran.status, 0);
 }
 
-/// This many instructions that add 1 to a register, and then a halt.
+/// The image of this many instructions that add 1 to a register, and then a halt.
 fn adds(alloc: Global, count: u32) -> Result<Vec<u8>, Fail> {
     let mut text = String::new(alloc);
     for _ in 0..count {
@@ -37,8 +37,8 @@ fn adds(alloc: Global, count: u32) -> Result<Vec<u8>, Fail> {
     image_of(alloc, text.as_str())
 }
 
-/// A round takes 64 instructions with the core on loan, and then a turn: so 64 and the halt are one round, and 65 and
-/// the halt two.
+/// A round takes 64 instructions with the core on loan, and then a turn: so 64 instructions and the halt are one round,
+/// and 65 and the halt are two.
 #[test]
 fn budget_that_is_just_enough(rt: HostRuntime) -> Result<(), Fail> {
     let just = adds(rt.alloc(), 64)?;
@@ -58,15 +58,15 @@ fn budget_that_is_just_enough(rt: HostRuntime) -> Result<(), Fail> {
     Ok(())
 }
 
-/// A gate that lets one round pass at a time: so each counts, also one that finds nothing.
+/// A gate that lets one round pass at a time, so that each counts, even one that does nothing.
 struct EachCounts;
 
 impl Gate for EachCounts {
     fn before(&self, _p: u8, _turn: u64) {}
 }
 
-/// The processor for which this branch is not taken adds 2 to word 0. The other halts in its first round, before it
-/// asks for a step.
+/// The image of a program in which the processor that does not take this branch adds 2 to word 0. The other halts in
+/// its first round, before it asks for a step.
 fn one_adds(alloc: Global, branch: &str) -> Result<Vec<u8>, Fail> {
     let mut text = String::new(alloc);
     write!(
@@ -84,9 +84,9 @@ fn one_adds(alloc: Global, branch: &str) -> Result<Vec<u8>, Fail> {
     image_of(alloc, text.as_str())
 }
 
-/// So it depends on the steps that the arbiter of one processor picks how many rounds a run takes: two more than it
-/// has picks up to the move of the reply, after that of the request and the service. A separate program has counted
-/// them, from the definition of the generator.
+/// The number of rounds depends on the steps that the arbiter of one processor picks: it is two more than the picks up
+/// to the move of the reply, which has to come after the move of the request and the service. A separate program
+/// counted them, from the definition of the generator.
 #[test]
 fn the_start_decides_the_steps(rt: HostRuntime) -> Result<(), Fail> {
     let alloc = rt.alloc();
@@ -145,14 +145,14 @@ fn refuses_an_image_and_a_size(rt: HostRuntime) {
     );
 }
 
-/// A link that fails at a call.
+/// A link that fails at this call.
 fn failing_link(alloc: Global, fails_at: usize) -> Meter<Sink>
     ensures { ⟦<Meter<Sink> as Link>⟧.has_failed result ≡ false }
 {
     Meter::new(Sink::new(Vec::new(alloc), fails_at))
 }
 
-/// A trace that cannot be written is reported before the report. That is the second to be written.
+/// The trace is written first. If it cannot be written, that is reported, and no report is printed.
 #[test]
 fn tells_what_cannot_be_written(rt: HostRuntime) {
     let alloc = rt.alloc();
@@ -183,8 +183,8 @@ fn tells_what_cannot_be_written(rt: HostRuntime) {
     }
 }
 
-/// Each allocation of this test is to be refused in turn. Then the answer is that of ample memory, or that there is
-/// none.
+/// `tests/cli/memory.sh` refuses each request of this test for memory in turn. The answer is that of ample memory, or
+/// that there is none, or that a thread could not start.
 #[test]
 fn is_short_of_memory(rt: HostRuntime) -> Result<(), Fail> {
     let alloc = rt.alloc();

@@ -10,14 +10,14 @@ use std::test::Fail;
 use std::thread::Threads;
 use test_support::{HUNDRED_ADDS, assert_same, image_of, report_of_hundred_adds, size};
 
-/// A command has printed this report, reported nothing, and ended with this status.
+/// Checks that a command printed this report, wrote nothing to standard error, and ended with this status.
 fn prints(rt: &impl Abort, ran: Ran, report: &str, status: u8) {
     assert_same!(rt; ran.err.len(), 0, report);
     assert_same!(rt; ran.out.as_slice(), report.as_bytes());
     assert_same!(rt; ran.status, status, report);
 }
 
-/// The run of a text comes to this report and status, and its trace replays to them.
+/// Checks that a run of a text has this report and status, and that its trace replays to them.
 fn assert_reported<R: Threads + Wait + Abort + Sync>(
     rt: &R,
     alloc: Global,
@@ -66,15 +66,15 @@ fn report_of_many(alloc: Global) -> Result<String, Fail> {
     Ok(report)
 }
 
-/// A processor that sends 300 bytes, more than its queue holds: none is lost.
+/// A processor sends 300 bytes, more than its queue holds, and none is lost.
 #[test]
 fn more_bytes_than_a_queue_holds(rt: HostRuntime) -> Result<(), Fail> {
     let report = report_of_many(rt.alloc())?;
     assert_reported(&rt, rt.alloc(), (SENDS_MANY, 0), report.as_str(), 0)
 }
 
-/// Processor 0 stops by EBREAK, and the other goes on until it halts with its number, which it has written to the
-/// console twice.
+/// Processor 0 stops by EBREAK, and the other goes on until it halts with its number, which it has written twice to the
+/// console.
 #[test]
 fn goes_on_behind_a_fault(rt: HostRuntime) -> Result<(), Fail> {
     let text = "
