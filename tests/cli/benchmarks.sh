@@ -9,16 +9,16 @@ bench_runs() {
 
 check 'bench/steps runs' bench_runs bench/steps 1000 1
 then_check 'bench/moves runs' bench_runs bench/moves 1000 1
-then_check 'bench/threads runs: the reports are those that were worked out' bench_runs bench/threads 1
+then_check 'bench/threads runs, and its reports are those that were worked out by hand' bench_runs bench/threads 1
 then_check 'bench/measure_assembler runs' bench_runs bench/measure_assembler 1
 if command -v python3 >/dev/null; then
     then_check 'bench/explore runs' bench_runs bench/explore 1
 else
-    left_out 'bench/explore, for there is no python3'
+    left_out 'bench/explore, because python3 is not installed'
 fi
 if command -v rustc >/dev/null; then
     then_check 'bench/measure runs' bench_runs bench/measure 1
-    then_check 'bench/run runs: the report and the trace are those of a plain simulator' bench_runs bench/run 1
+    then_check 'bench/run runs, and its reports and traces are those of a plain simulator' bench_runs bench/run 1
 else
-    left_out 'bench/measure and bench/run, for there is no Rust compiler (rustc)'
+    left_out 'bench/measure and bench/run, because there is no Rust compiler (rustc)'
 fi

@@ -8,7 +8,7 @@ compilers_of_c() {
 }
 
 if [ -z "$(compilers_of_c)" ] || ! command -v make >/dev/null; then
-    left_out 'C programs, for there is no make, and neither GNU compiler for RISC-V nor clang with ld.lld'
+    left_out 'C programs, because make or a compiler for RISC-V (GNU, or clang with ld.lld) is not installed'
     return
 fi
 
@@ -33,7 +33,7 @@ makes_c() {
         <(cd "$room/c" && printf '%s\n' ./*.elf explore/*.elf | sed 's|^\./||' | sort) &&
         diff <(printf '%s\n' 'word 0 three' 'word 3 one') <(sort -n -k2 "$room/c/two.map")
 }
-check '`make` makes an image of each C program, and lists the words of variables' makes_c
+check '`make` makes an image of each C program, and a map lists the words of variables' makes_c
 
 # has_instructions NAME ..: the code of `primes` has these instructions.
 has_instructions() {
@@ -71,7 +71,7 @@ final_words_in_c() {
     esac
 }
 
-# ends_in_c NAME: a C program ends as worked out on 1 to 64 processors.
+# ends_in_c NAME: a C program ends as worked out by hand on 1 to 64 processors.
 ends_in_c() {
     local k
     links_c "$1" || return 1
@@ -81,8 +81,8 @@ ends_in_c() {
         [ "$(grep -c '^processor .* halt 00 ' "$room/out")" -eq $((1 << k)) ] || return 1
     done
 }
-check 'the barrier in C ends as worked out on 1 to 64 processors' ends_in_c barrier
-check 'the queue in C ends as worked out on 1 to 64 processors' ends_in_c queue
+check 'the barrier in C ends as worked out by hand on 1 to 64 processors' ends_in_c barrier
+check 'the queue in C ends as worked out by hand on 1 to 64 processors' ends_in_c queue
 
 # With each compiler at each level, processors see a node that a shared pointer publishes. An item of a queue and the
 # sum of all processors are right too. The compiler chooses whether the pointer is word 0 or 1; the node is the other.
@@ -98,7 +98,7 @@ shares_a_pointer() {
         done
     done < <(compilers_of_c)
 }
-check 'a shared pointer, by each C compiler at -O0, -O2 and -Os' shares_a_pointer
+check 'a shared pointer publishes a node, with each C compiler at -O0, -O2 and -Os' shares_a_pointer
 
 # A C++ program: it hands out ten indexes once each, adds up their sum, 45, under a lock, and exchanges pointers by
 # fetch-and-store.
@@ -130,7 +130,7 @@ END
             <(sed -n 's/^word [0-9]* //p' "$room/out" | grep -v '^8000000' | sort) || { cat "$room/out" && return 1; }
     done < <(compilers_of_c)
 }
-check 'a C++ program' runs_cpp
+check 'a C++ program shares a loop, a lock and a pointer' runs_cpp
 
 # ---- every result of the parts of parallel.h
 
@@ -153,7 +153,7 @@ expected_results_in_c() {
         ticket_lock) echo "$(halts_of "$n" 00)word 0 $(hex $((2 * n))) word 1 $(hex $((2 * n))) word 2 $(hex $((2 * n))) " ;;
         readers_writers) echo "$(halts_of "$n" 00)word 1 00000001 word 2 00000001 " ;;
         semaphore) echo "$(halts_of $((n - 1)) 00)halt 01 " ;;
-        queue) # of two, either gets what came first
+        queue) # either of two processors gets the first item
             if [ "$n" -eq 1 ]; then
                 echo 'halt 01 word 2 00000001 word 3 00000001 word 4 00000002 '
             else
@@ -175,7 +175,7 @@ explores_c() {
     done
 }
 for name in barrier ticket_lock readers_writers semaphore queue self_scheduled; do
-    check "every result of examples/c/explore/$name.c" explores_c "$name"
+    check "examples/c/explore/$name.c has the results that were worked out by hand, and no others" explores_c "$name"
 done
 
 # ---- memory
@@ -194,7 +194,7 @@ overflows_a_stack() {
             ./ultra run --sweep --k 0 "$room/c/deep.elf" | grep ' halt 48 ' || return 1
     done < <(compilers_of_c)
 }
-check 'a stack of a C program that overflows: fault 6' overflows_a_stack
+check 'a C program whose stack overflows stops with fault 6' overflows_a_stack
 
 # One variable can take all 262,144 shared words. It takes no room in the image.
 fills_shared_memory() {
@@ -203,7 +203,7 @@ fills_shared_memory() {
         ./ultra run --sweep --k 1 --words 262144 "$room/c/big.elf" | grep '^word' |
         diff <(printf '%s\n' 'word 262142 00000005' 'word 262143 00000005') -
 }
-check 'a C program with 262,144 shared words' fills_shared_memory
+check 'a C program can have 262,144 shared words' fills_shared_memory
 
 # ---- programs that are refused
 
@@ -220,18 +220,18 @@ refuses_c() {
     done < <(compilers_of_c)
     rm -f "$room"/c/bad.*
 }
-check 'constructors are refused by the linker' \
+check 'the linker refuses constructors' \
     refuses_c 'constructors are not run' 'struct s { int v; s() { v = processor_number(); } } one; extern "C" int main(int, int) { return one.v; }'
-check 'thread-local data is refused by the linker' refuses_c 'no thread-local data' '__thread int x = 3; int main(void) { return x; }'
-check 'an unknown section is refused by the linker' \
+check 'the linker refuses thread-local data' refuses_c 'no thread-local data' '__thread int x = 3; int main(void) { return x; }'
+check 'the linker refuses an unknown section' \
     refuses_c .special '__attribute__((section(".special"))) volatile int x = 3; int main(void) { return x; }'
-check 'a shared variable with a value is refused by the compiler' refuses_c zero 'static SHARED(int) x = 5; int main(void) { return x; }'
-check 'fetch-and-add of a byte is refused by the compiler' \
+check 'the compiler refuses a shared variable with an initial value' refuses_c zero 'static SHARED(int) x = 5; int main(void) { return x; }'
+check 'the compiler refuses a fetch-and-add of a byte' \
     refuses_c negative 'static SHARED(char) x; int main(void) { return fetch_and_add(&x, 1); }'
-check 'compare-and-swap is refused by make' refuses_c 'it uses lr.w or sc.w' \
+check 'make refuses compare-and-swap' refuses_c 'it uses lr.w or sc.w' \
     'static SHARED(int) x; int main(void) { int e = 0; return __atomic_compare_exchange_n(&x, &e, 1, 0, 5, 5); }'
-check 'too many shared variables are refused by the linker' refuses_c 'need more words' 'static SHARED(int) x[2000]; int main(void) { return x[9]; }'
-check 'an odd size of the stack is refused by the linker' refuses_c 'multiple of 16' 'int main(void) { return 0; }' STACK_SIZE=100
+check 'the linker refuses too many shared variables' refuses_c 'need more words' 'static SHARED(int) x[2000]; int main(void) { return x[9]; }'
+check 'the linker refuses a size of the stack that is not a multiple of 16' refuses_c 'multiple of 16' 'int main(void) { return 0; }' STACK_SIZE=100
 
 # ---- a C library
 
@@ -241,7 +241,7 @@ prints_by_picolibc() {
         diff <(printf '%s\n' 30206f662032 31206f662032) <(sed 's/.* //' "$room/out")
 }
 if [ -n "$(riscv64-unknown-elf-gcc --print-file-name=picolibc.specs 2>/dev/null | grep /)" ]; then
-    check 'printf of picolibc' prints_by_picolibc
+    check 'printf of picolibc prints on the console' prints_by_picolibc
 else
-    left_out 'printf of picolibc, which is not there'
+    left_out 'printf of picolibc, because picolibc is not installed'
 fi

@@ -21,7 +21,7 @@ refuses_what_is_broken() {
     done <examples/broken/README.md
     [ "$tried" -ge "$(find examples/broken -type f ! -name README.md ! -name good.elf ! -name several.out | wc -l)" ]
 }
-check 'examples/broken: each file is refused as its table says' refuses_what_is_broken
+check 'each file of examples/broken is refused as the table there says' refuses_what_is_broken
 
 # The codes that a document lists in its last section, a line each.
 codes_of() {
@@ -45,7 +45,7 @@ explains_what_is_broken() {
     done
     [ "$tried" -gt 0 ]
 }
-check 'ultra explain knows each code of examples/broken' explains_what_is_broken
+check 'ultra explain explains each code of examples/broken' explains_what_is_broken
 
 explains_each_of_its_list() {
     local name
@@ -55,5 +55,5 @@ explains_each_of_its_list() {
     done
 }
 check 'ultra explain explains all that it lists' explains_each_of_its_list
-check 'a code that there is not: what is wrong, status 2' \
+check 'ultra explain refuses an unknown code, with status 2' \
     ends 2 "$(printf "error: unrecognized code 'A33'\n\n\`ultra explain\` lists what there is.")" ./ultra explain A33

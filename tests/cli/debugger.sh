@@ -22,7 +22,7 @@ stops_at_a_break() {
         diff <(printf '%s\n' ok 'at 0' 00010004 halted ok) \
             <(printf '%s\n' 'break 10004' cont 'reg 0 20' cont quit | debugs 0 --k 0 "$room/three.elf")
 }
-check 'a debugger stops at a break, and goes on to the end' stops_at_a_break
+check 'a debugger stops at a break, and then continues to the end' stops_at_a_break
 
 # An add at address 0, which is in no region, stops the processor with fault 5, and the exit status is 1.
 steps_into_a_fault() {
@@ -31,7 +31,7 @@ steps_into_a_fault() {
         diff <(printf '%s\n' 'at 0' 'fault 5' run E03 ok) \
             <(printf '%s\n' 'step 0' 'state 0' 'state 3' 'state 4' quit | debugs 1 "$room/nowhere.elf")
 }
-check 'a debugger steps into a fault: status 1' steps_into_a_fault
+check 'a debugger that steps into a fault ends with status 1' steps_into_a_fault
 
 # The replies to wrong lines, and the effect of writes.
 answers_errors() {
@@ -39,13 +39,13 @@ answers_errors() {
         <(printf '%s\n' 'mem 0 80000000 0' 'reg 8 1' 'reg 0 21' 'set 0 20 10002' 'regs  0' $'state 0\r' 'set 0 1 7' 'reg 0 1' \
             'write 0 80000000 2A000000' 'mem 0 80000000 4' quit | debugs 0 "$room/three.elf")
 }
-check 'a debugger is told what is wrong with a line' answers_errors
+check 'a debugger replies what is wrong with a line' answers_errors
 
 # Ten thousand lines and a last one, each with its reply.
 answers_many_lines() {
     diff <(yes 00000000 | head -n 10000 && echo ok) <((yes 'reg 3 1f' | head -n 10000 && echo quit) | debugs 0 "$room/three.elf")
 }
-check 'a debugger has ten thousand lines answered' answers_many_lines
+check 'a debugger answers ten thousand lines' answers_many_lines
 
 # A client disconnects within a line, and another sends nothing. Either ends the session.
 survives_its_client() {
@@ -58,7 +58,7 @@ survives_its_client() {
         ends_debugging 0 '' || return 1
     done
 }
-check 'a debugger goes away within a line, or sends nothing: the session is over' survives_its_client
+check 'a session ends if its client disconnects within a line or sends nothing' survives_its_client
 
 # The session of docs/DEBUGGER.md, its lines and its replies.
 finds_the_late_reset() {
@@ -76,7 +76,7 @@ finds_the_late_reset() {
         ./ultra asm examples/algorithms/wrong/barrier_reset_late.s "$room/late.elf" &&
         diff "$room/replies" <(debugs 0 --k 1 "$room/late.elf" <"$room/lines")
 }
-check 'a debugger finds a wrong barrier, as docs/DEBUGGER.md says' finds_the_late_reset
+check 'the session of docs/DEBUGGER.md finds what is wrong with a barrier' finds_the_late_reset
 
 # A session is saved as a trace. The trace replays to what the session showed last, and its order begins with the
 # debugger's writes. If OUT cannot be written, that is reported after the session; if OUT is FILE, it is refused.
@@ -94,7 +94,7 @@ saves_a_session() {
     cp "$room/three.elf" "$room/same.elf" &&
         ends 2 'error: OUT is the same file as FILE' ./ultra debug --trace "$room/same.elf" "$room/same.elf" && cmp "$room/three.elf" "$room/same.elf"
 }
-check 'a session is saved, and replays to what it showed; OUT that cannot be written, or is FILE' saves_a_session
+check 'a saved session replays to what it showed, and OUT that cannot be written or is FILE is reported' saves_a_session
 
 # A port on which another debugger listens.
 finds_its_port_taken() {
@@ -103,7 +103,7 @@ finds_its_port_taken() {
     ends_with_code 3 link "port $port: $address_in_use" ./ultra debug --port "$port" "$room/three.elf" || return 1
     exec 8<>"/dev/tcp/127.0.0.1/$port" && exec 8>&- && ends_debugging 0 ''
 }
-check 'a port that is taken: link, status 3' finds_its_port_taken
+check 'a debugger reports that its port is taken: link, status 3' finds_its_port_taken
 
 # The client of examples/ prints the replies to its lines. It fails if nobody listens any more, and if the port is not a
 # number.
@@ -119,7 +119,7 @@ serves_the_client() {
     [ "$ended" -eq 2 ] && [ ! -s "$room/out" ]
 }
 if command -v python3 >/dev/null; then
-    check 'examples/debug_client.py has its lines answered, and tells that there is no session' serves_the_client
+    check 'examples/debug_client.py prints the replies to its lines, and reports that there is no session' serves_the_client
 else
-    left_out 'the client of the debugger, for there is no python3'
+    left_out 'the client of the debugger, because python3 is not installed'
 fi

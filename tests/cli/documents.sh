@@ -19,7 +19,7 @@ runs_the_algorithms() (
         [ -s "$name.order" ] && [ -s "$name.story" ] && [ -s "$name.stats" ] && tail -n 1 "$name.svg" | grep -x '</svg>' || exit 1
     done
 )
-check 'the lines of examples/README.md that run the algorithms' runs_the_algorithms
+check 'the commands of examples/README.md run the algorithms to their final words' runs_the_algorithms
 
 # matches WANTED FOUND: both files have the same lines, except that a line `..` of WANTED stands for any lines.
 matches() {
@@ -28,8 +28,8 @@ matches() {
         wanted[at] == ".." && (at == all || $0 != wanted[at + 1]) { next }
         wanted[at] == ".." { at += 2; next }
         at <= all && $0 == wanted[at] { at++; next }
-        { print "found " $0 " where " wanted[at] " is wanted"; wrong = 1; exit }
-        END { if (!wrong && at <= all && !(wanted[at] == ".." && at == all)) { print "wanted, and not found: " wanted[at]; wrong = 1 } exit wrong }' "$1" "$2"
+        { print "found " $0 " instead of " wanted[at]; wrong = 1; exit }
+        END { if (!wrong && at <= all && !(wanted[at] == ".." && at == all)) { print "not found: " wanted[at]; wrong = 1 } exit wrong }' "$1" "$2"
 }
 
 # Each command of docs/TUTORIAL.md prints what the tutorial shows below it. It may end with status 1, which means that a
@@ -47,7 +47,7 @@ follows_the_tutorial() (
     done
     [ "$at" -ge 12 ] && [ "$(cat ./*.wanted | wc -l)" -ge 50 ] && tail -n 1 hot_spot.svg | grep -qx '</svg>'
 )
-check 'each command of docs/TUTORIAL.md prints what stands there' follows_the_tutorial
+check 'each command of docs/TUTORIAL.md prints what the tutorial shows' follows_the_tutorial
 
 # The command of docs/TUTORIAL.md draws the picture that the documents show.
 draws_what_is_shown() {
@@ -55,4 +55,4 @@ draws_what_is_shown() {
         ./ultra picture "$room/shown.trace" "$room/hot_spot.elf" --step "$(sed -n 's/.* picture --step \([0-9]*\) hot_spot.trace .*/\1/p' docs/TUTORIAL.md)" |
         diff examples/hot_spot.svg -
 }
-check 'the picture that is shown is that of the command' draws_what_is_shown
+check 'examples/hot_spot.svg is the picture that docs/TUTORIAL.md draws' draws_what_is_shown

@@ -35,7 +35,7 @@ expected_results() {
         lost_adds) for ((i = 1; i <= n; i++)); do word 0 "$i" | all_halt "$n"; done ;;
         ten_adds) for ((i = n == 1 ? 10 : 2; i <= 10 * n; i++)); do word 0 "$i" | all_halt "$n"; done ;;
         counter) word 0 $((3 * n)) | all_halt "$n" ;;
-        neighbours) # each set of those who see a 1 but the empty one
+        neighbours) # each set of processors that see a 1, except the empty one
             for ((bits = 1; bits < 1 << n; bits++)); do
                 halts=()
                 for ((i = 0; i < n; i++)); do halts+=("halt 0$((bits >> i & 1))"); done
@@ -45,11 +45,11 @@ expected_results() {
         barrier | barrier_stuck) { word 1 $((2 * n)) && word 2 2; } | all_halt "$n" ;;
         barrier_one_round) { word 1 "$n" && word 2 1; } | all_halt "$n" ;;
         barrier_late) word 1 1 | all_halt "$n" ;;
-        barrier_early | barrier_once) # each set of those who are too early but the set of all, or how many they are
+        barrier_early | barrier_once) # each set of processors that are too early, except the set of all; or how many they are
             faults=()
             if [ "$1" = each ]; then
                 for ((bits = 0; bits < (1 << n) - 1; bits++)); do faults+=("$bits"); done
-            else # the ebreak stands last, so those who come to it do
+            else # the ebreak is at the highest address, so the processors that stop there come last
                 for ((i = 0; i < n; i++)); do faults+=($(((1 << i) - 1 << n - i))); done
             fi
             for bits in "${faults[@]}"; do
@@ -70,7 +70,7 @@ expected_results() {
         ticket_lock_twice) for i in 0 1 2; do word "$i" $((2 * n)); done | all_halt "$n" ;;
         readers_writer) { word 2 1 && word 3 1; } | all_halt "$n" ;;
         self_scheduled) { word 0 $((6 + n)) && word 1 15; } | all_halt "$n" ;;
-        shares) # of two: one gets any of the six numbers, and the other the rest; if they are exchanged processor 0 gets the first
+        shares) # one of two gets any of the six numbers, and the other the rest; if they are exchanged, processor 0 gets the first
             for ((bits = 0; bits < 64; bits++)); do
                 [ "$1" = each ] || ((bits % 2 == 0)) || continue
                 halts=('halt 00' 'halt 00')
@@ -80,14 +80,14 @@ expected_results() {
                 word 0 8 | result_line "${halts[@]}"
             done
             ;;
-        queue) # of two: in either order they put in, and in either they take out
+        queue) # two processors put in in either order, and take out in either order
             for i in 1 2; do
                 { word 0 2 && word 1 2 && word 2 "$i" && word 3 $((3 - i)); } >"$room/words"
                 result_line 'halt 01' 'halt 02' <"$room/words" && result_line 'halt 02' 'halt 01' <"$room/words"
             done
             ;;
         own_number) numbered_halts "$n" <(word 0 "$n") ;;
-        own_ticket) # of two: either gets the first ticket
+        own_ticket) # either of two processors gets the first ticket
             numbered_halts "$n" <(word 0 "$n" && word 1 "$n")
             [ "$1" = exchanged ] || { word 0 2 && word 1 2; } | result_line 'halt 01' 'halt 00'
             ;;
@@ -144,7 +144,7 @@ printed_result() {
         there { printf "%s|", $0 }' "$room/results"
 }
 
-# has_the_end_of_the_sweep HOW NAME STAGES: the results in $room/results include the one that the sweep comes to; if
+# has_the_end_of_the_sweep HOW NAME STAGES: the results in $room/results include the one with which the sweep ends; if
 # processors are exchanged, up to their order.
 has_the_end_of_the_sweep() {
     local number results join=as_one_line
@@ -180,7 +180,7 @@ replays_witnesses() {
     done
 }
 
-# replays_first_and_last HOW NAME STAGES STATUS: so do witnesses of the first and of the last result.
+# replays_first_and_last HOW NAME STAGES STATUS: the same for the first and the last result.
 replays_first_and_last() {
     replays_witnesses "$@" 1 "$(expected_results "$1" "$2" "$3" | wc -l)"
 }
@@ -231,24 +231,24 @@ replays_to_a_deadlock() {
 # checks_of_results HOW NAME STAGES STATUS STATES: registers the checks of a program whose results were worked out.
 # Another program counted the states, except for those of the counter, which are 4^n.
 checks_of_results() {
-    local how=$1 name=$2 stages=$3 status=$4 states=$5 so
-    so=$([ "$how" = each ] && echo 'each result that was' || echo 'up to exchanges the results that were')
-    check "examples/explore/$name.s has $so worked out on $((1 << stages)) processors" \
+    local how=$1 name=$2 stages=$3 status=$4 states=$5 it
+    it="examples/explore/$name.s on $((1 << stages)) processors$([ "$how" = each ] || echo ' up to exchanges')"
+    check "the results of $it are those that were worked out by hand" \
         finds_each_result "$how" "$name" "$stages" "$status" "$states"
     case $name in # their sweeps may end at a fault, or not at all
         barrier_early | barrier_late | barrier_once | barrier_stuck | signal) ;;
-        *) then_check 'and the end of the sweep is one of them' has_the_end_of_the_sweep "$how" "$name" "$stages" ;;
+        *) then_check "the sweep of $it ends with one of the results" has_the_end_of_the_sweep "$how" "$name" "$stages" ;;
     esac
     if [ "$stages" -le 2 ]; then
-        then_check 'and each has a witness that replays to it' replays_each_witness "$how" "$name" "$stages" "$status"
+        then_check "each result of $it has a witness that replays to it" replays_each_witness "$how" "$name" "$stages" "$status"
     else
-        then_check 'and the first and the last have a witness that replays to them' \
+        then_check "the first and the last result of $it have witnesses that replay to them" \
             replays_first_and_last "$how" "$name" "$stages" "$status"
     fi
     case $name in
-        barrier_late | signal) then_check 'and the witness of its deadlock replays to it' replays_to_a_deadlock "$how" "$name" "$stages" ;;
-        barrier_stuck) then_check 'and its deadlock has a witness that replays' witnesses "$how" "$name" "$stages" 0 1 ;;
-        *) then_check 'and no deadlock has one' witnesses_nothing "$how" "$name" "$stages" 0 'error: an end can be reached from each state' ;;
+        barrier_late | signal) then_check "the witness of the deadlock of $it replays to it" replays_to_a_deadlock "$how" "$name" "$stages" ;;
+        barrier_stuck) then_check "the deadlock of $it has a witness that replays" witnesses "$how" "$name" "$stages" 0 1 ;;
+        *) then_check "there is no witness of a deadlock of $it" witnesses_nothing "$how" "$name" "$stages" 0 'error: an end can be reached from each state' ;;
     esac
 }
 
@@ -323,13 +323,13 @@ replays_results_of_16() {
     ./ultra explore --k 4 "$room/barrier_early.elf" >"$room/results"
     replays_witnesses exchanged barrier_early 4 1 {1..16}
 }
-check 'of 16 processors each of 16 results has a witness that replays to it as it is printed' replays_results_of_16
+check 'each of the 16 results of 16 processors has a witness that replays to it as it is printed' replays_results_of_16
 
 replays_numbers_of_64() {
     ./ultra asm examples/explore/own_ticket.s "$room/own_ticket.elf" && ./ultra explore --k 6 "$room/own_ticket.elf" >"$room/results" &&
         replays_each_witness exchanged own_ticket 6 0
 }
-check 'and so has that of 64 processors that halt with as many numbers, with short queues too' replays_numbers_of_64
+check 'the result of 64 processors that halt with 64 numbers has a witness, with short queues too' replays_numbers_of_64
 
 # A witness without a trace, a trace without a witness, and a trace that would overwrite the image are refused, and no
 # file is opened.
@@ -342,7 +342,7 @@ refuses_half_a_witness() {
         ends_with_code 3 X5 "$room/none/witness: $no_such_file" ./ultra explore --witness 1 --trace "$room/none/witness" "$room/counter.elf" &&
         ends_with_code 3 X5 "/dev/full: $no_space_left" ./ultra explore --witness 1 --trace /dev/full "$room/counter.elf"
 }
-check 'a witness of none of them, half of one, or one that would be written over the image: status 2' refuses_half_a_witness
+check 'a witness without a trace, a trace without a witness and a trace over the image are refused, with status 2' refuses_half_a_witness
 
 # With --every a witness or a trace is refused. Nothing else is printed, and no file is opened.
 refuses_a_witness_of_every_size() {
@@ -353,7 +353,7 @@ refuses_a_witness_of_every_size() {
             [ ! -e "$room/witness" ] || { echo "$options" && return 1; }
     done
 }
-check 'a witness of every size: status 2' refuses_a_witness_of_every_size
+check 'a witness of every size is refused, with status 2' refuses_a_witness_of_every_size
 
 # ---- every size
 
@@ -386,7 +386,7 @@ explores_every_size() {
     ./ultra explore --every --each --states 100 "$room/once.elf" >"$room/out" 2>"$room/err" || ended=$?
     diff "$room/lines" "$room/out" && diff <(printf 'ultra: states\n%.0s' {1..4}) "$room/err" && diff <(echo 4) <(echo "$ended")
 }
-check 'every size of a program, as worked out; and each that has too many states: states, status 4' explores_every_size
+check '--every prints each size as worked out by hand, and reports each that has too many states: states, status 4' explores_every_size
 
 # A processor that counts alone for ever is reported for every size.
 gives_up_every_size() {
@@ -396,16 +396,16 @@ gives_up_every_size() {
     for k in {0..6}; do echo "k $k: $((1 << k)) processor$([ "$k" = 0 ] || echo s), not explored: alone"; done | diff - "$room/out" &&
         diff <(printf 'ultra: alone\n%.0s' {0..6}) "$room/err" && diff <(echo 4) <(echo "$ended")
 }
-check 'every size of a program that goes on alone: alone, status 4' gives_up_every_size
+check '--every reports a processor that goes on alone, for each size: alone, status 4' gives_up_every_size
 
-# A processor that comes back to where it was never stops: that is a verdict.
+# A processor that returns to an earlier state of its own never stops: that is a verdict.
 finds_a_spinner() {
     local ended=0
     printf 'spin: jal x0, spin\n' >"$room/spin.s" && assembles_to "$room/spin.s" "$room/spin.elf" || return 1
     ./ultra explore --k 1 "$room/spin.elf" >"$room/out" 2>"$room/err" || ended=$?
     diff <(tail -n 1 "$room/out") <(echo 'from 1 state no end can be reached') && [ ! -s "$room/err" ] && diff <(echo 1) <(echo "$ended")
 }
-check 'a processor that never stops is a verdict, status 1' finds_a_spinner
+check 'a processor that never stops is a verdict, with status 1' finds_a_spinner
 
 # ---- searches that are given up
 
@@ -419,7 +419,7 @@ gives_up_exploring() {
     ./ultra explore --k 7 "$room/counter.elf" >"$room/out" 2>"$room/err" || ended=$?
     [ "$ended" -eq 2 ] && [ ! -s "$room/out" ] && grep "invalid value '7' for '--k <NUMBER>': 7 is not in 0..=6" "$room/err"
 }
-check 'a search that is given up: states or alone, status 4; too many processors: what is wrong, status 2' gives_up_exploring
+check 'explore reports that it gives up: states or alone, status 4; and refuses too many processors, with status 2' gives_up_exploring
 
 # ---- processors that can be exchanged
 
@@ -434,14 +434,14 @@ exchanged_text() {
             printf '%s\n' ' addi a7, x0, 2' ' ecall' ' addi t0, x0, 3' ' bgeu a0, t0, done' ' lui s2, 0x80000' ' addi s5, x0, 1' \
                 ' amoadd.w t0, s5, (s2)' ' amoadd.w x0, t0, (s2)' 'done: addi a7, x0, 0' ' addi a0, x0, 7' ' ecall'
             ;;
-        last_stops) # who adds last comes to the ebreak, which stands before the halt of the others
+        last_stops) # the last to add comes to the ebreak, which is before the halt of the others
             printf '%s\n' ' addi a7, x0, 3' ' ecall' ' addi s1, a0, -1' ' lui s2, 0x80000' ' addi s5, x0, 1' ' amoadd.w t0, s5, (s2)' \
                 ' bne t0, s1, done' ' ebreak' 'done: addi a7, x0, 0' ' addi a0, x0, 0' ' ecall'
             ;;
-        counts_down) # they halt with 00, ff, fe and so on
+        counts_down) # processors halt with 00, ff, fe and so on
             printf '%s\n' ' lui s2, 0x80000' ' addi s5, x0, -1' ' addi a7, x0, 1' ' amoadd.w a0, s5, (s2)' ' ecall' ' addi a7, x0, 0' ' ecall'
             ;;
-        one_asks) # who adds third asks for its own number
+        one_asks) # the third to add asks for its own number
             printf '%s\n' ' lui s2, 0x80000' ' addi s5, x0, 1' ' addi s6, x0, 2' ' amoadd.w a0, s5, (s2)' ' addi a7, x0, 0' ' bne a0, s6, done' \
                 ' addi a7, x0, 2' ' ecall' ' addi a7, x0, 0' 'done: ecall'
             ;;
@@ -460,7 +460,7 @@ finds_a_fault_in_one_of_64() {
         printf '%s\n' 'processors 0 to 63 can be exchanged' '1 result, 65 states' 'every schedule ends'
     } | diff - "$room/results" && diff /dev/null "$room/err" && diff <(echo 1) <(echo "$ended") && replays_witnesses exchanged last_stops 6 1 1
 }
-check 'a fault in one of 64 processors: one result, in which it comes first' finds_a_fault_in_one_of_64
+check 'a fault in one of 64 processors makes one result, in which the processor comes first' finds_a_fault_in_one_of_64
 
 # If a processor asks for its own number after a reference, no processors are exchanged.
 exchanges_none_if_one_asks() {
@@ -475,12 +475,12 @@ exchanges_none_if_one_asks() {
     # Of two processors none is the third to add, so none asks.
     ./ultra explore --k 1 "$room/one_asks.elf" | grep -x 'processors 0 to 1 can be exchanged'
 }
-check 'a program that asks for its own number after a reference: none is exchanged' exchanges_none_if_one_asks
+check 'no processors are exchanged if one asks for its own number after a reference' exchanges_none_if_one_asks
 
 # ---- what another search finds
 
 if ! command -v python3 >/dev/null; then
-    left_out 'another search of every result, for there is no python3'
+    left_out 'another search of every result, because python3 is not installed'
     return
 fi
 
@@ -496,7 +496,7 @@ shows_progress_of_a_search() {
     tests/tools/on_a_terminal.py 1.5 crates/ultra/out/ultra explore --each --quiet --k 3 --states 2500000 "$room/search.elf" >"$room/out" || ended=$?
     [ "$ended" -eq 4 ] && diff <(printf '%s\n' 'ultra: states\r\n') "$room/out"
 }
-check 'on a terminal a line tells how far a search is' shows_progress_of_a_search
+check 'on a terminal a line shows the progress of a search' shows_progress_of_a_search
 
 # finds_what_another_search_finds TEXT OPTION ..: with these options `ultra explore` prints the same as
 # tests/tools/every_result.py, an independent search: the results in their order, the processors that can be exchanged,
@@ -513,7 +513,7 @@ finds_what_another_search_finds() {
 }
 while read -r name options; do
     # shellcheck disable=SC2086 # the options are words
-    check "ultra explore $options prints of examples/explore/$name.s what another search finds" \
+    check "ultra explore $options prints for examples/explore/$name.s what another search finds" \
         finds_what_another_search_finds "examples/explore/$name.s" $options
 done <<'END'
 lost_adds --k 2 --each
@@ -575,14 +575,14 @@ own_number --every --states 10000
 lost_adds --every --each --states 1000
 END
 
-# exchanges_as_another_search NAME STAGES LINES: so it does for a text of exchanged_text, and LINES say which processors
+# exchanges_as_another_search NAME STAGES LINES: the same for a text of exchanged_text, and LINES say which processors
 # can be exchanged.
 exchanges_as_another_search() {
     exchanged_text "$1" >"$room/$1.s" && finds_what_another_search_finds "$room/$1.s" --k "$2" --each &&
         finds_what_another_search_finds "$room/$1.s" --k "$2" && diff <(printf %b "$3") <(grep '^processors ' "$room/results")
 }
 while read -r name stages lines; do
-    check "ultra explore prints of the text $name what another search finds on $((1 << stages)) processors" \
+    check "ultra explore prints for the text $name on $((1 << stages)) processors what another search finds" \
         exchanges_as_another_search "$name" "$stages" "$lines"
 done <<'END'
 two_classes 3 processors 0, 2, 5 to 7 can be exchanged\nprocessors 1, 3 to 4 can be exchanged\n
@@ -603,7 +603,7 @@ stands_for_each_result() {
     tests/tools/exchanged.py "$room/found" "$room/each"
 }
 while read -r name stages; do
-    check "with processors exchanged the results of examples/explore/$name.s are those of ultra explore --each on $((1 << stages)) processors" \
+    check "the results of examples/explore/$name.s up to exchanges stand for those of --each on $((1 << stages)) processors" \
         stands_for_each_result "$name" "$stages"
 done <<'END'
 lost_adds 2

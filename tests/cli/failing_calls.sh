@@ -3,7 +3,7 @@
 # in turn.
 
 if ! command -v cc >/dev/null; then
-    left_out 'reads and writes that fail, for there is no C compiler (cc)'
+    left_out 'reads and writes that fail, because there is no C compiler (cc)'
     return
 fi
 
@@ -35,7 +35,7 @@ ended_with() {
 #   52w:link   52 that write to standard output, which then has a byte of OUTPUT for each earlier one
 #   24t:X5     24 that write to the file `saved`, whose complete text is $room/ample.trace
 #   10e:2      10 that write to standard error; the status is 2 nevertheless
-# A failing call is interrupted; or, if it is the first or the last write of its part, it takes no byte. The second line
+# A failing call is interrupted, or, if it is the first or the last write of its part, takes no byte. The second line
 # of the error says what the call was on: an image is the last of the words, another file that is read the first after
 # the command. For the trace of a hunt there is no second line.
 fails_each_call() {
@@ -66,17 +66,17 @@ fails_each_call() {
         done
     done
     fail_call $((before + 1)) "$@"
-    [ ! -s "$room/refused" ] && diff "$room/out" <(printf %s "$output") || { echo "there are other calls than $before: $*" && return 1; }
+    [ ! -s "$room/refused" ] && diff "$room/out" <(printf %s "$output") || { echo "the number of calls is not $before: $*" && return 1; }
 }
 
-# A text of six letters and an image of 88 bytes. One more read says that there are no more bytes.
+# A text of six letters and an image of 88 bytes. One more read finds the end of the file.
 fails_a_text() {
     printf ebreak >"$room/ebreak.s" && echo 'no faults' >"$room/list" && ./ultra explain A3 >"$room/explained" || return 1
     cp "$room/ebreak.elf" "$room/ample.trace" && fails_each_call '7r:link 88t:I9' /dev/null asm "$room/ebreak.s" "$room/saved.trace" &&
         fails_each_call '7r:link 10w:link' "$room/list" check "$room/ebreak.s" &&
         fails_each_call "$(stat -c %s "$room/explained")w:link" "$room/explained" explain A3
 }
-check 'a text and an image, one byte at a call, and each call fails: link or I9, status 3, and a beginning' fails_a_text
+check 'asm, check and explain report each call that fails, after the bytes before it: link or I9, status 3' fails_a_text
 
 # The 426 bytes are 10 lines of 12 bytes, 22 of 13, one of 12 and one of 8.
 fails_words() {
@@ -84,7 +84,7 @@ fails_words() {
     ./ultra words "$room/ebreak.hex" >"$room/words"
     fails_each_call '10r:link 426w:link' "$room/words" words "$room/ebreak.hex"
 }
-check 'so do words and their report: link' fails_words
+check 'words reports each call that fails, after the bytes before it: link, status 3' fails_words
 
 fails_a_run() {
     local cut
@@ -95,7 +95,7 @@ fails_a_run() {
         fails_each_call '89r:I9 24t:X5 52w:link' "$room/report" run --k 0 --trace "$room/saved.trace" "$room/ebreak.elf" &&
         cut=$room/cut.elf && head -c 51 "$room/ebreak.elf" >"$cut" && fails_each_call "52r:I9 10e:2 $((3 + ${#cut}))e:2" /dev/null dis "$cut"
 }
-check 'so do an image, a trace and a report: I9, X5 or link' fails_a_run
+check 'dis and run report each call that fails, after the bytes before it: I9, X5 or link, status 3' fails_a_run
 
 # Each command that reads a trace, here that of `ebreak` on one processor.
 fails_a_trace() {
@@ -106,7 +106,7 @@ fails_a_trace() {
         fails_each_call "25r:X5 89r:I9 $(stat -c %s "$room/ample")w:link" "$room/ample" "$command" "$room/ample.trace" "$room/ebreak.elf" || return 1
     done
 }
-check 'so do a trace, an image and what is told of them: X5, I9 or link' fails_a_trace
+check 'each command on a trace reports each call that fails, after the bytes before it: X5, I9 or link, status 3' fails_a_trace
 
 # Of two runs with the same result, the first has a trace.
 fails_a_search() {
@@ -119,7 +119,7 @@ fails_a_search() {
     mv "$room/ample1.trace" "$room/ample.trace" &&
         fails_each_call "89r:I9 24t:X5 $(stat -c %s "$room/ample")w:link" "$room/ample" hunt --k 0 --runs 2 --trace "$room/saved" "$room/ebreak.elf"
 }
-check 'so do an image and its results: I9 or link' fails_a_search
+check 'explore and hunt report each call that fails, after the bytes before it: I9, X5 or link, status 3' fails_a_search
 
 # Sends `lines` to the debugger, each after the reply to the previous one, and leaves the replies in $room/replies. The
 # link may break.
@@ -168,4 +168,4 @@ fails_a_session() {
         done
     done
 }
-check 'so does the link of a session: link, status 3, and a beginning of the replies' fails_a_session
+check 'debug reports each call that fails, after the replies before it: I9 or link, status 3' fails_a_session

@@ -6,7 +6,7 @@
 allows_its_handles() {
     echo 'Handles allowed: Threads, Wait, Net.' | diff - HANDLES
 }
-check 'HANDLES is the line that it has to be' allows_its_handles
+check 'HANDLES allows Threads, Wait and Net, and no others' allows_its_handles
 
 # The committed files of a clone; in a copy without .git, all files outside out/.
 committed() {
@@ -21,7 +21,7 @@ commits_nothing_built() (
     set -o pipefail
     committed >"$room/committed" && ! grep -E '(^|/)(out/|BUILD\.bazel$)' "$room/committed"
 )
-check 'nothing that is built is committed' commits_nothing_built
+check 'no file that a build makes is committed' commits_nothing_built
 
 # No line of code, definitions or proofs has more than 160 columns, except for attributes, which `rt fmt` does not
 # break.
@@ -37,7 +37,7 @@ has_short_clauses() {
 }
 check 'lines of code and definitions have at most 120 columns' has_short_clauses
 
-# Words of our own that gave way to the field's, in code: docs/GLOSSARY.md has the words that are used.
+# Coined words that gave way to the field's words in code: docs/GLOSSARY.md has the words in use.
 has_no_old_words() {
     ! committed | grep -E '^crates/.*\.(rt|antt)$' | LC_ALL=C.UTF-8 xargs grep -nwE \
         'Notes|Nobody|account_command|retaken|brought_home|bring_home|carried_out|IsTold|IsPrinted|IsPartPrinted|IsNoRun|IsNoAccount|obey|Door|Roomy|Desk|Sheet|stand_by|Crew|Terms|Keeper|hire|Notice|Stored|quiet_rounds|Station|settle|Memo|Unwatched|log_is_kept|machine_is_sound|told' |
@@ -50,9 +50,9 @@ check 'the words that the glossary replaced occur nowhere' has_no_old_words
 is_laid_out() {
     committed | grep -E '\.(rt|antt)$' | xargs "$(dirname "$(readlink -f "$(command -v rt)")")/rattle" fmt --check
 }
-check 'files are as rt fmt lays them out' is_laid_out
+check 'rt fmt would change no file' is_laid_out
 
-# Each shell file of the tests is bash, no function is defined twice, and shellcheck, if it is installed, warns of
+# Each shell file of the tests is valid bash, no function is defined twice, and shellcheck, if installed, warns of
 # nothing; but it sees one file at a time, and so does not know which variables another sets or uses.
 tests_are_sound_shell() {
     local file wrong=0
@@ -61,7 +61,7 @@ tests_are_sound_shell() {
     ! command -v shellcheck >/dev/null || shellcheck -S warning -e SC1091,SC2034,SC2154 tests/cli/run tests/cli/*.sh || wrong=1
     return "$wrong"
 }
-check 'the tests of the command line are sound shell' tests_are_sound_shell
+check 'the shell files of the tests are sound' tests_are_sound_shell
 
 # ---- crates
 
@@ -104,7 +104,7 @@ uses_its_libraries() {
     done < <(libraries_of_crates)
     return "$missing"
 }
-check 'crates.txt has the libraries that the code of each crate uses, and no more' uses_its_libraries
+check 'crates.txt has for each crate the libraries that its code uses, and no others' uses_its_libraries
 
 # `rt verdict` refuses a module that has the name of a library in use; `rt check` does not. Crates of tests use most
 # libraries.
@@ -125,7 +125,7 @@ cites_lemmas_alone() {
         grep -vE '\.proofs\.Lemmas(\.|$)|\.TheSendSync$')
     return "$missing"
 }
-check 'no crate cites the proofs of another but by its Lemmas' cites_lemmas_alone
+check 'no crate cites the proofs of another, except for its Lemmas' cites_lemmas_alone
 
 # ---- documents about the code
 
@@ -136,7 +136,7 @@ architecture_lists_crates() {
         <(sed '/^## How /,$d; s/^### /## /; t; s/^| `\([a-z0-9_]*\)` |.*/\1/; t; d' docs/ARCHITECTURE.md) &&
         awk '/^[a-z]/ {
             at = index($0, ":"); crate = substr($0, 1, at - 1); sub(/ .*/, "", crate)
-            if (crate in first) { print first[crate] " stands before " crate; wrong = 1 }
+            if (crate in first) { print first[crate] " comes before " crate; wrong = 1 }
             n = split(substr($0, at + 1), names, " ")
             for (i = 1; i <= n; i++) if (!(names[i] in first)) first[names[i]] = crate
         } END { exit wrong }' crates.txt
@@ -163,7 +163,7 @@ architecture_names_exist() {
     done < <(grep -vE 'pub use|Rattle\.|^ultra |^bench/|^crates' "$room/explained")
     return "$missing"
 }
-check 'what docs/ARCHITECTURE.md names stands in the code' architecture_names_exist
+check 'the code has what docs/ARCHITECTURE.md names' architecture_names_exist
 
 # The names in the last column of a document's tables.
 last_cells() {
@@ -183,7 +183,7 @@ promised_names_exist() {
     done < <(last_cells docs/PROMISES.md)
     return "$missing"
 }
-check 'what docs/PROMISES.md names stands in the code' promised_names_exist
+check 'the code has what docs/PROMISES.md names' promised_names_exist
 
 # The crate that docs/READING-PROOFS.md reads has each line of code that it shows.
 quotes_exist() {
@@ -194,7 +194,7 @@ quotes_exist() {
         grep -rqxF -- "$line" crates/phi_algebra/{src,specs,proofs} || { echo "$line"; return 1; }
     done <"$room/quoted"
 }
-check 'what docs/READING-PROOFS.md quotes stands in the code' quotes_exist
+check 'the code has what docs/READING-PROOFS.md quotes' quotes_exist
 
 draws_its_rooms() {
     python3 tests/tools/rooms.py | diff -q - docs/rooms.svg
@@ -216,12 +216,12 @@ lists_each_clause() {
 }
 if command -v python3 >/dev/null; then
     check 'docs/rooms.svg is the picture of crates.txt' draws_its_rooms
-    check 'docs/REFUSALS.md has each public call that may refuse' lists_refusing_calls
-    check 'docs/CLAUSES.md has each clause of each public call' lists_each_clause
-    check 'each lemma that another file cites says what it shows' has_commented_lemmas
+    check 'docs/REFUSALS.md lists each public call that returns a Result' lists_refusing_calls
+    check 'docs/CLAUSES.md lists each clause of each public call' lists_each_clause
+    check 'each lemma that another file cites has a comment' has_commented_lemmas
 else
-    left_out 'the picture of the rooms, for there is no python3'
-    left_out 'the calls that may refuse, the clauses and the comments of lemmas, for there is no python3'
+    left_out 'the picture of the rooms, because python3 is not installed'
+    left_out 'the refusals, the clauses and the comments of lemmas, because python3 is not installed'
 fi
 
 # ---- examples
@@ -229,12 +229,12 @@ fi
 outputs_have_programs() {
     diff <(printf '%s\n' examples/*.hex bench/*.hex) <(printf '%s\n' examples/*.out bench/*.out | sed 's/out$/hex/')
 }
-check 'each program has its output, and each output its program' outputs_have_programs
+check 'each program of hex words has its output, and each output its program' outputs_have_programs
 
 listings_have_texts() {
     diff <(printf '%s\n' examples/*.s) <(printf '%s\n' examples/*.dis | sed 's/dis$/s/')
 }
-check 'each text has its lines of code, and each such file its text' listings_have_texts
+check 'each text has its .dis file, and each .dis file its text' listings_have_texts
 
 # Each wrong algorithm has a trace and a report, and the page of the folder quotes the report.
 wrong_ones_are_documented() {
@@ -246,7 +246,7 @@ wrong_ones_are_documented() {
             <(sed -n "/^## ${text##*/}\$/,/^## /p" "$path/README.md" | sed -n '/^```text$/,/^```$/p' | sed '1d;$d') || return 1
     done
 }
-check 'each wrong algorithm has its trace and its report' wrong_ones_are_documented
+check 'each wrong algorithm has a trace and a report, which its page quotes' wrong_ones_are_documented
 
 # A program's listing, NAME.lst, has the program's words at their addresses, and examples/README.md links to it.
 is_listed() {
@@ -258,5 +258,5 @@ is_listed() {
     done <"$1") <(grep -oE '^[0-9a-f]{8}  [0-9A-F]{8}' "$listing")
 }
 for it in examples/*.hex; do
-    check "examples/README.md lists ${it##*/}" is_listed "$it"
+    check "the listing of ${it##*/} has its words, and examples/README.md links to it" is_listed "$it"
 done

@@ -6,7 +6,7 @@
 survives_hostile_input() {
     bench/hostile 60s
 }
-check 'a minute of hostile input: numbered faults alone, in bounded memory' survives_hostile_input
+check 'ultra answers a minute of hostile input with coded faults, in bounded memory' survives_hostile_input
 
 # An image and a trace of two processors, cut off at each length. The image has no complete header (I1) or lacks bytes
 # that its headers promise (I4), and the trace lacks steps (X1).
@@ -28,7 +28,7 @@ refuses_each_cut() {
         ends_with_code 2 X1 "$room/cut.trace" "$program" replay "$room/cut.trace" "$room/add.elf" || return 1
     done
 }
-check 'an image and a trace, cut at each length: I1 or I4, and X1, status 2' refuses_each_cut
+check 'an image and a trace that are cut at any length are refused: I1 or I4, and X1, status 2' refuses_each_cut
 
 # A header claims the greatest number of steps, and none follows. The program must take less memory than they would
 # need, 8 bytes each.
@@ -36,4 +36,4 @@ refuses_a_claim() {
     printf 'ULTR\x01\x01\x04\x04\x00\x00\x40\x00' >"$room/claim.trace"
     (ulimit -v 32768 && ends_with_code 2 X1 "$room/claim.trace" crates/ultra/out/ultra replay "$room/claim.trace" "$room/example.elf")
 }
-check 'a header that claims four million steps, in little memory: X1, status 2' refuses_a_claim
+check 'a header that claims four million steps is refused in little memory: X1, status 2' refuses_a_claim

@@ -39,7 +39,7 @@ finds_again() {
 }
 for it in barrier_reset_late barrier_phase_late; do
     check "random runs of $it find that both processors wait for ever" finds_endless_waits "$it"
-    then_check "what they found of $it is found again, and replays" finds_again "$it"
+    then_check "each result of random runs of $it is found again by its number, and its trace replays" finds_again "$it"
 done
 
 # A reader of the wrong readers and writers stops with fault 8, which is ebreak.
@@ -49,7 +49,7 @@ finds_a_reader_that_stops() {
     [ "$ended" -eq 1 ] && grep -x 'processor 1 fault 8 console -' "$room/hunt"
 }
 check 'random runs of the wrong readers and writers find a reader that stops' finds_a_reader_that_stops
-then_check 'what they found of it is found again, and replays' finds_again readers_writers_one_look
+then_check 'each result of random runs of readers_writers_one_look is found again by its number, and its trace replays' finds_again readers_writers_one_look
 
 # ---- traces and progress
 
@@ -67,7 +67,7 @@ keeps_a_trace_that_exists() {
         diff <(echo "$last.trace") <(ls "$room/second") && rm "$room/second/$last.trace" && printf '%5000s' '' >"$room/second/$last.trace" &&
         ./ultra hunt --overwrite $sizes --trace "$room/second/" "$elf" | diff "$room/hunt" - && diff -r "$room/first" "$room/second"
 }
-check 'where the trace of a random run exists none is written, but with --overwrite' keeps_a_trace_that_exists
+check 'if the trace of a random run exists, none is written without --overwrite' keeps_a_trace_that_exists
 
 # On a terminal a line shows how many runs have ended, and is erased at the end. With --quiet there is none.
 shows_progress_of_a_hunt() {
@@ -80,7 +80,7 @@ shows_progress_of_a_hunt() {
         diff <(echo) -
 }
 if command -v python3 >/dev/null; then
-    check 'on a terminal a line tells how far a hunt is' shows_progress_of_a_hunt
+    check 'on a terminal a line shows the progress of a hunt' shows_progress_of_a_hunt
 else
-    left_out 'a hunt on a terminal, for there is no python3'
+    left_out 'a hunt on a terminal, because python3 is not installed'
 fi

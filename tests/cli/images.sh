@@ -15,14 +15,14 @@ assembles_ebreak() {
         diff <(ebreak_image) <(od -An -v -tx1 "$room/ebreak.elf" | tr -d ' \n') &&
         diff <(echo '00010000 00100073 ebreak') <(./ultra dis "$room/ebreak.elf")
 }
-check 'ebreak: its image, and its line' assembles_ebreak
+check 'ebreak is assembled to the bytes that were worked out by hand, and disassembled' assembles_ebreak
 
 # The code of an example's image is that of the .dis file next to its text.
 disassembles_as_it_should() {
     assembles_to "$1" "$room/example.elf" && diff "${1%.s}.dis" <(./ultra dis "$room/example.elf" 2>&1)
 }
 for it in examples/*.s; do
-    check "$it is assembled and disassembled as it should be" disassembles_as_it_should "$it"
+    check "$it is assembled, and disassembled to its .dis file" disassembles_as_it_should "$it"
 done
 
 # ---- faults of texts
@@ -33,14 +33,14 @@ refuses_a_bad_text() {
     rm -f "$room/none.elf"
     ends_with_code 2 'A3 line 2' "$room/bad.s" ./ultra asm "$room/bad.s" "$room/none.elf" && [ ! -e "$room/none.elf" ]
 }
-check 'a bad text: A3 and its line, status 2, and no OUT' refuses_a_bad_text
+check 'asm refuses a text with a fault: A3 and its line, status 2, and no OUT' refuses_a_bad_text
 
 # All faults of a text that has eight, and of one that has none.
 lists_the_faults() {
     diff <(cat examples/broken/several.out && echo 'status 1') <(with_status ./ultra check examples/broken/several.s 2>&1) &&
         diff <(printf 'no faults\nstatus 0\n') <(with_status ./ultra check examples/fetch_and_add_100.s 2>&1)
 }
-check 'all faults of a text are listed, status 1' lists_the_faults
+check 'check lists all faults of a text, with status 1' lists_the_faults
 
 # Of each text in examples/broken, `check` lists the fault that `asm` reports. In the other examples it finds none.
 agrees_with_asm() {
@@ -55,41 +55,41 @@ agrees_with_asm() {
         echo 'no faults' | diff - <(./ultra check "$text" 2>&1) || { echo "$text"; return 1; }
     done
 }
-check 'check lists what asm tells, and nothing of a sound text' agrees_with_asm
+check 'check lists the fault that asm reports, and none of a sound text' agrees_with_asm
 
 refuses_a_text_not_in_utf8() {
     printf 'ebreak # \377\n' >"$room/no_text.s"
     rm -f "$room/none.elf"
     ends_with_code 3 link "$room/no_text.s" ./ultra asm "$room/no_text.s" "$room/none.elf" && [ ! -e "$room/none.elf" ]
 }
-check 'a text that is not UTF-8: link, status 3, and no OUT' refuses_a_text_not_in_utf8
+check 'asm refuses a text that is not UTF-8: link, status 3, and no OUT' refuses_a_text_not_in_utf8
 
 refuses_a_missing_text() {
     ends_with_code 3 link "$room/none.s: $no_such_file" ./ultra asm "$room/none.s" "$room/none.elf"
 }
-check 'a text that is not there: link, status 3' refuses_a_missing_text
+check 'asm reports a missing text: link, status 3' refuses_a_missing_text
 
 # A file that nobody may read. Root can read it nevertheless, so root tries as another user.
 refuses_a_forbidden_file() {
     local reader=()
     [ "$(id -u)" -ne 0 ] || reader=(setpriv --reuid 65534 --clear-groups)
     echo ebreak >"$room/forbidden.s" && chmod 000 "$room/forbidden.s" && chmod 755 "$room" || return 1
-    "${reader[@]}" test -x crates/ultra/out/ultra || { echo 'another user does not reach the program'; return 0; }
+    "${reader[@]}" test -x crates/ultra/out/ultra || { echo 'another user cannot reach the program'; return 0; }
     ends_with_code 3 link "$room/forbidden.s: $permission_denied" "${reader[@]}" crates/ultra/out/ultra check "$room/forbidden.s"
 }
-check 'a text that may not be read: link, status 3' refuses_a_forbidden_file
+check 'check reports a text that the user may not read: link, status 3' refuses_a_forbidden_file
 
 # ---- OUT
 
 refuses_an_image_in_no_folder() {
     ends_with_code 3 I9 "$room/none/ebreak.elf: $no_such_file" ./ultra asm "$room/ebreak.s" "$room/none/ebreak.elf"
 }
-check 'OUT in no folder: I9, status 3' refuses_an_image_in_no_folder
+check 'asm reports a missing folder of OUT: I9, status 3' refuses_an_image_in_no_folder
 
 refuses_a_full_disk_for_an_image() {
     ends_with_code 3 I9 "/dev/full: $no_space_left" ./ultra asm "$room/ebreak.s" /dev/full
 }
-check 'OUT that is full: I9, status 3' refuses_a_full_disk_for_an_image
+check 'asm reports a full disk for OUT: I9, status 3' refuses_a_full_disk_for_an_image
 
 # OUT names FILE by the same path, by another path, by a symbolic link or by a hard link: FILE stays as it was.
 keeps_what_it_reads() {
@@ -112,30 +112,30 @@ keeps_what_it_reads() {
         ends 3 'ultra: X5' ./ultra hunt --overwrite --k 1 --runs 1 --trace "$room/kept/hunted" "$room/kept/hunted1.trace" &&
         cmp "$room/kept/a.elf" "$room/kept/hunted1.trace"
 }
-check 'OUT that is FILE itself: refused, status 2, and FILE as it was' keeps_what_it_reads
+check 'OUT that is FILE itself is refused, with status 2, and FILE stays as it was' keeps_what_it_reads
 
 # ---- faults of images
 
 refuses_a_missing_image() {
     ends_with_code 3 link "$room/none.elf: $no_such_file" ./ultra dis "$room/none.elf"
 }
-check 'an image that is not there: link, status 3' refuses_a_missing_image
+check 'dis reports a missing image: link, status 3' refuses_a_missing_image
 
 refuses_an_unreadable_image() {
     ends_with_code 3 I9 "$room: $is_a_folder" ./ultra dis "$room"
 }
-check 'an image that cannot be read: I9, status 3' refuses_an_unreadable_image
+check 'dis reports an image that cannot be read: I9, status 3' refuses_an_unreadable_image
 
 refuses_a_large_image() {
     truncate -s 1048577 "$room/large.elf" && ends_with_code 2 I8 "$room/large.elf" ./ultra dis "$room/large.elf"
 }
-check 'an image of a byte more than 1 MiB: I8, status 2' refuses_a_large_image
+check 'dis refuses an image of one byte more than 1 MiB: I8, status 2' refuses_a_large_image
 
 refuses_a_cut_image() {
     head -c 51 "$room/ebreak.elf" >"$room/cut.elf"
     ends_with_code 2 I1 "$room/cut.elf" ./ultra dis "$room/cut.elf"
 }
-check 'a cut image: I1, status 2' refuses_a_cut_image
+check 'dis refuses an image that is cut off: I1, status 2' refuses_a_cut_image
 
 # An image with more shared words than the machine has.
 reads_for_its_words() {
@@ -144,16 +144,16 @@ reads_for_its_words() {
         ends_with_code 2 I5 "$room/shared.elf" ./ultra dis --words 1 "$room/shared.elf" &&
         diff <(echo '00010000 00100073 ebreak') <(./ultra dis --words 2 "$room/shared.elf")
 }
-check 'an image past its words: I5, status 2' reads_for_its_words
+check 'dis refuses an image with more shared words than the machine: I5, status 2' reads_for_its_words
 
 refuses_no_words() {
     local ended=0
     ./ultra dis --words 0 "$room/ebreak.elf" >"$room/out" 2>"$room/err" || ended=$?
     [ "$ended" -eq 2 ] && [ ! -s "$room/out" ] && grep "invalid value '0' for '--words <NUMBER>': 0 is not in 1..=262144" "$room/err"
 }
-check 'no words: what is wrong, status 2' refuses_no_words
+check 'dis refuses a machine without shared words, with status 2' refuses_no_words
 
 code_to_a_full_disk() {
     ./ultra dis "$room/ebreak.elf" >/dev/full
 }
-check 'code to a full disk: link, status 3' ends_with_code 3 link "standard output: $no_space_left" code_to_a_full_disk
+check 'dis reports a full disk: link, status 3' ends_with_code 3 link "standard output: $no_space_left" code_to_a_full_disk

@@ -3,7 +3,7 @@
 # nothing, and not the program.
 
 # Makes a copy of the launcher with four small crates, one of which the program does not use, and goes to its folder.
-# Its `rt` proves nothing. It notes what it is asked for in `asked`, fails if there is a file `fails`, and takes long if
+# Its `rt` proves nothing. It records its calls in `asked`, fails if there is a file `fails`, and takes long if
 # there is a file `slow`. The program that it builds prints its arguments and ends with status 7. The one that `rt try`
 # compiles ends with status 5; as the real `rt try` does, it reads the file that the program is given and then removes
 # the program.
@@ -65,16 +65,16 @@ change_version() {
 builds_after() (
     make_copy && launches 7 $'a b  c\n' && : >asked && "$@" && launches 7 $'a b  c\n' && asked_to_build_all
 )
-check 'the launcher builds again for a newer source' builds_after touch crates/low/src/lib.rt
-check 'the launcher builds again for a source that is gone' builds_after rm crates/low/src/lib.rt
-check 'the launcher builds again for a newer crates.txt' builds_after touch crates.txt
-check 'the launcher builds again for another toolchain' builds_after change_version
+check 'the launcher builds again if a source is newer' builds_after touch crates/low/src/lib.rt
+check 'the launcher builds again if a source is gone' builds_after rm crates/low/src/lib.rt
+check 'the launcher builds again if crates.txt is newer' builds_after touch crates.txt
+check 'the launcher builds again with another toolchain' builds_after change_version
 
 reports_a_failed_build() (
     make_copy && touch fails && launches 3 '' && grep '^why it failed$' told && ! grep run asked && rm fails &&
         launches 7 $'a b  c\n'
 )
-check 'the launcher tells why a build failed' reports_a_failed_build
+check 'the launcher reports why a build failed' reports_a_failed_build
 
 builds_for_two() (
     make_copy || exit 1
@@ -92,7 +92,7 @@ is_interrupted() (
     cat told
     grep '^ultra: interrupted' told && ! pgrep -f "$PWD/bin/rt" && rm slow && : >asked && launches 7 $'a b  c\n' && asked_to_build_all
 )
-check 'an interrupted launch ends what it began, and the next goes on' is_interrupted
+check 'an interrupted launch stops its build, and the next launch builds' is_interrupted
 
 misses_its_toolchain() (
     make_copy || exit 1
@@ -102,7 +102,7 @@ misses_its_toolchain() (
     done
     PATH=$PWD/bin launches 3 '' && grep 'there is no .rt. on the PATH' told
 )
-check 'the launcher tells that there is no toolchain' misses_its_toolchain
+check 'the launcher reports that there is no toolchain' misses_its_toolchain
 
 # ---- quick launches
 
@@ -124,13 +124,13 @@ compiles_once() (
     make_copy && quickly 5 run --trace t 'a b' '' && diff <(printf '%s\n' run --trace t 'a b' '') launched &&
         grep 'ultra: compiling' told && quickly 5 help && diff <(echo help) launched && ! grep 'ultra: compiling' told && compiled 1
 )
-check 'a quick launch compiles once, and gives the program its words, its output and its status' compiles_once
+check 'a quick launch compiles once, and passes on the words, the output and the status of the program' compiles_once
 
 compiles_after() (
     make_copy && quickly 5 a && : >asked && "$@" && quickly 5 a && diff <(echo a) launched && compiled 1
 )
-check 'a quick launch compiles again for a newer source' compiles_after touch crates/low/src/lib.rt
-check 'a quick launch compiles again for another toolchain' compiles_after change_version
+check 'a quick launch compiles again if a source is newer' compiles_after touch crates/low/src/lib.rt
+check 'a quick launch compiles again with another toolchain' compiles_after change_version
 
 compiles_for_two() (
     make_copy || exit 1
@@ -144,13 +144,13 @@ check 'two quick launches at once compile once' compiles_for_two
 reports_a_failed_compilation() (
     make_copy && touch fails && quickly 3 words a && grep '^run=none' told && rm fails && quickly 5 a && diff <(echo a) launched
 )
-check 'a quick launch tells why the program could not be compiled, status 3' reports_a_failed_compilation
+check 'a quick launch reports why the program does not compile, with status 3' reports_a_failed_compilation
 
 runs_quickly_once_it_is_built() (
     make_copy && launches 7 $'a b  c\n' && ended=0 && { ./ultra --quick a >launched 2>told || ended=$?; } &&
         [ "$ended" -eq 7 ] && diff <(echo a) launched && [ ! -s told ]
 )
-check 'a quick launch runs what is built' runs_quickly_once_it_is_built
+check 'a quick launch runs the proved program if it is built' runs_quickly_once_it_is_built
 
 # ---- a checkout of another user
 
@@ -179,9 +179,9 @@ compiles_for_another() (
     make_copy && launches_for_another 5 --quick && diff <(echo a) "$room/launched" && [ ! -e out ]
 )
 if [ "$(id -u)" -ne 0 ] || command -v setpriv >/dev/null; then
-    check 'a checkout of another user runs what is built' runs_for_another
-    check 'a checkout of another user that is not built: what is wanted, status 3' cannot_build_for_another
-    check 'a quick launch of a checkout of another user' compiles_for_another
+    check 'a checkout of another user runs the program if it is built' runs_for_another
+    check 'the launcher reports that it cannot build in a checkout of another user, with status 3' cannot_build_for_another
+    check 'a quick launch compiles and runs in a checkout of another user' compiles_for_another
 else
-    left_out 'a checkout of another user, for root cannot become one without setpriv'
+    left_out 'a checkout of another user, because root cannot become another user without setpriv'
 fi

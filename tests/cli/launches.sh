@@ -7,22 +7,22 @@
 to_a_full_disk() {
     ./ultra words examples/tickets.hex >/dev/full
 }
-check 'standard output is full: link, status 3' ends_with_code 3 link "standard output: $no_space_left" to_a_full_disk
+check 'the program reports a full disk for its output: link, status 3' ends_with_code 3 link "standard output: $no_space_left" to_a_full_disk
 
 to_nowhere() {
     ./ultra words examples/tickets.hex >&-
 }
-check 'standard output is closed: link, status 3' ends_with_code 3 link "standard output: $bad_descriptor" to_nowhere
+check 'the program reports that standard output is closed: link, status 3' ends_with_code 3 link "standard output: $bad_descriptor" to_nowhere
 
 from_nowhere() {
     diff examples/tickets.out <(with_status ./ultra words examples/tickets.hex <&- 2>&1)
 }
-check 'standard input is closed: no matter' from_nowhere
+check 'the program does not need standard input' from_nowhere
 
 passes_its_input_on() {
     diff examples/tickets.out <(with_status ./ultra words /dev/stdin <examples/tickets.hex 2>&1)
 }
-check 'standard input goes to the program' passes_its_input_on
+check 'the launcher passes standard input to the program' passes_its_input_on
 
 # ---- where and how
 
@@ -34,7 +34,7 @@ runs_from_elsewhere() (
     cd "$room/else where" || exit 1
     diff "$top/examples/tickets.out" <(with_status ../links/ultra words 'a file.hex' 2>&1) && diff <(echo 'a file.hex') <(ls -A)
 )
-check 'a launch from another folder, through a link' runs_from_elsewhere
+check 'a launch works from another folder, through a link' runs_from_elsewhere
 
 # The processor time of 20 runs of a command in milliseconds, which other work on the machine hardly changes.
 milliseconds_of_20() {
@@ -49,7 +49,7 @@ launches_in_no_time() {
     echo "20 launches take $launched ms, the program $own ms"
     [ $((launched - own)) -lt 1000 ]
 }
-check 'a launch takes less than 50 ms over the program' launches_in_no_time
+check 'a launch takes less than 50 ms more than the program' launches_in_no_time
 
 # In a fresh copy of the sources, where nothing is proved, an image runs on two processors and its trace is saved: from
 # another folder, by relative paths.
@@ -68,4 +68,4 @@ runs_a_fresh_copy_quickly() (
     ../ultra --quick replay quick.trace example.elf >"$room/out" 2>"$room/told" || { cat "$room/told"; exit 1; }
     diff "$room/report" "$room/out" && ! grep compiling "$room/told"
 )
-check 'a quick launch of a fresh copy: the report, and the trace' runs_a_fresh_copy_quickly
+check 'a quick launch of a fresh copy has the report and the trace of the proved program' runs_a_fresh_copy_quickly

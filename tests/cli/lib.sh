@@ -98,7 +98,7 @@ print_next() {
     if [ -s "$own.counts" ]; then
         read -ra counts <"$own.counts"
     else
-        echo 'FAILED  the checks after the last one that is printed were cut off'
+        echo 'FAILED  the other checks of this group were killed'
     fi
     passed=$((passed + counts[0]))
     failed=$((failed + counts[1]))
@@ -141,7 +141,7 @@ ends() {
     local status=$1 text=$2 ended=0
     shift 2
     "$@" >"$room/out" 2>"$room/err" || ended=$?
-    [ "$ended" -eq "$status" ] || echo "its status is $ended, and not $status"
+    [ "$ended" -eq "$status" ] || echo "the status is $ended, not $status"
     diff <(printf '%s\n' "$text") "$room/err" && diff /dev/null "$room/out" && [ "$ended" -eq "$status" ]
 }
 
@@ -174,7 +174,7 @@ assembles_to() {
     ./ultra asm "$1" "$2" >"$room/out" 2>&1 && diff /dev/null "$room/out"
 }
 
-# Makes the images that several subjects use: `ebreak` is one instruction, `three` are three, `example` adds to a word
+# Makes the images that several subjects use: `ebreak` has one instruction, `three` has three, `example` adds to a word
 # 100 times.
 make_images() {
     local text
@@ -243,7 +243,7 @@ final_words() {
 
 # ---- a debugger's session
 
-# The command that debugs, and the first of the 4,000 ports of which it gets one. A check that must not share ports sets
+# The command that debugs, and the first of the 4,000 ports from which it gets one. A check that must not share ports sets
 # another first one.
 debugging=(./ultra)
 ports=20000
@@ -269,5 +269,5 @@ start_debugger() {
 ends_debugging() {
     local ended=0
     wait "$debugger" || ended=$?
-    diff <(printf '%s' "$2") "$room/complaint" && [ "$ended" -eq "$1" ] || { echo "its status is $ended"; return 1; }
+    diff <(printf '%s' "$2") "$room/complaint" && [ "$ended" -eq "$1" ] || { echo "the status is $ended"; return 1; }
 }

@@ -1,9 +1,9 @@
 # shellcheck shell=bash
-# The program runs out of memory at each request in turn, and cannot start each thread in turn. A library that is loaded
+# The program is refused each request for memory in turn, and each thread in turn. A library that is loaded
 # before the C library refuses the request or the thread.
 
 if ! command -v cc >/dev/null; then
-    left_out 'memory refused, each request in turn, for there is no C compiler (cc)'
+    left_out 'refused memory and refused threads, because there is no C compiler (cc)'
     return
 fi
 
@@ -42,27 +42,27 @@ refuses_memory_of_a_run() {
         refuses_each_request 0 "$room/printed" /dev/null words "examples/$name.hex" || return 1
     done
 }
-check 'memory refused to a run, each request in turn: memory, status 4, or its output' refuses_memory_of_a_run
+check 'words without memory for one request reports memory, status 4, or prints its output' refuses_memory_of_a_run
 
 refuses_memory_of_a_bad_line() {
     printf '00000073\n0000007\n' >"$room/bad.hex"
     printf 'ultra: V1 line 2\n  %s\n' "$room/bad.hex" >"$room/told"
     refuses_each_request 2 /dev/null "$room/told" words "$room/bad.hex"
 }
-check 'memory refused to a bad line, each request in turn: memory, status 4, or V1' refuses_memory_of_a_bad_line
+check 'words without memory for one request reports memory, status 4, or a bad line' refuses_memory_of_a_bad_line
 
 refuses_memory_of_an_image() {
     example_report 2 000000c8 >"$room/report"
     refuses_each_request 0 "$room/report" /dev/null run --sweep --k 1 "$room/example.elf"
 }
-check 'memory refused to a run of an image, each request in turn: memory, status 4, or its report' refuses_memory_of_an_image
+check 'a run without memory for one request reports memory, status 4, or prints its report' refuses_memory_of_an_image
 
 refuses_memory_of_a_saved_run() {
     example_report 2 000000c8 >"$room/report"
     ./ultra run --sweep --k 1 --trace "$room/ample.trace" "$room/example.elf" >"$room/out" &&
         refuses_each_request 0 "$room/report" /dev/null run --sweep --k 1 --trace "$room/saved.trace" "$room/example.elf"
 }
-check 'memory refused to a run that is saved, each request in turn: memory, status 4, and no trace, or both' refuses_memory_of_a_saved_run
+check 'a saved run without memory for one request reports memory, status 4, without a trace, or has its report and its trace' refuses_memory_of_a_saved_run
 
 # One processor that halts. The bytes of its trace are worked out by hand. So are those of two wrong traces: one has a
 # turn too many (X7), and a turn of the other has a byte that it does not use (X3).
@@ -82,9 +82,9 @@ refuses_memory_of_a_halt() {
     printf 'ultra: X3\n  %s\n' "$room/unused.trace" >"$room/told"
     refuses_each_request 2 /dev/null "$room/told" replay "$room/unused.trace" "$room/ecall.elf"
 }
-check 'memory refused to a run that halts and to its replay, each request in turn: memory, status 4, or report, X7 or X3' refuses_memory_of_a_halt
+check 'a run that halts and its replays, without memory for one request, report memory, status 4, or their report, X7 or X3' refuses_memory_of_a_halt
 
-# On threads the number of a request differs from run to run, so the numbers go on to twice the first that no request
+# On threads the number of a request differs from run to run, so the numbers go up to twice the first that no request
 # has. A run that is out of memory or lacks a thread leaves no report and no trace. Any other has its report, to which
 # its trace replays.
 refuses_memory_of_threads() {
@@ -106,16 +106,16 @@ refuses_memory_of_threads() {
                 diff "$room/report" <(./ultra replay "$room/none.trace" "$room/example.elf" 2>&1) || return 1
         fi
     done
-    echo "$refusals of $number runs told of it"
+    echo "$refusals of $number runs reported it"
     [ "$refusals" -gt 30 ]
 }
-check 'memory refused to a run on threads, each request in turn: memory or Start, status 4, or its report' refuses_memory_of_threads
+check 'a run on threads without memory for one request reports memory or Start, status 4, or prints its report' refuses_memory_of_threads
 
 refuses_memory_of_a_hunt() {
     ./ultra hunt --k 1 --runs 3 "$room/example.elf" >"$room/hunted" && refuses_each_request 0 "$room/hunted" /dev/null \
         hunt --k 1 --runs 3 "$room/example.elf"
 }
-check 'memory refused to a hunt, each request in turn: memory, status 4, or its results' refuses_memory_of_a_hunt
+check 'a hunt without memory for one request reports memory, status 4, or prints its results' refuses_memory_of_a_hunt
 
 # ---- texts, and words of the command line
 
@@ -123,19 +123,19 @@ check 'memory refused to a hunt, each request in turn: memory, status 4, or its 
 refuses_memory_of_a_text() {
     refuses_each_request 0 "$room/ebreak.elf" /dev/null asm "$room/ebreak.s" /dev/stdout
 }
-check 'memory refused to a text, each request in turn: memory, status 4, or its image' refuses_memory_of_a_text
+check 'asm without memory for one request reports memory, status 4, or writes its image' refuses_memory_of_a_text
 
 refuses_memory_of_a_list() {
     refuses_each_request 1 examples/broken/several.out /dev/null check examples/broken/several.s
 }
-check 'memory refused to a list of faults, each request in turn: memory, status 4, or its lines' refuses_memory_of_a_list
+check 'check without memory for one request reports memory, status 4, or prints its lines' refuses_memory_of_a_list
 
 refuses_memory_of_code() {
     echo '00010000 00100073 ebreak' >"$room/one_line"
     refuses_each_request 0 "$room/one_line" /dev/null dis "$room/ebreak.elf" &&
         refuses_each_request 0 examples/fetch_and_add_100.dis /dev/null dis "$room/example.elf"
 }
-check 'memory refused to code, each request in turn: memory, status 4, or its lines' refuses_memory_of_code
+check 'dis without memory for one request reports memory, status 4, or prints its lines' refuses_memory_of_code
 
 # A command line that asks for help, and one that is wrong.
 refuses_memory_of_usage() {
@@ -147,12 +147,12 @@ refuses_memory_of_usage() {
         refuses_each_request 2 "$room/help" "$room/usage" $words || return 1
     done
 }
-check 'memory refused to help and to a wrong command line, each request in turn: memory, status 4, or its text' refuses_memory_of_usage
+check 'help and a wrong command line, without memory for one request, report memory, status 4, or print their text' refuses_memory_of_usage
 
 refuses_memory_of_a_code() {
     ./ultra explain A3 >"$room/explained" && refuses_each_request 0 "$room/explained" /dev/null explain A3
 }
-check 'memory refused to an explanation, each request in turn: memory, status 4, or its text' refuses_memory_of_a_code
+check 'explain without memory for one request reports memory, status 4, or prints its text' refuses_memory_of_a_code
 
 # ---- traces
 
@@ -165,17 +165,17 @@ refuses_memory_of_a_trace() {
     example_report 2 000000c8 >"$room/report"
     saves_a_run_of_two && refuses_each_request 0 "$room/report" /dev/null replay "$room/two.trace" "$room/example.elf"
 }
-check 'memory refused to a replay, each request in turn: memory, status 4, or its report' refuses_memory_of_a_trace
+check 'replay without memory for one request reports memory, status 4, or prints its report' refuses_memory_of_a_trace
 
 # refuses_memory_of_an_account COMMAND: a command that reads that trace.
 refuses_memory_of_an_account() {
     saves_a_run_of_two && ./ultra "$1" "$room/two.trace" "$room/example.elf" >"$room/account" &&
         refuses_each_request 0 "$room/account" /dev/null "$1" "$room/two.trace" "$room/example.elf"
 }
-check 'memory refused to a story, each request in turn: memory, status 4, or its lines' refuses_memory_of_an_account story
-check 'memory refused to a picture, each request in turn: memory, status 4, or its lines' refuses_memory_of_an_account picture
-check 'memory refused to statistics, each request in turn: memory, status 4, or their lines' refuses_memory_of_an_account stats
-check 'memory refused to an order, each request in turn: memory, status 4, or its lines' refuses_memory_of_an_account order
+check 'story without memory for one request reports memory, status 4, or prints its lines' refuses_memory_of_an_account story
+check 'picture without memory for one request reports memory, status 4, or prints its lines' refuses_memory_of_an_account picture
+check 'stats without memory for one request reports memory, status 4, or prints its lines' refuses_memory_of_an_account stats
+check 'order without memory for one request reports memory, status 4, or prints its lines' refuses_memory_of_an_account order
 
 # ---- searches
 
@@ -186,7 +186,7 @@ refuses_memory_of_results() {
             refuses_each_request 0 "$room/results" /dev/null explore --k 1 "$room/$name.elf" || return 1
     done
 }
-check 'memory refused to an exploration, each request in turn: memory, status 4, or its results' refuses_memory_of_results
+check 'explore without memory for one request reports memory, status 4, or prints its results' refuses_memory_of_results
 
 # without_a_size LINE: standard input with one size not explored. LINE is `N:k K: ..`, the number of its line and the
 # line.
@@ -219,7 +219,7 @@ refuses_memory_of_every_size() {
     echo "$refusals of $((number - 1)) refused requests gave 'ultra: memory'"
     [ "$refusals" -gt 30 ]
 }
-check 'memory refused to one of every size, each request in turn: memory, status 4, or its lines' refuses_memory_of_every_size
+check 'explore --every without memory for one request reports memory, status 4, or prints all its lines' refuses_memory_of_every_size
 
 # ---- sessions of a debugger
 
@@ -262,7 +262,7 @@ refuses_memory_of_a_session() {
     printf '%s\n' ok ok 'at 1' halted ok >"$room/ample"
     refuses_each_reply 0 --k 1 "$room/three.elf"
 }
-check 'memory refused to a session, each request in turn: memory, status 4, or its replies and E06' refuses_memory_of_a_session
+check 'a session without memory for one request reports memory, status 4, or replies E06 or as with enough memory' refuses_memory_of_a_session
 
 # Four processors add 1, 2, 4 and 8 to a word that is 10, which makes 25. Each line but the last two is sent twice, so
 # that one of the two is carried out; to carry out both must change nothing. The second step of a processor is a fault.
@@ -279,7 +279,7 @@ refuses_memory_of_four_adds() {
     cut -d'|' -f2 "$room/both" >"$room/ample"
     assembles_to "$room/adder.s" "$room/adder.elf" && refuses_each_reply 1 --k 2 "$room/adder.elf"
 }
-check 'memory refused to a session of four adds, each request in turn: memory, status 4, or its replies and E06' refuses_memory_of_four_adds
+check 'a session of four adds without memory for one request reports memory, status 4, or replies E06 or as with enough memory' refuses_memory_of_four_adds
 
 # ---- threads
 
@@ -302,13 +302,13 @@ refuses_each_thread() {
     echo "$((number - 1)) threads were refused"
     [ "$number" -eq 6 ] && [ "$ended" -eq 0 ] && diff "$room/report" "$room/out"
 }
-check 'a thread refused, each in turn: Start, status 4, and no trace' refuses_each_thread
+check 'a run reports that one of its threads cannot start: Start, status 4, and no trace' refuses_each_thread
 
 # ---- calls of the libraries, by the programs of their tests
 
 # Runs each test whose name ends with short_of_memory with each request for memory refused in turn, until a run makes no
 # more. The test passes, or it ends because a call reports that it is out of memory; a wrong answer of a call would fail
-# the test. On threads the number of a request differs from run to run, so there the numbers go on to twice the first
+# the test. On threads the number of a request differs from run to run, so there the numbers go up to twice the first
 # that no request has. Each request takes a run, so a test may make 10,000 at most: most make a few hundred, and that of
 # command lines 5,000. Only `rt ci` leaves the programs of tests.
 refuses_memory_of_calls() {
@@ -337,7 +337,7 @@ refuses_memory_of_calls() {
     [ "$tests" -gt 10 ]
 }
 
-# A run without end, of which each of the five threads is refused in turn. The test finds that all others were cancelled
+# A run without end is refused each of its five threads in turn. The test finds that all others were cancelled
 # and that none used up its budget. Only `rt ci` leaves the programs of tests.
 stops_without_a_thread() {
     local program=crates/thread_tests/out/thread_tests_tests number name
@@ -350,8 +350,8 @@ stops_without_a_thread() {
     done
 }
 if compgen -G 'crates/*/out/*_tests' >/dev/null; then
-    check 'memory refused to calls, each request in turn: want of memory, or their answers' refuses_memory_of_calls
-    check 'a thread refused to a run without end, each in turn: the others stop at once' stops_without_a_thread
+    check 'calls without memory for one request report that they are out of memory, or give their answers' refuses_memory_of_calls
+    check 'the other threads of a run without end stop at once if one cannot start' stops_without_a_thread
 else
-    left_out 'memory refused to calls, and a thread to a run without end, for only rt ci leaves the programs of tests'
+    left_out 'calls without memory, and a run without end that lacks a thread, because only rt ci leaves the programs of tests'
 fi

@@ -13,13 +13,13 @@ combines_more_often() {
     runs_and_replays 4 00000190 --k 2 --r "$1" && runs_and_replays 4 00000190 --k 2 --r "$1" --sweep &&
         diff <(echo " 55 4c 54 52 02 02 04 04 0$1 00 00 00") <(od -An -v -tx1 -N12 "$room/example.trace")
 }
-check 'an entry of a queue is combined up to two times, and the trace tells of it' combines_more_often 2
-check 'an entry of a queue is combined up to three times, and the trace tells of it' combines_more_often 3
+check 'an entry of a queue is combined up to two times, and the header of the trace says so' combines_more_often 2
+check 'an entry of a queue is combined up to three times, and the header of the trace says so' combines_more_often 3
 
 # ---- algorithms
 
 # ends_as_worked_out TEXT RECORDS MOST: on machines of 0 to MOST stages with wait buffers of RECORDS records, by the
-# sweep, all processors halt, and the shared words are those that were worked out.
+# sweep, all processors halt, and the shared words are those that were worked out by hand.
 ends_as_worked_out() {
     local k name=${1#examples/algorithms/} image=$room/${1##*/}
     name=${name%.s}
@@ -32,8 +32,8 @@ ends_as_worked_out() {
     done
 }
 for it in examples/algorithms/{,wrong/}*.s; do
-    check "$it ends as worked out on 1 to 64 processors" ends_as_worked_out "$it" 4 6
-    check "$it does so without combining on 1 to 16" ends_as_worked_out "$it" 0 4
+    check "$it ends as worked out by hand on 1 to 64 processors" ends_as_worked_out "$it" 4 6
+    check "$it ends as worked out by hand on 1 to 16 processors without combining" ends_as_worked_out "$it" 0 4
 done
 
 # The waiting processors keep the queues of their module full, so the last one never arrives.
@@ -49,7 +49,7 @@ finds_a_writer() {
     ./ultra run --sweep --k 5 --b 0 --c 16 "$room/readers_writers_one_look.elf" >"$room/out" 2>&1 || ended=$?
     [ "$ended" -eq 1 ] && grep ' fault 8 ' "$room/out" && ./ultra run --sweep --k 5 --b 0 --c 16 "$room/readers_writers.elf"
 }
-check 'in long queues the sweep finds that readers look once' finds_a_writer
+check 'with long queues the sweep finds that readers look only once' finds_a_writer
 
 # count_steps_by_kind TRACE: its numbers of turns, moves of requests, services and moves of replies, and of all steps.
 count_steps_by_kind() {
@@ -67,7 +67,7 @@ takes_steps_of_each_kind() {
 combines_at_a_hot_spot() {
     takes_steps_of_each_kind 0 '51584 76800 12800 76800 217984' && takes_steps_of_each_kind 4 '51584 25200 200 12600 89584'
 }
-check 'a hot spot of 64 processors takes the steps that were worked out, with combining and without' combines_at_a_hot_spot
+check 'a hot spot of 64 processors takes the steps that were worked out by hand, with combining and without' combines_at_a_hot_spot
 
 # ---- what ends a run
 
@@ -76,7 +76,7 @@ reports_a_fault() {
     ./ultra run --k 0 "$room/ebreak.elf" >"$room/out" 2>"$room/err" || ended=$?
     [ "$ended" -eq 1 ] && diff <(echo 'processor 0 pc 00010000 fault 8 retired 0 console -') "$room/out" && diff /dev/null "$room/err"
 }
-check 'a fault of a processor: its report, status 1' reports_a_fault
+check 'a run reports the fault of a processor, with status 1' reports_a_fault
 
 # A run whose budget is used up, in steps of the sweep or in rounds of a thread, leaves no report and no trace.
 spends_its_budget() {
@@ -84,35 +84,35 @@ spends_its_budget() {
     ends 4 'ultra: budget' ./ultra run --sweep --budget 100 --trace "$room/none.trace" "$room/example.elf" &&
         ends 4 'ultra: budget' ./ultra run --budget 100 --trace "$room/none.trace" "$room/example.elf" && [ ! -e "$room/none.trace" ]
 }
-check 'a budget that is used up: budget, status 4, and no trace' spends_its_budget
+check 'a run reports a used-up budget: budget, status 4, and no trace' spends_its_budget
 
 # ---- machines that do not exist
 
 lacks_room_for_replies() {
     ends 2 'ultra: K1' ./ultra run --r 3 --c 3 "$room/example.elf"
 }
-check 'no room for the replies of three combinations: K1, status 2' lacks_room_for_replies
+check 'a run refuses queues without room for the replies of three combinations: K1, status 2' lacks_room_for_replies
 
 refuses_seven_stages() {
     local ended=0
     ./ultra run --k 7 "$room/example.elf" >"$room/out" 2>"$room/err" || ended=$?
     [ "$ended" -eq 2 ] && [ ! -s "$room/out" ] && grep "invalid value '7' for '--k <NUMBER>': 7 is not in 0..=6" "$room/err"
 }
-check 'seven stages: what is wrong, status 2' refuses_seven_stages
+check 'a run refuses seven stages, with status 2' refuses_seven_stages
 
 # ---- reports and traces that cannot be written
 
 report_to_a_full_disk() {
     ./ultra run --k 0 "$room/example.elf" >/dev/full
 }
-check 'a report to a full disk: link, status 3' ends_with_code 3 link "standard output: $no_space_left" report_to_a_full_disk
+check 'a run reports a full disk for its report: link, status 3' ends_with_code 3 link "standard output: $no_space_left" report_to_a_full_disk
 
 refuses_a_trace_in_no_folder() {
     ends_with_code 3 X5 "$room/none/example.trace: $no_such_file" ./ultra run --trace "$room/none/example.trace" "$room/example.elf"
 }
-check 'a trace in no folder: X5, status 3' refuses_a_trace_in_no_folder
+check 'a run reports a missing folder of its trace: X5, status 3' refuses_a_trace_in_no_folder
 
 refuses_a_full_disk_for_a_trace() {
     ends_with_code 3 X5 "/dev/full: $no_space_left" ./ultra run --k 0 --trace /dev/full "$room/example.elf"
 }
-check 'a trace that is full: X5, status 3' refuses_a_full_disk_for_a_trace
+check 'a run reports a full disk for its trace: X5, status 3' refuses_a_full_disk_for_a_trace

@@ -1,7 +1,7 @@
 # shellcheck shell=bash
-# Runs on threads. Each is repeated many times, since no two need go the same way.
+# Runs on threads. Each is repeated many times, since no two need take the same steps.
 
-# agrees_once RUN STAGES IMAGE FILTER: a run on threads with --start RUN has a report of which FILTER leaves what
+# agrees_once RUN STAGES IMAGE FILTER: a run on threads with --start RUN has a report that FILTER reduces to what
 # $room/report has, and its trace replays to the same report. It has five minutes.
 agrees_once() {
     local own=$room/threads.$1
@@ -59,8 +59,8 @@ ends_on_threads() {
     { final_words "$3" "$2" && echo $((1 << $2)); } >"$room/report"
     agrees_on_threads "$1" "$2" "$room/$3.elf" words_and_halts
 }
-check 'the barrier ends as worked out on threads of eight processors, in 200 runs' ends_on_threads 200 3 barrier
-check 'the queue ends as worked out on threads of eight processors, in 200 runs' ends_on_threads 200 3 queue
+check 'the barrier ends as worked out by hand on threads of eight processors, in 200 runs' ends_on_threads 200 3 barrier
+check 'the queue ends as worked out by hand on threads of eight processors, in 200 runs' ends_on_threads 200 3 queue
 
 # ---- runs that do not end
 
@@ -72,7 +72,7 @@ fills_its_log() {
     assembles_to "$room/endless.s" "$room/endless.elf" &&
         ends 4 'ultra: L2' ./ultra run --k 0 --trace "$room/none.trace" "$room/endless.elf" && [ ! -e "$room/none.trace" ]
 }
-check 'more steps on threads than a log holds: L2, status 4, and no trace' fills_its_log
+check 'a run on threads reports that its log is full: L2, status 4, and no trace' fills_its_log
 
 # Sixty-four processors read a word again and again, and are stopped for a while, so that the run takes more than a
 # second. On a terminal a line shows the progress and is erased before the fault is printed. With --quiet there is none.
@@ -88,7 +88,7 @@ shows_progress_of_a_run() {
     [ "$ended" -eq 4 ] && diff <(printf '%s\n' 'ultra: budget\r\n') "$room/out"
 }
 if command -v python3 >/dev/null; then
-    check 'a long run on threads shows on a terminal how far it is, but with --quiet' shows_progress_of_a_run
+    check 'on a terminal a line shows the progress of a run on threads, except with --quiet' shows_progress_of_a_run
 else
-    left_out 'a run on a terminal, for there is no python3'
+    left_out 'a run on a terminal, because python3 is not installed'
 fi

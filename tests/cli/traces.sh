@@ -13,12 +13,12 @@ orders_its_adds() {
     [ "$(grep -c ' amoadd.w ' "$room/out")" -eq "$1" ] &&
         awk -v end="$2" 'BEGIN { last = "00000000" } $(NF - 1) != last { print; exit 1 } { last = $NF } END { if (last != end) exit 1 }' "$room/out"
 }
-then_check 'the order of its trace: each add finds what the one before left' orders_its_adds 6400 00001900
+then_check 'in the order of its trace each add finds what the one before it left' orders_its_adds 6400 00001900
 
 refuses_an_order_of_no_image() {
     ends_with_code 3 link "$room/none.elf: $no_such_file" ./ultra order "$room/example.trace" "$room/none.elf"
 }
-then_check 'the order of a run whose image is not there: link, status 3' refuses_an_order_of_no_image
+then_check 'order reports a missing image: link, status 3' refuses_an_order_of_no_image
 
 # The reader of standard output ends after one line. Then the write fails: programs of the toolchain ignore SIGPIPE.
 ends_with_its_reader() {
@@ -29,12 +29,12 @@ ends_with_its_reader() {
     diff <(printf 'ultra: link\n  standard output: Broken pipe (os error 32)\n') "$room/err" && [ "$(wc -l <"$room/out")" -eq 1 ] &&
         [ "${statuses[*]}" = '3 0' ]
 }
-then_check 'the reader of an order goes: link, status 3' ends_with_its_reader
+then_check 'order reports that the reader of its output has ended: link, status 3' ends_with_its_reader
 
 refuses_an_order_of_no_trace() {
     ends_with_code 3 link "$room/none.trace: $no_such_file" ./ultra order "$room/none.trace" "$room/example.elf"
 }
-check 'the order of a trace that is not there: link, status 3' refuses_an_order_of_no_trace
+check 'order reports a missing trace: link, status 3' refuses_an_order_of_no_trace
 
 # Of a trace of two processors, processor 2 and word 16 of 16 are refused before the image is read. Processor 1 and word
 # 15 are not.
@@ -46,7 +46,7 @@ refuses_numbers_out_of_range() {
             ./ultra order --words 16 --word 16 "$room/two.trace" "$room/none.elf" &&
         ./ultra order --processor 1 --words 16 --word 15 "$room/two.trace" "$room/example.elf" >"$room/out" 2>"$room/err" && diff /dev/null "$room/err"
 }
-check 'the order of a processor or a word that the machine has not: what is wrong, status 2' refuses_numbers_out_of_range
+check 'order refuses a processor or a word that the machine does not have, with status 2' refuses_numbers_out_of_range
 
 # ---- statistics and the story
 
@@ -58,12 +58,12 @@ counts_a_hot_spot() {
         ./ultra stats "$room/hot_spot.trace" "$room/hot_spot.elf" >"$room/stats" || return 1
     shift
     for line in "$@"; do
-        grep -Fx "$line" "$room/stats" || { echo "not there: $line"; return 1; }
+        grep -Fx "$line" "$room/stats" || { echo "not found: $line"; return 1; }
     done
 }
 
-# As docs/COMMANDS.md says: without wait records each of the 12,800 references moves through six stages by itself.
-# With four, the requests of a round join in pairs at each stage, so the module serves one for 64.
+# As docs/COMMANDS.md says: without wait buffers each of the 12,800 references moves through six stages by itself.
+# With buffers of four records, the requests of a round combine in pairs at each stage, so the module serves one for 64.
 counts_what_combining_saves() {
     counts_a_hot_spot 0 'steps 217984 turns 51584 up 76800 serve 12800 down 76800 poke 0 rounds 13205' \
         'stage 0 up 12800 combined 0 down 12800 split 0 requests 2 records 0 replies 1' \
@@ -72,7 +72,7 @@ counts_what_combining_saves() {
             'stage 0 up 6400 combined 6400 down 0 split 6400 requests 1 records 1 replies 1' \
             'stage 5 up 200 combined 200 down 0 split 200 requests 1 records 1 replies 1' 'module 0 serves 200 64x200'
 }
-check 'the statistics of a hot spot: what combining saves' counts_what_combining_saves
+check 'the statistics of a hot spot show what combining saves' counts_what_combining_saves
 
 # The story of the hot spot has a line for each step of its trace, in order. Each reference that is sent is served in
 # one group, and retires.
@@ -84,7 +84,7 @@ tells_the_story_of_a_hot_spot() {
     awk '$4 == "sends" { sent++ } $4 == "serves" { served += $5 } $4 == "retires" && / amoadd.w / { retired++ }
         END { print sent, served, retired; if (sent != 12800 || served != 12800 || retired != 6400) exit 1 }' "$room/story"
 }
-then_check 'the story of a hot spot: a line for each step, each reference served once' tells_the_story_of_a_hot_spot
+then_check 'the story of a hot spot has a line for each step, and each reference is served once' tells_the_story_of_a_hot_spot
 
 # has_the_longest_queues TRACE FILE: the statistics have the same longest queues as the story.
 has_the_longest_queues() {
@@ -126,16 +126,16 @@ draws_each_step() {
 }
 if command -v python3 >/dev/null; then
     for it in 0 1 2 3; do
-        check "pictures behind each step of a run on $((1 << it)) processors show what its story tells" draws_each_step "$it"
+        check "the pictures after each step of a run on $((1 << it)) processors show what its story says" draws_each_step "$it"
     done
 else
-    left_out 'pictures beside a story, for there is no python3'
+    left_out 'pictures compared with a story, because python3 is not installed'
 fi
 
 refuses_a_picture_of_no_trace() {
     ends_with_code 3 link "$room/none.trace: $no_such_file" ./ultra picture "$room/none.trace" "$room/example.elf"
 }
-check 'a picture of a trace that is not there: link, status 3' refuses_a_picture_of_no_trace
+check 'picture reports a missing trace: link, status 3' refuses_a_picture_of_no_trace
 
 # ---- traces of the wrong algorithms
 
@@ -144,7 +144,7 @@ fails_by_its_trace() {
     ./ultra asm "$1" "$room/wrong.elf" && diff "${1%.s}.out" <(with_status ./ultra replay "${1%.s}.trace" "$room/wrong.elf" 2>&1)
 }
 for it in examples/algorithms/wrong/*.s; do
-    check "$it fails by its trace" fails_by_its_trace "$it"
+    check "the trace of $it replays to its failure" fails_by_its_trace "$it"
 done
 
 # ---- traces that are refused
@@ -152,12 +152,12 @@ done
 refuses_a_missing_trace() {
     ends_with_code 3 link "$room/none.trace: $no_such_file" ./ultra replay "$room/none.trace" "$room/example.elf"
 }
-check 'a trace that is not there: link, status 3' refuses_a_missing_trace
+check 'replay reports a missing trace: link, status 3' refuses_a_missing_trace
 
 refuses_an_unreadable_trace() {
     ends_with_code 3 X5 "$room: $is_a_folder" ./ultra replay "$room" "$room/example.elf"
 }
-check 'a trace that cannot be read: X5, status 3' refuses_an_unreadable_trace
+check 'replay reports a trace that cannot be read: X5, status 3' refuses_an_unreadable_trace
 
 # Saves a trace of the example on two processors, unless there is one already.
 saves_the_example() {
@@ -168,7 +168,7 @@ refuses_a_cut_trace() {
     saves_the_example && head -c 23 "$room/example.trace" >"$room/cut.trace" &&
         ends_with_code 2 X1 "$room/cut.trace" ./ultra replay "$room/cut.trace" "$room/example.elf"
 }
-check 'a cut trace: X1, status 2' refuses_a_cut_trace
+check 'replay refuses a trace that is cut off: X1, status 2' refuses_a_cut_trace
 
 # With another image no processor sends a request, so the first step of a switch cannot be taken.
 refuses_another_image() {
@@ -177,7 +177,7 @@ refuses_another_image() {
     ./ultra replay "$room/example.trace" "$room/ebreak.elf" >"$room/out" 2>"$room/err" || ended=$?
     [ "$ended" -eq 2 ] && [ ! -s "$room/out" ] && grep -E '^ultra: X7 step [0-9]+$' "$room/err"
 }
-check 'the trace of another image: X7 and its step, status 2' refuses_another_image
+check 'replay refuses the trace of another image: X7 and its step, status 2' refuses_another_image
 
 # A trace with a turn after the one in which the processor halts.
 refuses_a_turn_too_many() {
@@ -186,4 +186,4 @@ refuses_a_turn_too_many() {
     assembles_to "$room/ecall.s" "$room/ecall.elf" &&
         ends_with_code 2 'X7 step 1' "$room/turns.trace" ./ultra replay "$room/turns.trace" "$room/ecall.elf"
 }
-check 'a trace with a turn too many: X7 and its step, status 2' refuses_a_turn_too_many
+check 'replay refuses a trace with a turn too many: X7 and its step, status 2' refuses_a_turn_too_many
