@@ -1,4 +1,4 @@
-// hostile PROGRAM SEED TRIES SECONDS FOLDER FILE..: gives the program inputs that nobody would write, and looks at what it answers.
+// hostile PROGRAM SEED TRIES SECONDS FOLDER FILE..: gives the program inputs that nobody would write, and checks its answers.
 // It stops after TRIES tries, or after SECONDS seconds if TRIES is 0.
 //
 // An input is one of the files with a few bytes changed, cut out, doubled or taken from another file; or random bytes; or lines of
@@ -7,7 +7,7 @@
 // closed in the middle.
 //
 // The program has to end by itself within 20 seconds of its own time and 60 on the clock, in bounded memory, with a status from 0 to
-// 4. If that is 0 or 1, it prints nothing on standard error. Otherwise it prints one fault there that has a code, and no output. If sizes
+// 4. If the status is 0 or 1, it prints nothing on standard error. Otherwise it prints one fault with a code there, and no output. If sizes
 // are not explored, `explore --every` prints a line for each size, and a fault for each that is not. Each line of a debugger has one
 // reply, up to the first `quit` and while the connection holds, and every reply is of a documented form.
 //
@@ -120,7 +120,7 @@ static void random_lines(struct bytes *input) {
     }
 }
 
-// The lines of a debugger: a command with operands, as many as it has but in one of eight, and one line in sixteen is no such thing.
+// The lines of a debugger: most are a command with operands, the right number of them in seven of eight; one in sixteen is no command.
 static void random_session(struct bytes *input) {
     static const struct { const char *name; unsigned operands; } lines[] = {
         { "state", 1 }, { "regs", 1 }, { "reg", 2 }, { "set", 3 }, { "mem", 3 }, { "write", 3 }, { "break", 1 }, { "clear", 1 }, { "step", 1 }, { "cont", 0 },
@@ -259,7 +259,7 @@ static struct ended end_of(pid_t child) {
     return ended;
 }
 
-// A connection to the port, once the child listens there, or -1 if the child has ended.
+// A connection to the port after the child listens there, or -1 if the child has ended.
 static int connection_to(int port, pid_t child) {
     struct sockaddr_in address = { .sin_family = AF_INET, .sin_port = htons(port), .sin_addr = { htonl(INADDR_LOOPBACK) } };
     for (int tries = 0; tries < 20000; tries++) {
@@ -267,7 +267,7 @@ static int connection_to(int port, pid_t child) {
         int connection = socket(AF_INET, SOCK_STREAM | SOCK_NONBLOCK, 0);
         if (connection < 0)
             fail("socket");
-        // To a port of the same machine a connection is made at once, or not at all.
+        // A connection to a port of the same machine is made at once, or not at all.
         if (connect(connection, (struct sockaddr *)&address, sizeof address) == 0 || errno == EINPROGRESS) {
             struct pollfd stands = { connection, POLLOUT, 0 };
             if (poll(&stands, 1, 1000) == 1 && !(stands.revents & (POLLERR | POLLHUP)))
@@ -342,20 +342,20 @@ static const char *wrong_replies(const struct ended *ended, const struct bytes *
             from = i + 1;
             count++;
         }
-    // What MOST_BYTES cut off is not looked at.
+    // Replies that MOST_BYTES cut off are not checked.
     if (is_cut || replies->count == MOST_BYTES || ended->status > 1)
         return NULL;
-    // A connection that is closed with bytes that nobody has read, those after `quit`, may lose replies on their way.
+    // A connection that is closed with unread bytes, those after `quit`, may lose replies on their way.
     bool is_more;
     size_t most = lines_of(lines, &is_more);
     bool is_right = count <= most && (is_more || (count == most && from == replies->count));
-    return is_right ? NULL : "how many replies there are";
+    return is_right ? NULL : "the number of replies";
 }
 
 // The faults that are printed, each with the line that names its file, and the lines of every size.
 static regex_t fault, faults, sizes;
 
-// Whether this is a line of each size, beside faults of some of them.
+// Whether the output is a line for each size, and standard error the faults of some of them.
 static bool are_sizes(int out, const char *said) {
     static char printed[4096];
     ssize_t count = pread(out, printed, sizeof printed - 1, 0);
@@ -378,17 +378,17 @@ static const char *wrong(const struct ended *ended, const struct command *comman
     if (ended->signal)
         return "a signal ended it";
     if (ended->status >= STATUSES)
-        return "its status";
+        return "the status";
     if (ended->kilobytes > command->kilobytes)
         return "the memory that it takes";
     if (ended->status <= 1)
-        return count ? "what it says on standard error" : NULL;
+        return count ? "what it prints on standard error" : NULL;
     if (command->takes == AN_IMAGE_OF_EVERY_SIZE && printed.st_size)
-        return are_sizes(out, said) ? NULL : "the sizes that it tells";
+        return are_sizes(out, said) ? NULL : "the sizes that it reports";
     if (regexec(&fault, said, 0, NULL, 0))
-        return "the fault that it tells";
-    // A session may fail once it has said where it listens.
-    return printed.st_size && command->takes != LINES ? "what it prints beside a fault" : NULL;
+        return "the fault that it reports";
+    // A session may fail after it has printed where it listens.
+    return printed.st_size && command->takes != LINES ? "what it prints besides a fault" : NULL;
 }
 
 int main(int argc, char **argv) {
@@ -421,7 +421,7 @@ int main(int argc, char **argv) {
     path_of(one, one_path);
     path_of(other, other_path);
     static struct bytes input, second, replies;
-    // Each program of its seed has a port of its own.
+    // Programs with different seeds have different ports.
     int port = 20000 + seed % 10000;
     char port_text[8];
     sprintf(port_text, "%d", port);

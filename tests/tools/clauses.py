@@ -1,9 +1,9 @@
 #!/usr/bin/env python3
 """Makes docs/CLAUSES.md: each public call of the libraries with the clauses of its contract and what its doc comment says of it.
 
-    tests/tools/clauses.py            prints what the file has to be
-    tests/tools/clauses.py --check    says whether it is, by status 1 where it is not
-    tests/tools/clauses.py --write    writes it"""
+    tests/tools/clauses.py            prints the text of the file
+    tests/tools/clauses.py --check    ends with status 1 if the file has another text
+    tests/tools/clauses.py --write    writes the file"""
 import pathlib
 import re
 import sys
@@ -28,7 +28,7 @@ SENTENCE = re.compile(r"^(.*?[.:])(?=\s+[A-Z`\[]|\s*$)", re.S)
 
 
 def without_parameters(head):
-    """What follows the angle brackets at the start of a head."""
+    """What comes after the angle brackets at the start of a head."""
     if not head.startswith("<"):
         return head
     depth = 0
@@ -40,7 +40,7 @@ def without_parameters(head):
 
 
 def owner_of(lines, at):
-    """The type or trait whose calls the block that begins at this line has; None if a trait's impl, as its calls are those of the trait."""
+    """The type or trait whose calls are in the block that begins at this line; None for an impl of a trait, whose calls are those of the trait."""
     head = " ".join(lines[at : at + 8]).split("{")[0]
     if re.match(r"(?:pub )?impl\b", head) and re.search(r"\bfor\b(?!\s*<)", head):
         return None
@@ -105,7 +105,7 @@ def calls_of(file):
 
 
 def names_given_out(crate):
-    """The names that a library gives out at its root."""
+    """The names that a library exports at its root."""
     root = re.sub(r"//[^\n]*", "", (crate / "src/lib.rt").read_text())
     for used in re.findall(r"^pub use ([^;]+);", root, re.M):
         if "{" in used:

@@ -1,18 +1,18 @@
 #!/usr/bin/env python3
-"""What `ultra explore` prints of a text, found by a search of its own.
+"""What `ultra explore` prints for a text, found by an independent search.
 
     every_result.py TEXT STAGES [--each] [--states N]    as `ultra explore --k STAGES`
     every_result.py TEXT --every [--each] [--states N]   as `ultra explore --every`
 
-It knows the instructions of examples/explore, reads the text and not the image, and has nothing of the simulator's. A state is
-each processor at its next reference to a shared word, with the registers that it may still read, or stopped, or where it is seen to
-spin, and the shared words. A state in which one spins is not gone on from.
+It knows the instructions of examples/explore, reads the text and not the image, and shares nothing with the simulator. A state is
+each processor at its next reference to a shared word, with the registers that it may still read, or stopped, or found to spin, and
+the shared words. The search does not go on from a state in which a processor spins.
 
 Processors that are in the same state at their first reference are of one class, and can be exchanged, unless a processor asks for its
-own number later. States that differ by an exchange are one: each has the processors of a class in the order in which their states
+own number later. States that differ by an exchange are one: it has the processors of a class in the order in which their states
 were found. With --each every processor is a class of its own.
 
-It prints faults, and ends, as `ultra` does.
+It prints faults as `ultra` does, and ends with the same status.
 """
 import argparse
 import sys
@@ -109,7 +109,7 @@ class Text:
 
 
 class Processor:
-    """A processor of a machine of so many. `quiet` says that it may not ask for its own number."""
+    """A processor of a machine with this many. `quiet` says that it may not ask for its own number."""
 
     def __init__(self, text, processors, state, quiet):
         self.text, self.processors, self.quiet = text, processors, quiet
@@ -137,7 +137,7 @@ class Processor:
         return ((self.registers[base] + offset) % TOP - SHARED) // 4
 
     def refer(self, old):
-        """Retires a reference to a word that had this value, and gives the value that it has then."""
+        """Retires a reference to a word that had this value, and returns the value that it then has."""
         name, ops = self.text.at(self.pc)
         new = old if name == 'lw' else self.get(ops[0 if name == 'sw' else 1])
         if name in CHANGED:
@@ -148,7 +148,7 @@ class Processor:
         return new
 
     def settle(self):
-        """Goes on to the next reference or to the stop, or until it stands as it did before, and so spins."""
+        """Goes on to the next reference or to the stop, or until it returns to an earlier state of its own, and so spins."""
         seen = set()
         for _ in range(ALONE):
             if self.end or self.text.at(self.pc)[0] in REFERENCES:
@@ -227,7 +227,7 @@ class Search:
         return self.numbers[state]
 
     def opened(self, me):
-        """The state in which a processor is at its first reference. If processors are exchanged its own number is no part of it."""
+        """The state of a processor at its first reference. If processors are exchanged, its own number is no part of it."""
         processor = Processor(self.text, self.processors, (me, CODE, '', '', (0,) * 32), False)
         processor.settle()
         if self.exchanged:
@@ -235,7 +235,7 @@ class Search:
         return self.numbered(processor)
 
     def moved(self, state, p):
-        """What a reference of a processor leads to. None if it has stopped."""
+        """The state to which a reference of a processor leads. None if it has stopped."""
         stations, words = state
         word = self.words[stations[p]]
         if word is None:
@@ -250,7 +250,7 @@ class Search:
         return self.in_order(stations, p, after), tuple(words)
 
     def referred(self, number, old):
-        """What a processor's state becomes by its reference to a word that has this value, and the word's new value."""
+        """A processor's state after its reference to a word that has this value, and the word's new value."""
         if (number, old) not in self.after:
             processor = Processor(self.text, self.processors, self.known[number], self.exchanged)
             new = processor.refer(old)
@@ -259,7 +259,7 @@ class Search:
         return self.after[number, old]
 
     def in_order(self, stations, p, after):
-        """The same, but for the state of one processor, and with the processors of its class in order."""
+        """The states of processors after the state of one has changed, with the processors of its class in order."""
         stations = list(stations)
         stations[p] = after
         own = self.like[p]
@@ -268,7 +268,7 @@ class Search:
         return tuple(stations)
 
     def movers(self, stations):
-        """The processors, but of those of one class that are in the same state the first alone."""
+        """The processors, but only the first of those that are in one class and in the same state."""
         for p, number in enumerate(stations):
             own = self.like[p]
             before = own.index(p) - 1 if len(own) > 1 else -1
@@ -279,7 +279,7 @@ class Search:
         self.states, self.moves = [(first, ())], []
         places = {self.states[0]: 0}
         for state in self.states:
-            # A state in which a processor spins is not gone on from: it leads to itself.
+            # The search does not go on from a state in which a processor spins: it leads to itself.
             spins = not self.spinners.isdisjoint(state[0])
             targets = {places[state]: True} if spins else {}
             for p in () if spins else self.movers(state[0]):
@@ -295,7 +295,7 @@ class Search:
                 raise GivenUp('states')
 
     def results(self):
-        """Each result once: how each processor has stopped, those of a class in order, and the words."""
+        """Each result once: how each processor stopped, those of a class in order, and the words."""
         results = {}
         for stations, words in self.states:
             processors = [self.known[number][1:4] for number in stations]
@@ -307,7 +307,7 @@ class Search:
         return list(results)
 
     def ways_on(self):
-        """What is told of schedules, and whether there is a state from which no end can be reached."""
+        """The verdict on schedules, and whether there is a state from which no end can be reached."""
         if self.spread(lambda targets, held: all(t in held for t in targets)) == len(self.states):
             return 'every schedule ends', False
         stuck = len(self.states) - self.spread(lambda targets, held: not targets or any(t in held for t in targets))
@@ -316,8 +316,8 @@ class Search:
         return 'from ' + counted(stuck, 'state') + ' no end can be reached', True
 
     def spread(self, ready):
-        """How many states there are of which something holds that holds where it is ready by those of which it holds already, found
-        backwards."""
+        """The number of states of which something holds: of each that is `ready`, given those of which it holds already. It is found
+        backwards, from the states without successors."""
         before = [[] for _ in self.states]
         for at, targets in enumerate(self.moves):
             for target in targets:
@@ -332,7 +332,7 @@ class Search:
 
 
 def rank_of(end):
-    """Halts come in the order of their bytes, and above them faults in the order of their numbers."""
+    """Halts come in the order of their bytes, and after them faults in the order of their numbers."""
     kind, value = end.split()
     return (0, int(value, 16)) if kind == 'halt' else (1, int(value))
 
@@ -376,7 +376,7 @@ def exit_status(results, is_stuck):
 
 
 def print_results(search):
-    """Prints all results of a size, and gives the exit status."""
+    """Prints all results of a size, and returns the exit status."""
     results, (schedules, is_stuck) = search.results(), search.ways_on()
     for at, (processors, words) in enumerate(results, 1):
         print('result', at)
@@ -394,7 +394,7 @@ def print_results(search):
 
 
 def print_size(text, k, each, limit):
-    """Prints the line of a size, and gives its exit status."""
+    """Prints the line of a size, and returns its exit status."""
     start = f'k {k}: {counted(1 << k, "processor")}, '
     try:
         search = searched(text, 1 << k, each, limit)

@@ -1,5 +1,5 @@
 #!/usr/bin/env python3
-"""exchanged.py FOUND EACH: compares what `ultra explore` printed of a program, FOUND, with what it printed with --each, EACH.
+"""exchanged.py FOUND EACH: compares what `ultra explore` printed for a program, FOUND, with what it printed with --each, EACH.
 
 The results of EACH have to be those of FOUND with the processors that can be exchanged in every order, and each has to come from one
 result of FOUND alone. If not, prints what is wrong and ends with status 1."""
@@ -52,7 +52,7 @@ def exchanges(processors, classes):
 def main():
     (found, classes), (each, singles) = map(read, sys.argv[1:])
     if singles or not each:
-        return 'a class with --each, or no result'
+        return 'with --each there is a class, or no result'
     left = {(tuple(processors), tuple(words)) for processors, words in each}
     if len(left) != len(each):
         return 'a result is listed twice with --each'
@@ -62,7 +62,7 @@ def main():
                 return f'result {at} stands for one that is not listed with --each, or for one that another result stands for'
             left.remove((exchanged, tuple(words)))
     if left:
-        return 'no result stands for one that is listed with --each'
+        return 'for a result that is listed with --each no result stands'
     return 0
 
 

@@ -10,7 +10,7 @@
 #include <sys/socket.h>
 #include <unistd.h>
 
-// Whether this call fails: then `errno` says why.
+// Whether this call fails. If it does, `errno` says why.
 static int fails(int is_write) {
     static atomic_long count;
     static long number;

@@ -2,7 +2,7 @@
 """on_a_terminal.py SECONDS COMMAND WORD ..: runs a command whose standard error is a terminal.
 
 Prints what the command writes there, with control characters as in a Python string, and discards its standard output. The exit status is
-that of the command. When the command has worked for a moment, it is stopped for SECONDS, so that it takes longer than that on any host."""
+that of the command. After the command has worked for a moment, it is stopped for SECONDS, so that it takes longer than that on any host."""
 
 import os
 import pty
@@ -16,7 +16,7 @@ ours, theirs = pty.openpty()
 command = subprocess.Popen(sys.argv[2:], stdin=subprocess.DEVNULL, stdout=subprocess.DEVNULL, stderr=theirs)
 os.close(theirs)
 while command.poll() is None:
-    # The 14th and 15th field: its processor time, in ticks of 10 ms. The second field, its name, ends with a bracket.
+    # Fields 14 and 15 are its processor time, in ticks of 10 ms. Field 2, its name, ends with a bracket.
     with open(f"/proc/{command.pid}/stat") as line:
         fields = line.read().rpartition(")")[2].split()
     if int(fields[11]) + int(fields[12]) >= 3:

@@ -2,7 +2,7 @@
 """pictures.py STORY FOLDER: checks FOLDER/N.svg, the picture of the machine after N steps, for each N up to the number of lines of STORY.
 
 Each picture is XML. Each processor whose reference is open according to the story is in one message, and no other processor is in any.
-There are as many wait records as requests that have joined others and are not answered yet."""
+There are as many records as requests that were combined into others and are not answered yet."""
 import re
 import sys
 import xml.etree.ElementTree as tree
@@ -33,7 +33,7 @@ for number in range(len(lines) + 1):
     try:
         look(tree.parse(f"{sys.argv[2]}/{number}.svg").getroot(), opened, records)
     except (AssertionError, tree.ParseError) as fault:
-        sys.exit(f"behind {number} steps: {fault}")
+        sys.exit(f"after {number} steps: {fault}")
     if number < len(lines):
         words = lines[number].replace(":", "").split()
         if words[1] == "turn":

@@ -1,5 +1,5 @@
 #!/usr/bin/env python3
-"""queues.py STORY STATS: checks that the longest queues and wait buffers of each stage in STATS are those of the run that STORY tells.
+"""queues.py STORY STATS: checks that the longest queues and wait buffers of each stage in STATS are those of the run in STORY.
 
 Where a message goes follows from the wires of an omega network. The wires are shuffled before each stage. After it the last bit of a
 request's wire is the module's bit of that stage, and the last bit of a reply's wire is the processor's."""
@@ -31,7 +31,7 @@ def before(stage, wire, processor):
     return right(wire & ~1 | processor >> (k - 1 - stage) & 1)
 
 
-# From the last line on: to which module the next reference of each processor goes.
+# The lines from the last to the first: to which module the next reference of each processor goes.
 module, goes = {}, [0] * len(lines)
 for number in reversed(range(len(lines))):
     step = lines[number]
@@ -82,4 +82,4 @@ for number, step in enumerate(lines):
             records[stage, wire].remove((leader, second))
             put(replies, 2, stage, (stage, before(stage, wire, second)), second)
 if longest != [[int(it) for it in stage] for stage in told]:
-    sys.exit(f"by the story {longest}, told {told}")
+    sys.exit(f"by the story {longest}, by the statistics {told}")

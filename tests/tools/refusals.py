@@ -9,7 +9,7 @@ import sys
 
 TOP = pathlib.Path(__file__).resolve().parents[2]
 TABLE = "| Call | It refuses with | What is left |"
-# What is behind a comment, and where a signature's result ends.
+# A comment, and where a signature ends.
 COMMENT = re.compile(r"//[^\n]*")
 END = re.compile(r"\{|;|\n\s*(?:requires|ensures|where|decreases|ghost)\b")
 FUNCTION = re.compile(r"^(?P<indent> *)(?P<pub>pub )?fn (?P<name>\w+)", re.M)
@@ -17,7 +17,7 @@ OWNER = re.compile(r"^(?:pub )?(?:impl|trait)\b[^{;]*?(?=\n\{|\{|\n +(?:ghost|wh
 
 
 def owner_of(head):
-    """The trait or type whose calls stand behind this head; None for an impl of a trait, whose calls are those of the trait."""
+    """The trait or type whose calls come after this head; None for an impl of a trait, whose calls are those of the trait."""
     if " for " in head:
         return None
     head = re.sub(r"^(?:pub )?(?:impl|trait)\s*", "", head)
@@ -32,7 +32,7 @@ def owner_of(head):
 
 
 def calls_of(text):
-    """Each function of a file: its name, its owner (an empty text where it has none), and whether it answers a `Result`."""
+    """Each public function of a file: its name, its owner (an empty text if it has none), and whether it returns a `Result`."""
     text = COMMENT.sub("", text)
     heads = [(it.start(), owner_of(it[0]), "trait" in it[0].split("{")[0].split()[:2]) for it in OWNER.finditer(text)]
     for it in FUNCTION.finditer(text):
@@ -46,14 +46,14 @@ def calls_of(text):
 
 
 def names_given_out(crate):
-    """The names that a library gives out at its root."""
+    """The names that a library exports at its root."""
     root = COMMENT.sub("", (crate / "src/lib.rt").read_text())
     for used in re.findall(r"^pub use ([^;]+);", root, re.M):
         yield from re.findall(r"\w+(?=\s*[,}]|$)", used.rsplit("::", 1)[-1] if "{" not in used else used[used.index("{") :])
 
 
 def public_calls():
-    """Each public call of the libraries, and whether it answers a `Result`."""
+    """Each public call of the libraries, and whether it returns a `Result`."""
     for crate in sorted((TOP / "crates").iterdir()):
         if not (crate / "src/lib.rt").exists() or crate.name.endswith("_tests") or crate.name.startswith("test_"):
             continue
@@ -82,12 +82,12 @@ def main():
             missing += 1
     for name in known:
         if name not in [call for call, _, _ in calls]:
-            print(f"{name} is listed, and is no public call")
+            print(f"{name} is listed, but is no public call")
             missing += 1
         if known.count(name) > 1:
             print(f"{name} is listed twice")
             missing += 1
-    print(f"{sum(answers for _, _, answers in calls)} public calls answer a Result, of {len(calls)}")
+    print(f"{sum(answers for _, _, answers in calls)} public calls return a Result, of {len(calls)}")
     return min(missing, 1)
 
 

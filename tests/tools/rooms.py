@@ -56,7 +56,7 @@ def drawing(rooms, builds_on):
     layer = {}
     for room in rooms:  # lowest first
         layer[room] = max((layer[it] + 1 for it in builds_on[room]), default=0)
-    # A room that nothing forces down stands just below the lowest that builds on it.
+    # A room that nothing forces down goes just below the lowest room that builds on it.
     for room in reversed(list(rooms)):
         above = [layer[it] for it in rooms if room in builds_on[it]]
         if above:
