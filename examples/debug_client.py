@@ -3,9 +3,9 @@
 
     debug_client.py PORT [LINE ..]
 
-Each argument after the port is a line; without any, the lines come from standard input. A line is sent after the reply to
-the one before it has come. The exit status is 0; or 1 if the session ends before a reply comes, or there is none at this
-port; or 2 if the port is not a number.
+Each argument after the port is a line; without arguments, the lines come from standard input. A line is sent after the
+reply to the one before it. The exit status is 0; or 1 if the session ends before a reply comes, or there is no session at
+this port; or 2 if the port is not a number.
 """
 
 import socket

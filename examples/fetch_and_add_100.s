@@ -1,9 +1,9 @@
-# Each processor adds 1 to shared word 0 a hundred times, by an indivisible amoadd.w. No addition is lost, however many processors
+# Each processor adds 1 to shared word 0 a hundred times, by the indivisible amoadd.w. No addition is lost, however many processors
 # take part: each then reads at least its own hundred, writes A to the console and halts. Otherwise it stops at the ebreak.
 start: lui x5, 0x80000          # the address of shared word 0
  addi x6, x0, 100               # how many additions are left
  addi x7, x0, 1
-loop: amoadd.w x8, x7, (x5)     # x8 = the word before
+loop: amoadd.w x8, x7, (x5)     # x8 = the old value of the word
  addi x6, x6, -1
  bne x6, x0, loop
  lw x9, 0(x5)

@@ -1,7 +1,7 @@
-# A barrier that is used again and again: no processor goes on before all have come.
+# A barrier that is used again and again: no processor goes on before all have arrived.
 #
-# Word 0 counts the processors that have come, and word 1 how often all have come. By its fetch-and-add the last to come knows that
-# it is the last. It sets the count back, and only then lets the others go, which wait for word 1 to change. Ten times each
+# Word 0 counts the processors that have arrived, and word 1 how often all have. By its fetch-and-add the last to arrive knows that
+# it is the last. It resets the count, and only then lets the others go, which wait for word 1 to change. Ten times each
 # processor adds 1 to word 2 between two barriers, and sees the additions of all. If it does not, it stops at the ebreak.
 start: addi a7, x0, 2           # call 2: the processor's own number
  ecall
@@ -11,7 +11,7 @@ start: addi a7, x0, 2           # call 2: the processor's own number
  addi s1, a0, 0
  lui s2, 0x80000                # the address of shared word 0
  addi s3, x0, 10                # rounds that are left
- addi s4, x0, 0                 # what word 2 has when all have added
+ addi s4, x0, 0                 # the value of word 2 when all have added
  addi s5, x0, 1
 round: addi t0, s2, 8
  amoadd.w x0, s5, (t0)
@@ -27,7 +27,7 @@ round: addi t0, s2, 8
  ecall
 bad: ebreak
 
-barrier: lw t0, 4(s2)           # before it is counted, since all may be let go as soon as it is
+barrier: lw t0, 4(s2)           # read before it is counted, since all may be let go as soon as it is
  amoadd.w t1, s5, (s2)
  addi t1, t1, 1
  bne t1, s1, wait

@@ -1,7 +1,7 @@
 # A hot spot: all processors refer to one word.
 #
-# A hundred times each processor adds 1 to word 0 and then reads it. Between these two references, and from one round to the next,
-# the word does not fall, and it grows by at least the processor's own addition. Otherwise the processor stops at the ebreak.
+# Each processor adds 1 to word 0 and then reads it, a hundred times. Between these two references, and from one round to the next,
+# the word does not decrease, and it grows by at least the processor's own addition. Otherwise the processor stops at the ebreak.
 start: lui s2, 0x80000          # the address of shared word 0
  addi s3, x0, 100               # rounds that are left
  addi s5, x0, 1

@@ -1,7 +1,7 @@
 # Prefix sums by doubling: processor p starts with p + 1, and ends with the sum of all numbers up to its own.
 #
 # Number p is in word 16 + p. In each round a processor reads the number `distance` places before its own, and adds it after a
-# barrier, so that nobody reads what was added in the same round. Then the distance doubles. Words 0 and 1 belong to the
+# barrier, so that no one reads what was added in the same round. Then the distance doubles. Words 0 and 1 belong to the
 # barrier.
 start: addi a7, x0, 2           # call 2: the processor's own number
  ecall

@@ -1,12 +1,12 @@
-# A queue by fetch-and-add: many processors put in and take out at once, nothing is lost, and nothing comes out twice.
+# A queue by fetch-and-add: many processors insert and delete at once, nothing is lost, and nothing comes out twice.
 #
-# The queue has 8 cells. Word 0 counts the cells that are taken or about to be, and word 1 the items that are there and not about
+# The queue has 8 cells. Word 0 counts the cells that are in use or about to be, and word 1 the items that are there and not about
 # to be taken out. A processor tests such a word, changes it by a fetch-and-add, tests the value that this gave, and changes the
-# word back if the second test fails. So nothing goes into a full queue, nothing comes out of an empty one, and nobody waits for a
+# word back if the second test fails. So nothing goes into a full queue, nothing comes out of an empty one, and no one waits for a
 # lock. Words 2 and 3 number the insertions and the deletions; number i uses cell i mod 8. A cell has two words, from word 8 on:
 # how often it was filled and emptied, from which a processor sees whether it is its turn, and the item.
 #
-# Each processor puts in 16 items, 16 * p to 16 * p + 15, and takes as many out. It sets the bit of each item that it gets, in
+# Processor p inserts 16 items, 16 * p to 16 * p + 15, and deletes as many. It sets the bit of each item that it gets, in
 # the words from word 32 on, and stops at the ebreak if the bit was set before.
 start: addi a7, x0, 2           # call 2: the processor's own number
  ecall
@@ -34,7 +34,7 @@ item: addi a1, s0, 0
  ecall
 bad: ebreak
 
-insert: addi t1, x0, 8          # puts a1 in
+insert: addi t1, x0, 8          # inserts a1
 full: lw t0, 0(s2)
  bge t0, t1, full               # test,
  amoadd.w t0, s5, (s2)          # increment,
@@ -57,7 +57,7 @@ fill: lw t4, 32(t3)
  amoadd.w x0, s5, (t4)          # one more item is there
  jalr x0, 0(ra)
 
-delete: addi t1, s2, 4          # takes a1 out
+delete: addi t1, s2, 4          # deletes an item, into a1
 empty: lw t0, 4(s2)
  bge x0, t0, empty              # test,
  amoadd.w t0, s6, (t1)          # decrement,
@@ -78,5 +78,5 @@ clear: lw t4, 32(t3)
  sw x0, 36(t3)
  addi t2, t2, 1
  sw t2, 32(t3)
- amoadd.w x0, s6, (s2)          # one cell less is taken
+ amoadd.w x0, s6, (s2)          # one cell fewer is in use
  jalr x0, 0(ra)

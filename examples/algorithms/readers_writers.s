@@ -32,7 +32,7 @@ read: lw t0, 4(s2)
 reading: lw t1, 8(s2)
  lw t2, 12(s2)
  bne t1, t2, bad
- amoadd.w x0, s6, (s2)          # one reader less
+ amoadd.w x0, s6, (s2)          # one reader fewer
  jalr x0, 0(ra)
 bad: ebreak
 

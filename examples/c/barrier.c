@@ -1,10 +1,10 @@
-// A barrier that is used again and again: no processor goes on before all have come. Ten times each adds 1 to a sum between
+// A barrier that is used again and again: no processor goes on before all have arrived. Ten times each adds 1 to a sum between
 // two barriers, and sees the additions of all.
 #include "parallel.h"
 
 #define ROUNDS 10
 
-// How many processors are counted at the barrier, how often all have come, and the sum: shared words 0 to 2.
+// How many processors are counted at the barrier, how often all have arrived, and the sum: shared words 0 to 2.
 static SHARED(struct {
     struct barrier barrier;
     int sum;

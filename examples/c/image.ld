@@ -26,7 +26,7 @@ PHDRS
 ultra_stack_size = DEFINED(stack_size) ? stack_size : 2K;
 stack_top = ORIGIN(local) + ultra_stack_size;
 
-/* As many shared words as the simulator has unless told otherwise by `--words`. */
+/* As many shared words as the simulator has unless `--words` gives another number. */
 ultra_shared_words = DEFINED(shared_words) ? shared_words : 1024;
 
 SECTIONS
@@ -42,7 +42,7 @@ SECTIONS
 
     .bss (NOLOAD) : { *(.bss .bss.* .sbss .sbss.* COMMON) } >local :local
 
-    /* What would be left out silently. */
+    /* Sections that would be left out silently. */
     .constructors : { KEEP(*(.preinit_array .preinit_array.* .init_array .init_array.* .ctors .ctors.* .fini_array .fini_array.* .dtors .dtors.*)) } >code :code
     .thread_local : { *(.tdata .tdata.* .tbss .tbss.*) } >code :code
 

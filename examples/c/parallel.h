@@ -7,8 +7,8 @@
 
 // ---- test, decrement, retest (Gottlieb, Lubachevsky and Rudolph, 1983)
 //
-// Takes `amount` from the word if the word has as much, and says whether it did. It never waits.
-// Invariant: the word plus what was taken, less what was put back, is what it started with. So no more is ever taken than was there.
+// Takes `amount` from the word if the word has that much, and returns whether it did. It never waits.
+// Invariant: the word plus what was taken, minus what was put back, is what it started with. So no more is ever taken than was there.
 static inline int test_decrement_retest(volatile int *word, int amount) {
     if (*word < amount) {
         return 0;
@@ -20,7 +20,7 @@ static inline int test_decrement_retest(volatile int *word, int amount) {
     return 0;
 }
 
-// Adds `amount` if the word stays within `bound`, and says whether it did. It never waits.
+// Adds `amount` if the word stays within `bound`, and returns whether it did. It never waits.
 static inline int test_increment_retest(volatile int *word, int amount, int bound) {
     if (*word > bound - amount) {
         return 0;
@@ -34,8 +34,8 @@ static inline int test_increment_retest(volatile int *word, int amount, int boun
 
 // ---- a barrier that can be used again and again
 //
-// Invariant: `count` is how many wait at the barrier, fewer than there are processors; `passed` is how often all have come.
-// Nobody leaves before all have come: the last one sets the count back before it raises `passed`.
+// Invariant: `count` is how many wait at the barrier, fewer than there are processors; `passed` is how often all have arrived.
+// No processor leaves before all have arrived: the last one resets the count before it increments `passed`.
 struct barrier {
     int count;
     int passed;
@@ -67,12 +67,12 @@ static inline void ticket_lock(volatile struct ticket_lock *lock) {
     }
 }
 
-// To be called by the processor that has the lock.
+// Only the processor that has the lock may call this.
 static inline void ticket_unlock(volatile struct ticket_lock *lock) { lock->serving = lock->serving + 1; }
 
 // ---- many readers, or one writer
 //
-// The low half of the word counts readers that are inside or have knocked, the high half writers.
+// The low half of the word counts readers that are inside or try to enter, the high half writers.
 // Invariant: a reader that is inside is counted, and entered when no writer was; a writer that is inside found no other writer, and
 // then waited until no reader was counted.
 #define ULTRA_WRITER 0x10000
@@ -120,7 +120,7 @@ struct queue_cell {
     int item;
 };
 
-// Says whether there was room.
+// Returns whether there was room.
 static inline int queue_insert(volatile struct queue *queue, volatile struct queue_cell *cells, int size, int item) {
     if (!test_increment_retest(&queue->upper, 1, size)) {
         return 0;
@@ -135,7 +135,7 @@ static inline int queue_insert(volatile struct queue *queue, volatile struct que
     return 1;
 }
 
-// Says whether there was an item, and stores it in `item`.
+// Returns whether there was an item, and stores it in `item`.
 static inline int queue_delete(volatile struct queue *queue, volatile struct queue_cell *cells, int size, int *item) {
     if (!test_decrement_retest(&queue->lower, 1)) {
         return 0;

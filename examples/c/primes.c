@@ -1,4 +1,4 @@
-// Processors share the numbers below 1,000. Each finds the primes among its own by `%` and `*`, writes how many there are to its
+// The processors divide the numbers below 1,000 among themselves. Each finds the primes among its own by `%` and `*`, writes their count to its
 // console, in decimal digits by `/` and `%`, and adds their number and their sum to two words that all share.
 
 #include "ultra.h"

@@ -1,5 +1,5 @@
-// A queue by fetch-and-add: many put in and take out at once, nothing is lost, and nothing comes out twice. Each processor puts in
-// ITEMS items and takes as many out. It sets the bit of each item that it gets, and fails if the bit was set before.
+// A queue by fetch-and-add: many insert and delete at once, nothing is lost, and nothing comes out twice. Each processor inserts
+// ITEMS items and deletes as many. It sets the bit of each item that it gets, and fails if the bit was set before.
 #include "parallel.h"
 
 #define CELLS 8

@@ -1,7 +1,7 @@
-// Functions that compilers call unasked.
+// Functions that compilers call on their own.
 #include <stddef.h>
 
-// The empty asm keeps a compiler from replacing a loop by a call of the function that contains it.
+// The empty asm keeps a compiler from replacing a loop with a call of the function that contains it.
 
 void *memcpy(void *restrict to, const void *restrict from, size_t count) {
     for (size_t i = 0; i < count; i++) {

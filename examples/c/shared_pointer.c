@@ -1,4 +1,4 @@
-// Processor 0 publishes a node by a pointer that all share; the others wait for the pointer, and read the node.
+// Processor 0 publishes a node through a pointer that all share; the others wait for the pointer, and read the node.
 #include "ultra.h"
 
 struct node {

@@ -6,7 +6,7 @@
 start:
     lui     sp, %hi(stack_top)
     addi    sp, sp, %lo(stack_top)
-    li      a7, 3               # how many processors there are
+    li      a7, 3               # the number of processors
     ecall
     mv      s0, a0
     li      a7, 2               # the processor's own number

@@ -1,4 +1,4 @@
-// Three times each processor adds its number, counted from 1, to a sum that all share. It halts with what it found there the last
+// Each processor adds its number, counted from 1, to a sum that all share, three times. It halts with what it found there the last
 // time.
 #include "ultra.h"
 

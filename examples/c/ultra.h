@@ -1,4 +1,4 @@
-// What a C or C++ program for the simulator uses: shared variables, fetch-and-phi on them, environment calls, and the console.
+// What C and C++ programs for the simulator use: shared variables, fetch-and-phi on them, environment calls, and the console.
 // parallel.h has barriers, locks and queues made of these.
 #ifndef ULTRA_H
 #define ULTRA_H
@@ -19,7 +19,7 @@
 
 // ---- fetch-and-phi
 //
-// Reads a shared word and replaces it by a function of it and of the operand, in one indivisible step; gives back the word before, in
+// Reads a shared word and replaces it by a function of it and of the operand, in one indivisible step; returns the old value, in
 // its own type. The word is an int, an unsigned, an enum or a pointer: anything of four bytes, which the compiler checks.
 
 #define fetch_and_add(WORD, OPERAND) ULTRA_FETCH_AND(ultra_amoadd, WORD, OPERAND)
@@ -66,7 +66,7 @@ ULTRA_AMO(ultra_amomaxu, "amomaxu.w")
 
 // ---- environment calls
 
-// The number of the call is in a7, its argument and its answer in a0.
+// The number of the call is in a7, its argument and its result in a0.
 static inline unsigned environment_call(unsigned number, unsigned argument) {
     register unsigned a0 __asm__("a0") = argument;
     register unsigned a7 __asm__("a7") = number;
@@ -94,7 +94,7 @@ static inline __attribute__((noreturn)) void fail(void) {
 
 // ---- the console: the report has each byte as two hex digits
 
-// The low byte.
+// Prints the low byte.
 static inline void put(unsigned byte) { environment_call(1, byte); }
 
 static inline void put_text(const char *text) {
@@ -103,7 +103,7 @@ static inline void put_text(const char *text) {
     }
 }
 
-// In decimal digits.
+// Prints a number in decimal digits.
 static inline void put_unsigned(unsigned number) {
     unsigned power = 1;
     while (number / power >= 10) {
@@ -121,7 +121,7 @@ static inline void put_int(int number) {
     put_unsigned(number < 0 ? 0U - (unsigned)number : (unsigned)number);
 }
 
-// In eight hex digits.
+// Prints a number in eight hex digits.
 static inline void put_hex(unsigned number) {
     for (int shift = 28; shift >= 0; shift -= 4) {
         put("0123456789abcdef"[number >> shift & 15]);

@@ -1,18 +1,18 @@
-# A barrier that is used twice. Word 0 counts the processors that have come, word 1 the additions, and word 2 how often all have come.
-# The last to come sets the count back, and only then lets the others go. A processor stops at the ebreak if it misses an addition
+# A barrier that is used twice. Word 0 counts the processors that have arrived, word 1 the additions, and word 2 how often all arrived.
+# The last to arrive resets the count, and only then lets the others go. A processor stops at the ebreak if it misses an addition
 # that was made before the barrier.
  addi a7, x0, 3                 # call 3: how many processors there are
  ecall
  addi s1, a0, 0
  lui s2, 0x80000                # the address of shared word 0
  addi s3, x0, 2                 # rounds that are left
- addi s4, x0, 0                 # how many additions there are when all have added
+ addi s4, x0, 0                 # the number of additions when all have added
  addi s5, x0, 1
  addi s6, s2, 4
  addi s7, s2, 8
 round: amoadd.w x0, s5, (s6)
  add s4, s4, s1
- lw t0, 0(s7)                   # how often all have come, before this processor is counted
+ lw t0, 0(s7)                   # how often all have arrived, before this processor is counted
  amoadd.w t1, s5, (s2)
  addi t1, t1, 1
  bne t1, s1, wait

@@ -1,7 +1,7 @@
-# A wrong barrier, used once: a processor waits for all but one. Word 0 counts the processors that have come, word 1 the additions.
+# A wrong barrier, used once: a processor waits for all but one. Word 0 counts the processors that have arrived, word 1 the additions.
 # A processor stops at the ebreak if it misses an addition that was made before the barrier.
 # Question: how many processors can go on too early? On 64 processors there are 64 results: in them 0 to 63 processors stop by fault 8,
-# and the others halt with 00. Words 0 and 1 are 64 (00000040) in each. So all but one can, the last to come.
+# and the others halt with 00. Words 0 and 1 are 64 (00000040) in each. So all can but the last to arrive.
  addi a7, x0, 3                 # call 3: how many processors there are
  ecall
  addi s1, a0, 0

@@ -1,7 +1,7 @@
-# A wrong barrier, used once: a processor looks how often all have come only after it is counted. The last to come may let the others go
-# before one of them looks, and that one waits for the next time. Word 0 counts the processors that have come, word 1 how often all have.
+# A wrong barrier, used once: a processor reads how often all have arrived only after it is counted. The last to arrive may let them go
+# before one of them looks, and that one waits for the next time. Word 0 counts the processors that have arrived, word 1 how often all have.
 # Question: can a processor wait for ever? On 64 processors there is one result: all halt with 00, and word 1 is 1. But no end can be
-# reached from a state in which the last has let the others go, and one of them has not looked before. So it can.
+# reached from a state in which the last has let the others go and one of them had not looked before. So it can.
  addi a7, x0, 3                 # call 3: how many processors there are
  ecall
  addi s1, a0, -1

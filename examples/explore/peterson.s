@@ -1,4 +1,4 @@
-# Peterson's lock for two processors: each says that it wants the lock, and then lets the other go first. Words 0 and 1 say who wants it,
+# Peterson's lock for two processors: each announces that it wants the lock, and then lets the other go first. Words 0 and 1 say who wants it,
 # and word 2 who goes first. Inside, each adds 1 to word 3 by a load and a store.
  addi a7, x0, 2                 # call 2: the processor's own number
  ecall

@@ -1,4 +1,4 @@
-# Peterson's lock the wrong way round: each lets the other go first before it says that it wants the lock. Words 0 and 1 say who wants it,
+# Peterson's lock the wrong way round: each lets the other go first before it announces that it wants the lock. Words 0 and 1 say who wants it,
 # and word 2 who goes first. Inside, each adds 1 to word 3 by a load and a store.
  addi a7, x0, 2                 # call 2: the processor's own number
  ecall

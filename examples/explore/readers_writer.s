@@ -18,7 +18,7 @@ read: lw t0, 4(s2)
 reading: lw t1, 8(s2)
  lw t2, 12(s2)
  bne t1, t2, bad
- amoadd.w x0, s6, (s2)          # one reader less
+ amoadd.w x0, s6, (s2)          # one reader fewer
  jal x0, done
 write: amoswap.w t1, s5, (s7)
 leaving: lw t1, 0(s2)

@@ -2,7 +2,7 @@
 # served. Inside, each adds 1 to word 2 by a load and a store.
  lui s2, 0x80000                # the address of shared word 0
  addi s5, x0, 1
- addi s3, x0, 2                 # how often to take it
+ addi s3, x0, 2                 # how often it takes the lock
 again: amoadd.w t0, s5, (s2)
 wait: lw t1, 4(s2)
  bne t1, t0, wait

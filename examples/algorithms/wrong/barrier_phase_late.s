@@ -1,6 +1,6 @@
 # A wrong barrier: a processor reads too late which barrier it is at.
 #
-# As barrier.s, but for one line: word 1 is read after the fetch-and-add that counts the processor, and not before it.
+# It is barrier.s except for one line: word 1 is read after the fetch-and-add that counts the processor, and not before it.
 start: addi a7, x0, 2           # call 2: the processor's own number
  ecall
  addi s0, a0, 0
@@ -9,7 +9,7 @@ start: addi a7, x0, 2           # call 2: the processor's own number
  addi s1, a0, 0
  lui s2, 0x80000                # the address of shared word 0
  addi s3, x0, 10                # rounds that are left
- addi s4, x0, 0                 # what word 2 has when all have added
+ addi s4, x0, 0                 # the value of word 2 when all have added
  addi s5, x0, 1
 round: addi t0, s2, 8
  amoadd.w x0, s5, (t0)
@@ -26,7 +26,7 @@ round: addi t0, s2, 8
 bad: ebreak
 
 barrier: amoadd.w t1, s5, (s2)
- lw t0, 4(s2)                   # wrong: the others may have come, and have let all go, since it was counted
+ lw t0, 4(s2)                   # wrong: since it was counted, the others may have arrived and let all go
  addi t1, t1, 1
  bne t1, s1, wait
  sw x0, 0(s2)

@@ -1,6 +1,6 @@
-# A wrong barrier: the count is set back too late.
+# A wrong barrier: the count is reset too late.
 #
-# As barrier.s, but for two lines: the last to come lets the others go, and only then sets the count back.
+# It is barrier.s except for two lines: the last to arrive lets the others go, and only then resets the count.
 start: addi a7, x0, 2           # call 2: the processor's own number
  ecall
  addi s0, a0, 0
@@ -9,7 +9,7 @@ start: addi a7, x0, 2           # call 2: the processor's own number
  addi s1, a0, 0
  lui s2, 0x80000                # the address of shared word 0
  addi s3, x0, 10                # rounds that are left
- addi s4, x0, 0                 # what word 2 has when all have added
+ addi s4, x0, 0                 # the value of word 2 when all have added
  addi s5, x0, 1
 round: addi t0, s2, 8
  amoadd.w x0, s5, (t0)
@@ -25,13 +25,13 @@ round: addi t0, s2, 8
  ecall
 bad: ebreak
 
-barrier: lw t0, 4(s2)           # before it is counted, since all may be let go as soon as it is
+barrier: lw t0, 4(s2)           # read before it is counted, since all may be let go as soon as it is
  amoadd.w t1, s5, (s2)
  addi t1, t1, 1
  bne t1, s1, wait
  addi t2, s2, 4
  amoadd.w x0, s5, (t2)
- sw x0, 0(s2)                   # wrong: one that was let go may have been counted for the next barrier by now
+ sw x0, 0(s2)                   # wrong: by now one that was let go may be counted at the next barrier
  jalr x0, 0(ra)
 wait: lw t1, 4(s2)
  beq t1, t0, wait

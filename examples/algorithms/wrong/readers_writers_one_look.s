@@ -1,6 +1,6 @@
 # Wrong readers and writers: a reader looks for a writer only once.
 #
-# As readers_writers.s, but without the three lines of the second look.
+# It is readers_writers.s without the three lines of the second look.
 start: addi a7, x0, 2           # call 2: the processor's own number
  ecall
  andi s0, a0, 1                 # 0: it writes
@@ -21,11 +21,11 @@ next: addi s3, s3, -1
 
 read: lw t0, 4(s2)
  bne t0, x0, read
- amoadd.w x0, s5, (s2)          # wrong: a writer may have come since it looked, and have found no reader
+ amoadd.w x0, s5, (s2)          # wrong: since it looked, a writer may have entered and found no reader
  lw t1, 8(s2)
  lw t2, 12(s2)
  bne t1, t2, bad
- amoadd.w x0, s6, (s2)          # one reader less
+ amoadd.w x0, s6, (s2)          # one reader fewer
  jalr x0, 0(ra)
 bad: ebreak
 

@@ -1,4 +1,4 @@
-// Nobody leaves a barrier before all have come, and it can be used again.
+// No processor leaves a barrier before all have arrived, and it can be used again.
 #include "parallel.h"
 
 static SHARED(struct barrier) barrier;

@@ -1,4 +1,4 @@
-// Each inserts its number, counted from 1, and deletes one item: nothing is lost, and nothing comes out twice.
+// Each processor inserts its number, counted from 1, and deletes one item: nothing is lost, and nothing comes out twice.
 #include "parallel.h"
 
 #define SIZE 2
