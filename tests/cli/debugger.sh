@@ -39,7 +39,7 @@ answers_errors() {
         <(printf '%s\n' 'mem 0 80000000 0' 'reg 8 1' 'reg 0 21' 'set 0 20 10002' 'regs  0' $'state 0\r' 'set 0 1 7' 'reg 0 1' \
             'write 0 80000000 2A000000' 'mem 0 80000000 4' quit | debugs 0 "$room/three.elf")
 }
-check 'a debugger replies what is wrong with a line' answers_errors
+check 'a debugger answers a wrong line with its error' answers_errors
 
 # Ten thousand lines and a last one, each with its reply.
 answers_many_lines() {

@@ -76,7 +76,7 @@ fails_a_text() {
         fails_each_call '7r:link 10w:link' "$room/list" check "$room/ebreak.s" &&
         fails_each_call "$(stat -c %s "$room/explained")w:link" "$room/explained" explain A3
 }
-check 'asm, check and explain report each call that fails, after the bytes before it: link or I9, status 3' fails_a_text
+check 'asm, check and explain report any call that fails, and keep the bytes written before it: link or I9, status 3' fails_a_text
 
 # The 426 bytes are 10 lines of 12 bytes, 22 of 13, one of 12 and one of 8.
 fails_words() {
@@ -84,7 +84,7 @@ fails_words() {
     ./ultra words "$room/ebreak.hex" >"$room/words"
     fails_each_call '10r:link 426w:link' "$room/words" words "$room/ebreak.hex"
 }
-check 'words reports each call that fails, after the bytes before it: link, status 3' fails_words
+check 'words reports any call that fails, and keeps the bytes written before it: link, status 3' fails_words
 
 fails_a_run() {
     local cut
@@ -95,7 +95,7 @@ fails_a_run() {
         fails_each_call '89r:I9 24t:X5 52w:link' "$room/report" run --k 0 --trace "$room/saved.trace" "$room/ebreak.elf" &&
         cut=$room/cut.elf && head -c 51 "$room/ebreak.elf" >"$cut" && fails_each_call "52r:I9 10e:2 $((3 + ${#cut}))e:2" /dev/null dis "$cut"
 }
-check 'dis and run report each call that fails, after the bytes before it: I9, X5 or link, status 3' fails_a_run
+check 'dis and run report any call that fails, and keep the bytes written before it: I9, X5 or link, status 3' fails_a_run
 
 # Each command that reads a trace, here that of `ebreak` on one processor.
 fails_a_trace() {
@@ -106,7 +106,7 @@ fails_a_trace() {
         fails_each_call "25r:X5 89r:I9 $(stat -c %s "$room/ample")w:link" "$room/ample" "$command" "$room/ample.trace" "$room/ebreak.elf" || return 1
     done
 }
-check 'each command on a trace reports each call that fails, after the bytes before it: X5, I9 or link, status 3' fails_a_trace
+check 'each command on a trace reports any call that fails, and keeps the bytes written before it: X5, I9 or link, status 3' fails_a_trace
 
 # Of two runs with the same result, the first has a trace.
 fails_a_search() {
@@ -119,7 +119,7 @@ fails_a_search() {
     mv "$room/ample1.trace" "$room/ample.trace" &&
         fails_each_call "89r:I9 24t:X5 $(stat -c %s "$room/ample")w:link" "$room/ample" hunt --k 0 --runs 2 --trace "$room/saved" "$room/ebreak.elf"
 }
-check 'explore and hunt report each call that fails, after the bytes before it: I9, X5 or link, status 3' fails_a_search
+check 'explore and hunt report any call that fails, and keep the bytes written before it: I9, X5 or link, status 3' fails_a_search
 
 # Sends `lines` to the debugger, each after the reply to the previous one, and leaves the replies in $room/replies. The
 # link may break.
@@ -168,4 +168,4 @@ fails_a_session() {
         done
     done
 }
-check 'debug reports each call that fails, after the replies before it: I9 or link, status 3' fails_a_session
+check 'debug reports any call that fails, and its client has the replies before it: I9 or link, status 3' fails_a_session

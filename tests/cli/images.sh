@@ -84,7 +84,7 @@ check 'check reports a text that the user may not read: link, status 3' refuses_
 refuses_an_image_in_no_folder() {
     ends_with_code 3 I9 "$room/none/ebreak.elf: $no_such_file" ./ultra asm "$room/ebreak.s" "$room/none/ebreak.elf"
 }
-check 'asm reports a missing folder of OUT: I9, status 3' refuses_an_image_in_no_folder
+check 'asm reports a missing folder for OUT: I9, status 3' refuses_an_image_in_no_folder
 
 refuses_a_full_disk_for_an_image() {
     ends_with_code 3 I9 "/dev/full: $no_space_left" ./ultra asm "$room/ebreak.s" /dev/full

@@ -110,7 +110,7 @@ check 'a run reports a full disk for its report: link, status 3' ends_with_code 
 refuses_a_trace_in_no_folder() {
     ends_with_code 3 X5 "$room/none/example.trace: $no_such_file" ./ultra run --trace "$room/none/example.trace" "$room/example.elf"
 }
-check 'a run reports a missing folder of its trace: X5, status 3' refuses_a_trace_in_no_folder
+check 'a run reports a missing folder for its trace: X5, status 3' refuses_a_trace_in_no_folder
 
 refuses_a_full_disk_for_a_trace() {
     ends_with_code 3 X5 "/dev/full: $no_space_left" ./ultra run --k 0 --trace /dev/full "$room/example.elf"
