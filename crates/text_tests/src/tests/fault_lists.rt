@@ -74,7 +74,10 @@ static ONE_FAULT: [(&str, &str); 40] = [
         "add a0 a1, a2",
         "line 1 column 5: A2 a0 a1: a comma is missing; the operands are rd, rs1, rs2",
     ),
-    ("ecall a0", "line 1 column 7: A2 a0: no operand belongs here"),
+    (
+        "ecall a0",
+        "line 1 column 7: A2 a0: no operand belongs here",
+    ),
     (
         "lw a0, 4(sp",
         "line 1 column 8: A2 4(sp: a bracket is missing; an address is i(rs1) or (rs1)",
