@@ -56,3 +56,15 @@ draws_what_is_shown() {
         diff examples/hot_spot.svg -
 }
 check 'examples/hot_spot.svg is the picture that docs/TUTORIAL.md draws' draws_what_is_shown
+
+# The completions have the commands, the options and the topics that the program lists.
+completes_what_is_listed() {
+    local command
+    diff <(./ultra help | sed -n '/^Commands:$/,/^$/s/^  \([a-z]*\) .*/\1/p' | LC_ALL=C sort) <(bash_offers 'ultra ') || return 1
+    for command in $(./ultra help | sed -n '/^Commands:$/,/^$/s/^  \([a-z]*\) .*/\1/p' | grep -vx help); do
+        diff <(./ultra help "$command" | sed -n '/^Options:$/,/^$/s/^ *\(-h, \)\{0,1\}\(--[a-z]*\).*/\2/p' | LC_ALL=C sort) \
+            <(bash_offers "ultra $command -") || { echo "$command"; return 1; }
+    done
+    diff <(./ultra explain | sed -n 's/^\([A-Za-z0-9-]*\): .*/\1/p' | LC_ALL=C sort) <(bash_offers 'ultra explain ')
+}
+check 'completions have the commands, options and topics that the program lists' completes_what_is_listed

@@ -65,10 +65,85 @@ change_version() {
 builds_after() (
     make_copy && launches 7 $'a b  c\n' && : >asked && "$@" && launches 7 $'a b  c\n' && asked_to_build_all
 )
-check 'the launcher builds again if a source is newer' builds_after touch crates/low/src/lib.rt
+edit() {
+    echo another >>"$1"
+}
+check 'the launcher builds again if a source has changed' builds_after edit crates/low/src/lib.rt
 check 'the launcher builds again if a source is gone' builds_after rm crates/low/src/lib.rt
-check 'the launcher builds again if crates.txt is newer' builds_after touch crates.txt
-check 'the launcher builds again with another toolchain' builds_after change_version
+check 'the launcher builds again if crates.txt has changed' builds_after edit crates.txt
+
+# launches_what_is_built: a launch of the copy runs the program, says nothing, and asks `rt` for nothing.
+launches_what_is_built() {
+    : >"$room/copy/asked"
+    launches 7 $'a b  c\n' && [ ! -s told ] && diff /dev/null "$room/copy/asked"
+}
+
+# From now on nothing can compute a checksum.
+without_checksums() {
+    printf '#!/bin/sh\nexit 1\n' >"$room/copy/bin/sha256sum" && chmod +x "$room/copy/bin/sha256sum"
+}
+
+# What another toolchain has proved runs, with a line that says so, until it is asked to be built.
+runs_after_another_toolchain() (
+    make_copy && launches 7 $'a b  c\n' && change_version && : >asked && launches 7 $'a b  c\n' && diff /dev/null asked &&
+        diff <(echo 1) <(wc -l <told) && grep '^ultra: the program was proved with another toolchain, one, ' told &&
+        ./ultra --build && asked_to_build_all && launches_what_is_built
+)
+check 'the launcher runs what another toolchain has proved, and --build builds it again' runs_after_another_toolchain
+
+builds_alone() (
+    make_copy && ./ultra --build >built 2>told && diff /dev/null built && asked_to_build_all && : >asked &&
+        ./ultra --build >built 2>told && diff <(echo 'ultra: the program is up to date') told && diff /dev/null asked &&
+        ends 2 'ultra: usage: ultra --build' ./ultra --build run
+)
+check '--build builds what is not up to date, and runs nothing' builds_alone
+
+# A source that is touched is none that has changed. The next launch does not read the sources again.
+runs_after() (
+    make_copy && launches 7 $'a b  c\n' && "$@" && launches_what_is_built && without_checksums && launches_what_is_built
+)
+check 'the launcher does not build again for a source that is touched' runs_after touch crates/low/src/lib.rt crates.txt
+
+leave_editors_files() {
+    touch crates/low/src/{.lib.rt.swp,lib.rt~,'#lib.rt#'} && ln -s nobody@nowhere crates/low/src/.#lib.rt
+}
+check "the launcher does not build again for an editor's files beside a source" runs_after leave_editors_files
+
+# The files of an editor change while a source is edited, and each of them was there before.
+ignores_editors_files() (
+    make_copy && launches 7 $'a b  c\n' && leave_editors_files && launches_what_is_built && without_checksums &&
+        echo more | tee crates/low/src/{.lib.rt.swp,lib.rt~} >'crates/low/src/#lib.rt#' && launches_what_is_built
+)
+check "the launcher does not read the sources for a change of an editor's files" ignores_editors_files
+
+# copies COMMAND WORD ..: the command copies the built copy to `twin`, and the launcher there builds nothing.
+copies() (
+    make_copy && launches 7 $'a b  c\n' && mkdir ../twin && "$@" && cd ../twin && launches_what_is_built && without_checksums &&
+        launches_what_is_built
+)
+with_new_times() {
+    cp -r . ../twin
+}
+with_old_times() {
+    cp -a . ../twin
+}
+by_tar() {
+    tar -c . | tar -xm -C ../twin
+}
+with_oldest_stamp() {
+    cp -r . ../twin && find ../twin/crates -exec touch {} +
+}
+check 'a copy of a checkout is not built again' copies with_new_times
+check 'a copy of a checkout that keeps times is not built again' copies with_old_times
+check 'a copy of a checkout by tar is not built again' copies by_tar
+check 'a copy of a checkout with sources newer than the program is not built again' copies with_oldest_stamp
+
+# In a copy every file may be older than the stamp, also a source that had changed.
+builds_a_changed_copy() (
+    make_copy && launches 7 $'a b  c\n' && edit crates/low/src/lib.rt && cp -r . ../twin && touch ../twin/out/built && cd ../twin &&
+        : >"$room/copy/asked" && launches 7 $'a b  c\n' && diff <(printf '%s\n' 'all ultra' 'run ultra') "$room/copy/asked"
+)
+check 'a copy of a checkout with a changed source is built' builds_a_changed_copy
 
 reports_a_failed_build() (
     make_copy && touch fails && launches 3 '' && grep '^why it failed$' told && ! grep run asked && rm fails &&
@@ -129,7 +204,7 @@ check 'a quick launch compiles once, and passes on the words, the output and the
 compiles_after() (
     make_copy && quickly 5 a && : >asked && "$@" && quickly 5 a && diff <(echo a) launched && compiled 1
 )
-check 'a quick launch compiles again if a source is newer' compiles_after touch crates/low/src/lib.rt
+check 'a quick launch compiles again if a source has changed' compiles_after edit crates/low/src/lib.rt
 check 'a quick launch compiles again with another toolchain' compiles_after change_version
 
 compiles_for_two() (
@@ -145,6 +220,12 @@ reports_a_failed_compilation() (
     make_copy && touch fails && quickly 3 words a && grep '^run=none' told && rm fails && quickly 5 a && diff <(echo a) launched
 )
 check 'a quick launch reports why the program does not compile, with status 3' reports_a_failed_compilation
+
+compiles_no_copy() (
+    make_copy && quickly 5 a && cp -r . ../twin && cd ../twin && touch crates/low/src/lib.rt && : >"$room/copy/asked" &&
+        quickly 5 a && diff /dev/null "$room/copy/asked"
+)
+check 'a quick launch of a copy does not compile again' compiles_no_copy
 
 runs_quickly_once_it_is_built() (
     make_copy && launches 7 $'a b  c\n' && ended=0 && { ./ultra --quick a >launched 2>told || ended=$?; } &&
