@@ -115,7 +115,13 @@ install_program() {
     while IFS=$'\t' read -r from to; do source_of[$to]=$from; done < <(files_to_install)
     # The checksum of each file, and the files that are in the way.
     checksums_in "$top" found "${source_of[@]}"
-    for to in "${!source_of[@]}"; do wanted[$to]=${found[${source_of[$to]}]}; done
+    for to in "${!source_of[@]}"; do
+        wanted[$to]=${found[${source_of[$to]}]-}
+        if [ -z "${wanted[$to]}" ]; then
+            say "$top/${source_of[$to]} cannot be read, so nothing is installed"
+            exit 3
+        fi
+    done
     read_record
     found=()
     checksums_in "$prefix" found "${!source_of[@]}" "${!recorded[@]}"

@@ -72,6 +72,12 @@ check 'the launcher builds again if a source has changed' builds_after edit crat
 check 'the launcher builds again if a source is gone' builds_after rm crates/low/src/lib.rt
 check 'the launcher builds again if crates.txt has changed' builds_after edit crates.txt
 
+# A program that someone else has built meanwhile, of other sources, is not that of the stamp.
+build_by_hand() {
+    edit crates/low/src/lib.rt && echo '#!/bin/sh' >crates/ultra/out/ultra && sed -i '$d' crates/low/src/lib.rt
+}
+check 'the launcher builds again for a program that it has not built' builds_after build_by_hand
+
 # launches_what_is_built: a launch of the copy runs the program, says nothing, and asks `rt` for nothing.
 launches_what_is_built() {
     : >"$room/copy/asked"

@@ -212,8 +212,10 @@ def bash():
 _ultra_complete() {{
     case $1 in
         file)
+            # Bash gives the word as it is typed, and quotes what is offered.
+            local begun=${{2//\\\\/}}
             compopt -o filenames 2>/dev/null
-            mapfile -t COMPREPLY < <(compgen -f -- "$2")
+            mapfile -t COMPREPLY < <(compgen -f -- "${{begun#[\\"\\']}}")
             ;;
         topic)
             # Topics match in letters of either case.
@@ -230,7 +232,7 @@ _ultra() {{
     local word command='' options='' flags='' given=' ' kind='' before='' only='' at
     local -a places=() words=()
     COMPREPLY=()
-    # Bash takes `--k=3` for three words, and so may `=` be the last.
+    # Bash takes `--k=3` for three words, and `=` may be the last.
     for ((at = 1; at <= COMP_CWORD; at++)); do
         word=${{COMP_WORDS[at]}}
         if [ "$word" = = ] && [ "$at" -lt "$COMP_CWORD" ]; then continue; fi
