@@ -36,6 +36,15 @@ runs_from_elsewhere() (
 )
 check 'a launch works from another folder, through a link' runs_from_elsewhere
 
+# The installed program needs neither the checkout nor the toolchain nor any variable of the environment.
+runs_installed() (
+    place=$room/installed
+    ./ultra --install "$place" >"$room/told" 2>&1 || { cat "$room/told"; exit 1; }
+    cd "$place/share/doc/ultra/examples" && diff fetch_and_add.out <(with_status env -i "$place/bin/ultra" words fetch_and_add.hex 2>&1) &&
+        cmp "$place/bin/ultra" "$top/crates/ultra/out/ultra" && cd "$top" && ./ultra --uninstall "$place" 2>&1 && [ ! -e "$place" ]
+)
+check 'the installed program runs without the checkout' runs_installed
+
 # The processor time of 20 runs of a command in milliseconds, which other work on the machine hardly changes.
 milliseconds_of_20() {
     local run TIMEFORMAT='%U %S'
