@@ -175,7 +175,7 @@ fn processors_of<const N: usize>(
     Ok(processors)
 }
 
-/// The result of a station.
+/// The result of a local state.
 fn processor_result(
     alloc: Global,
     state_tables: &StateTables,
@@ -188,8 +188,8 @@ fn processor_result(
     let mut console = Vec::new(alloc);
     console.extend_from_slice(local_state.console())?;
     Ok(ProcessorResult {
-        pc: local_state.core().pc(),
-        status: local_state.core().status(),
+        pc: local_state.pc(),
+        status: local_state.status(),
         console,
     })
 }

@@ -6,7 +6,7 @@ ghost use Rattle.state_search.specs.Search.{AreClasses};
 ghost use Rattle.state_search.specs.StateTables.{IsRow};
 
 use flat_machine::Status;
-use state_search::{Extent, LocalState, StateTables, StateVector, trade};
+use state_search::{Extent, SavedLocalState, StateTables, StateVector, trade};
 use std::cmp::Ordering;
 
 /// The row with the processors of each class in order by their `pc`, how they stopped, and what they printed. Holders
@@ -95,12 +95,11 @@ fn step<const N: usize>(
 }
 
 /// Whether a processor comes before another.
-fn precedes(one: &LocalState, other: &LocalState) -> bool {
+fn precedes(one: &SavedLocalState, other: &SavedLocalState) -> bool {
     let order = one
-        .core()
         .pc()
-        .cmp(&other.core().pc())
-        .then(rank_of(one.core().status()).cmp(&rank_of(other.core().status())))
+        .cmp(&other.pc())
+        .then(rank_of(one.status()).cmp(&rank_of(other.status())))
         .then(one.console().cmp(other.console()));
     order == Ordering::Less
 }

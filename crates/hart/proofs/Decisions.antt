@@ -1,5 +1,4 @@
 -- From a decision to the call that it allows.
-use Rattle.std.proofs.Common.{ℕ}
 use Rattle.flat_machine.specs.Turns.{Turn, Retires, Reaches, Stops}
 use Rattle.hart.specs.declared.decision.Decision.{Decision}
 use Rattle.hart.specs.declared.decision.Decision.TheVariants.{Local, Refer, Halt, Fault}

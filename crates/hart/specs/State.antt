@@ -1,6 +1,7 @@
 -- What a core is seen as.
 use Rattle.std.specs.Prelude.{◌≡◌, ℕ, List, replicate}
 use Rattle.flat_machine.specs.declared.setting.Setting.{Setting}
+use Rattle.flat_machine.specs.declared.event.Status.{Status}
 use Rattle.flat_machine.specs.declared.event.Status.TheVariants.{Running}
 use Rattle.flat_machine.specs.State.{Processor}
 use Rattle.local_memory.specs.Accesses.{region_of_bytes}
@@ -9,6 +10,17 @@ use Rattle.local_memory.specs.Accesses.{region_of_bytes}
 pub record CoreState : Type 0 where
   pub setting : Setting
   pub state : Processor
+
+-- what a processor has besides its local memory, and what it knows of its machine
+pub record ContextState : Type 0 where
+  pub setting : Setting
+  pub pc : ℕ
+  pub registers : List ℕ
+  pub status : Status
+
+-- the processor that has a local memory besides
+abbrev pub processor_of : ContextState → (local : List ℕ) → Processor
+processor_of c local = record { pc = c.pc; registers = c.registers; local = local; status = c.status }
 
 -- a core that has done nothing: its registers are 0, and its local memory begins with some bytes
 abbrev pub new_core : Setting → (pc : ℕ) → (local : List ℕ) → CoreState

@@ -14,12 +14,17 @@
 //! room that was made before ([`Retirements`]). That these are the turns that the flat machine takes is a law
 //! ([`local_runs_are_turns`]).
 //!
-//! A core holds no word of shared memory. Only [`Core::new`], [`Core::copy`] and [`Retirements::new`] take memory.
+//! [`Core::save`] saves a core in as much memory as it needs ([`SavedCore`]). A core itself has room for all of its
+//! local memory.
+//!
+//! A core holds no word of shared memory. Only [`Core::new`], [`Core::copy`], [`Core::save`], [`SavedCore::restore`]
+//! and [`Retirements::new`] take memory.
 //!
 //! Source: The RISC-V Instruction Set Manual, Volume I (Unprivileged ISA), "Load and Store Instructions" and "Atomic
 //! Memory Operations".
 #![tactic(auto)]
 
+mod context;
 mod decision;
 mod function_laws;
 mod instructions;
@@ -27,6 +32,7 @@ mod processor;
 mod retirements;
 mod run;
 mod run_laws;
+mod saved;
 
 pub use decision::{Decision, Shape, Taken};
 pub use flat_machine::{Cause, Fault, Retired, Setting, Status};
@@ -39,3 +45,4 @@ pub use processor::{Core, core_has_registers};
 pub use retirements::{Retirements, retirements_are_few};
 pub use run::{LocalEnd, run_local};
 pub use run_laws::local_runs_are_turns;
+pub use saved::SavedCore;

@@ -1,19 +1,23 @@
 //! A core, and what can be read of it and written to it from outside.
 
-ghost use Rattle.std.specs.Prelude.{◌≡◌, ◌↔◌, ◌<◌, ◌≤◌, ◌^◌, ◌%◌, true, length, IfOk, IsTrue};
+ghost use Rattle.std.specs.Prelude.{◌≡◌, ◌↔◌, ◌<◌, ◌≤◌, ◌^◌, ◌%◌, Ok, true, length, IfOk, IsTrue};
+ghost use Rattle.flat_machine.specs.Effects.{effect_of};
 ghost use Rattle.flat_machine.specs.Flat.{with_poked_byte, with_poked_register};
 ghost use Rattle.flat_machine.specs.Memory.{in_local};
 ghost use Rattle.flat_machine.specs.State.{status_of};
+ghost use Rattle.flat_machine.specs.Turns.{fetched, turn_of};
 ghost use Rattle.local_memory.specs.Accesses.{load_of};
-ghost use Rattle.hart.specs.State.{new_core, IsStandingAs};
+ghost use Rattle.rv_table.specs.declared.insn.Insn.{Insn};
+ghost use Rattle.hart.specs.Deciding.{Allows, Decides, IsOfEffect, NamesWord};
+ghost use Rattle.hart.specs.State.{new_core, processor_of, IsStandingAs};
 
-mod deciding;
-mod effects;
-mod regions;
 mod taking;
 
+use crate::context::Context;
+use crate::decision::Decision;
+use crate::saved::SavedCore;
 use flat_machine::{Cause, Fault, PC, REGION_BYTES, Setting, Size, Status};
-use local_memory::Local;
+use local_memory::{Code, Local, SavedLocal};
 use rv_table::Register;
 use std::alloc::{AllocError, Global};
 use std::marker::Model;
@@ -21,25 +25,16 @@ use std::marker::Model;
 /// One processor's core.
 #[derive(Drop)]
 pub struct Core {
-    setting: Setting,
-    pc: u32,
-    registers: [u32; 32],
+    context: Context,
     local: Local,
-    status: Status,
 }
 
 impl Model for Core {
-    ghost use Rattle.std.specs.Prelude.{◌≡◌, ◌≤◌, ◌^◌, ◌%◌, length};
-    ghost use Rattle.hart.specs.State.{CoreState};
+    ghost use Rattle.hart.specs.State.{CoreState, processor_of};
 
     ghost Value = { CoreState };
 
-    ghost view = { λ c. record {
-      setting = c.setting;
-      state = record { pc = c.pc; registers = c.registers; local = c.local; status = c.status };
-    } };
-
-    ghost invariant = { λ c. (c.setting.shared_words ≤ 2 ^ 18) × (c.pc % 4 ≡ 0) × (length c.registers ≡ 32) };
+    ghost view = { λ c. record { setting = c.context.setting; state = processor_of c.context c.local } };
 }
 
 impl Core {
@@ -52,11 +47,8 @@ impl Core {
         ensures { IfOk result (λ core. core ≡ new_core setting pc local.now) }
     {
         Ok(Core {
-            setting,
-            pc,
-            registers: [0; 32],
+            context: Context::new(setting, pc),
             local: Local::new(alloc, local)?,
-            status: Status::Running,
         })
     }
 
@@ -65,11 +57,8 @@ impl Core {
         ensures { IfOk result (λ core. core ≡ self.now) }
     {
         Ok(Core {
-            setting: self.setting,
-            pc: self.pc,
-            registers: self.registers,
+            context: self.context.copy(),
             local: self.local.copy()?,
-            status: self.status,
         })
     }
 
@@ -77,27 +66,50 @@ impl Core {
     pub fn copy_from(&mut self, other: &Self)
         ensures { self.new ≡ other.now }
     {
-        self.setting = other.setting;
-        self.pc = other.pc;
-        self.registers = other.registers;
+        self.context.copy_from(&other.context);
         self.local.copy_from(&other.local);
-        self.status = other.status;
+    }
+
+    /// Saves the core, in as much memory as it needs.
+    pub fn save(&self) -> Result<SavedCore, AllocError>
+        ensures { IfOk result (λ saved. saved ≡ self.now) }
+    {
+        Ok(SavedCore::new(self.context.copy(), SavedLocal::new(&self.local)?))
+    }
+
+    /// The core that has these parts.
+    pub(crate) fn of_parts(context: Context, local: Local) -> Self
+        ensures { result ≡ record { setting = context.setting; state = processor_of context local } }
+    {
+        Core { context, local }
     }
 
     /// Whether both are equal.
     pub fn equals(&self, other: &Self) -> bool
         ensures { IsTrue result ↔ (self.now ≡ other.now) }
     {
-        self.stands_as(other)
-            && self.registers == other.registers
-            && self.local.equals(&other.local)
+        self.context.equals(&other.context) && self.local.equals(&other.local)
     }
 
     /// Whether both know the same of their machine, stand at the same instruction and do the same.
     pub fn stands_as(&self, other: &Self) -> bool
         ensures { IsTrue result ↔ IsStandingAs self.now other.now }
     {
-        self.pc == other.pc && self.setting == other.setting && self.status == other.status
+        self.pc() == other.pc()
+            && self.setting() == other.setting()
+            && self.status() == other.status()
+    }
+
+    /// What the next turn of the processor is, where it runs. One that is local may be taken ([`Core::take_local`]),
+    /// and a reference may retire ([`Core::retire`]).
+    pub fn decide(&self, code: &Code) -> Decision
+        ensures turn { Decides result (turn_of self.now.setting code.now self.now.state) }
+        ensures table { (i : Insn) → fetched code.now self.now.state.pc ≡ Ok i
+            → IsOfEffect result (effect_of self.now.setting self.now.state.pc self.now.state.registers i) }
+        ensures word { NamesWord result self.now.setting }
+        ensures allows { Allows result (turn_of self.now.setting code.now self.now.state) }
+    {
+        self.context.decide(code)
     }
 
     /// The address of the next instruction. It is divisible by 4.
@@ -105,28 +117,28 @@ impl Core {
         ensures value { result ≡ self.now.state.pc }
         ensures aligned { result % 4 ≡ 0 }
     {
-        self.pc
+        self.context.pc()
     }
 
     /// What the processor is doing.
     pub fn status(&self) -> Status
         ensures { result ≡ self.now.state.status }
     {
-        self.status
+        self.context.status()
     }
 
     /// Registers 0 to 31, in order.
     pub fn registers(&self) -> &[u32; 32]
         ensures { result.now ≡ self.now.state.registers }
     {
-        &self.registers
+        self.context.registers()
     }
 
     /// What the processor knows of its machine.
     pub fn setting(&self) -> Setting
         ensures { result ≡ self.now.setting }
     {
-        self.setting
+        self.context.setting()
     }
 
     /// The byte of local memory at an address.
@@ -142,15 +154,13 @@ impl Core {
     }
 
     /// Writes a register from outside. Register 0 stays 0.
+    #[tactic(auto, unfolding(flat_machine::specs::Effects::with_register))]
     pub fn set_register(&mut self, register: Register, value: u32)
         ensures zero { register ≡ 0 → self.new ≡ self.old }
         ensures written { 0 < register →
             self.new ≡ record self.old { state = with_poked_register register value self.old.state } }
     {
-        let number = register.number();
-        if number != 0 {
-            self.registers[number as usize] = value;
-        }
+        self.context.set_register(register, value);
     }
 
     /// Goes on elsewhere, at an address divisible by 4.
@@ -158,7 +168,7 @@ impl Core {
         requires { value % 4 ≡ 0 }
         ensures { self.new ≡ record self.old { state = with_poked_register PC value self.old.state } }
     {
-        self.pc = value;
+        self.context.set_pc(value);
     }
 
     /// Writes a byte of local memory from outside.
@@ -175,14 +185,14 @@ impl Core {
     pub fn set_number(&mut self, number: u8)
         ensures { self.new ≡ record self.old { setting = record self.old.setting { number = number } } }
     {
-        self.setting.number = number;
+        self.context.set_number(number);
     }
 
     /// Records why the processor stopped.
     pub fn stop(&mut self, cause: Cause)
         ensures { self.new ≡ record self.old { state = record self.old.state { status = status_of cause } } }
     {
-        self.status = cause.status();
+        self.context.stop(cause);
     }
 }
 
@@ -190,5 +200,5 @@ impl Core {
 pub fn core_has_registers(core: &Core)
     ensures { length core.now.state.registers ≡ 32 }
 {
-    let _ = &core.registers;
+    let _ = core.context.registers();
 }

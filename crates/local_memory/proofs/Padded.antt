@@ -1,7 +1,10 @@
 -- Bytes of a region, and the zeros after them: the region's bytes one by one, written over or after, and when two are the same.
-use Rattle.std.proofs.Common.{◌≡◌, ℕ, zero, suc, ◌+◌, ◌-◌, ◌<◌, ◌≤◌, List, [], ◌∷◌, ◌++◌, length, append_assoc, refl, sym, ap, ◌∙◌, arith, inl, inr}
+use Rattle.std.proofs.Common.{◌≡◌, ℕ, zero, suc, ◌+◌, ◌-◌, ◌<◌, ◌≤◌, List, [], ◌∷◌, ◌++◌, length, append_assoc, take}
+use Rattle.std.proofs.Common.{add-one, refl, sym, ap, ◌∙◌, arith, inl, inr}
 use Rattle.std.specs.Prelude.{replicate, slice_index, slice_set}
 use Rattle.std.proofs.lemmas.List.{get_or_append_left, get_or-append_right, get_or_past, length-append}
+use Rattle.std.proofs.lemmas.List.{length-take-le}
+use Rattle.std.proofs.Math.Seq.{take-suc}
 use Rattle.std.proofs.lemmas.List.{length-replicate, replicate-append-replicate, set-append_left}
 use Rattle.std.proofs.lemmas.Bool.{cases_lt}
 use Rattle.local_memory.specs.Accesses.{padded}
@@ -34,6 +37,14 @@ one_more n bytes less =
     let long = length-append bytes (0 ∷ []) in
     let next : suc (n - length (bytes ++ 0 ∷ [])) ≡ n - length bytes = omega (arith, long, less) in
     append_assoc bytes (0 ∷ []) (replicate (n - length (bytes ++ 0 ∷ [])) 0) ∙ ap (λ k. bytes ++ replicate k 0) next
+
+-- A zero at the end of some bytes is one of the zeros that they are padded with.
+pub one_less : (n : ℕ) (bytes : List ℕ) (k : ℕ) → k < length bytes → length bytes ≤ n → slice_index bytes k ≡ 0 →
+    padded n (take k bytes) ≡ padded n (take (k + 1) bytes)
+one_less n bytes k there few none =
+    let front = length-take-le k bytes (omega (arith, there)) in
+    sym (ap (padded n) (rw add-one (take-suc bytes k 0 there) ∙ ap (λ byte. take k bytes ++ byte ∷ []) none)
+    ∙ one_more n (take k bytes) (omega (arith, front, there, few)))
 
 -- A byte within a list can be written before the list is padded with zeros or after that.
 pub set_padded : (n : ℕ) (bytes : List ℕ) (place byte : ℕ) → place < length bytes → length (slice_set bytes place byte) ≡ length bytes →

@@ -63,12 +63,15 @@ impl RegionBytes {
     pub fn equals(&self, other: &Self) -> bool
         ensures { IsTrue result ↔ (self.now ≡ other.now) }
     {
-        let (one, other) = (self.written.as_slice(), other.written.as_slice());
-        if one.len() <= other.len() {
-            pads(one, other)
-        } else {
-            pads(other, one)
-        }
+        are_equal(self.written.as_slice(), other.written.as_slice())
+    }
+
+    /// The bytes up to the last one that is not zero, in memory for these alone.
+    pub fn used(&self) -> Result<Vec<u8>, AllocError>
+        ensures same { IfOk result (λ bytes. region_of_bytes bytes.items ≡ self.now) }
+        ensures few { IfOk result (λ bytes. vec_len bytes ≤ 2 ^ 16) }
+    {
+        used(*self.written.allocator(), self.written.as_slice())
     }
 
     /// The little-endian number at a place.
@@ -148,6 +151,32 @@ fn write_up_to(written: &mut Vec<u8>, count: usize)
 {
     for _ in written.len()..count {
         written.push_reserved(0);
+    }
+}
+
+/// A copy of the bytes up to the last one that is not zero.
+fn used(alloc: Global, bytes: &[u8]) -> Result<Vec<u8>, AllocError>
+    requires { length bytes.now ≤ 2 ^ 16 }
+    ensures same { IfOk result (λ used. region_of_bytes used.items ≡ region_of_bytes bytes.now) }
+    ensures few { IfOk result (λ used. vec_len used ≤ 2 ^ 16) }
+{
+    let mut count = bytes.len();
+    while count > 0 && bytes[count - 1] == 0 {
+        count -= 1;
+    }
+    Vec::from_slice(alloc, &bytes[..count])
+}
+
+/// Whether regions that begin with these bytes are the same.
+pub fn are_equal(one: &[u8], other: &[u8]) -> bool
+    requires one { length one.now ≤ 2 ^ 16 }
+    requires other { length other.now ≤ 2 ^ 16 }
+    ensures { IsTrue result ↔ (region_of_bytes one.now ≡ region_of_bytes other.now) }
+{
+    if one.len() <= other.len() {
+        pads(one, other)
+    } else {
+        pads(other, one)
     }
 }
 

@@ -1,6 +1,6 @@
 //! A processor's own memory.
 
-ghost use Rattle.std.specs.Prelude.{◌≡◌, ◌↔◌, ◌<◌, ◌≤◌, ◌^◌, ◌*◌, ◌+◌, ◌%◌, length, IfOk, IsTrue, OnOk, OnErr};
+ghost use Rattle.std.specs.Prelude.{◌≡◌, ◌↔◌, ◌<◌, ◌≤◌, ◌^◌, ◌*◌, ◌+◌, ◌%◌, length, IfOk, IsTrue, OnOk, OnErr, vec_len};
 ghost use Rattle.flat_machine.specs.Memory.{in_local, number_at, with_number};
 ghost use Rattle.flat_machine.specs.Sizes.{bytes_of};
 ghost use Rattle.local_memory.specs.Accesses.{access_of, load_of, region_of_bytes};
@@ -56,6 +56,14 @@ impl Local {
         ensures { IsTrue result ↔ (self.now ≡ other.now) }
     {
         self.bytes.equals(&other.bytes)
+    }
+
+    /// The bytes up to the last one that is not zero, in memory for these alone.
+    pub(crate) fn used(&self) -> Result<Vec<u8>, AllocError>
+        ensures same { IfOk result (λ bytes. region_of_bytes bytes.items ≡ self.now) }
+        ensures few { IfOk result (λ bytes. vec_len bytes ≤ 2 ^ 16) }
+    {
+        self.bytes.used()
     }
 
     /// The little-endian number at a place from the region's first address.

@@ -1,5 +1,6 @@
 pub mod Placed
 pub mod Words
+pub mod Saved
 pub mod Keys
 pub mod KeyLaws
 pub mod StateTables

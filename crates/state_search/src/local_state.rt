@@ -1,7 +1,6 @@
 //! A processor between two references.
 
 ghost use Rattle.std.specs.Prelude.{◌≡◌, ◌↔◌, false, IfOk, IsTrue, OnOk};
-ghost use Rattle.local_reduction.specs.Closing.{if_running};
 ghost use Rattle.local_reduction.specs.Exchanging.{Asks};
 ghost use Rattle.flat_machine.specs.State.{is_running};
 ghost use Rattle.flat_machine.specs.Turns.{turn_of};
@@ -17,7 +16,6 @@ use local_memory::Code;
 use local_reduction::{LiveTable, dead_registers_are_not_kept};
 use rv_table::{Insn, Register};
 use std::alloc::{AllocError, Global};
-use std::hash::{Hash, Hasher};
 use std::marker::Model;
 
 /// How many instructions a processor takes after a reference before it is watched. Few take more.
@@ -41,47 +39,6 @@ impl Model for LocalState {
     } };
 }
 
-// Tables find a station by its numbers. Local memory is compared, and not hashed.
-impl PartialEq for LocalState {
-    ghost use Rattle.std.specs.Cmp.{on_per, partial_equiv_from_equiv};
-    ghost use Rattle.state_search.specs.KeyLaws.{keys_equiv};
-    ghost use Rattle.state_search.specs.Keys.{key_of, same_key};
-
-    ghost eq = { same_key };
-
-    ghost laws = { on_per key_of (partial_equiv_from_equiv keys_equiv) };
-
-    fn eq(&self, other: &LocalState) -> bool {
-        self.is_equal(other)
-    }
-}
-
-impl Eq for LocalState {
-    ghost use Rattle.std.specs.Cmp.{on_equiv};
-    ghost use Rattle.state_search.specs.KeyLaws.{keys_equiv};
-    ghost use Rattle.state_search.specs.Keys.{key_of};
-
-    ghost laws = { on_equiv key_of keys_equiv };
-}
-
-impl Hash for LocalState {
-    ghost use Rattle.std.specs.Prelude.{◌++◌};
-    ghost use Rattle.std.specs.Hash as fed;
-    ghost use Rattle.local_reduction.specs.Closing.{if_running};
-    ghost use Rattle.state_search.specs.KeyLaws.{hashed_alike};
-
-    ghost hash_input = { λ a. fed.u32 a.local_state.processor.pc ++ fed.slice fed.u8 a.local_state.console
-        ++ fed.slice fed.u32 (if_running a.local_state).processor.registers };
-
-    ghost respects_eq = { hashed_alike };
-
-    fn hash<H: Hasher>(&self, state: &mut H) {
-        self.core.pc().hash(state);
-        self.console.as_slice().hash(state);
-        self.kept_registers().hash(state);
-    }
-}
-
 impl LocalState {
     /// A processor that has printed nothing.
     pub fn new(alloc: Global, core: &Core) -> Result<Self, AllocError>
@@ -91,6 +48,19 @@ impl LocalState {
             core: core.copy()?,
             console: Vec::new(alloc),
         })
+    }
+
+    /// A processor with what it has printed.
+    pub(crate) fn of_parts(core: Core, console: Vec<u8>) -> Self
+        ensures setting { result.setting ≡ core.setting }
+        ensures local_state { result.local_state ≡ record { processor = core.state; console = console.items } }
+    {
+        LocalState { core, console }
+    }
+
+    /// The allocator of its memory.
+    pub(crate) fn allocator(&self) -> Global {
+        *self.console.allocator()
     }
 
     /// The processor.
@@ -117,7 +87,7 @@ impl LocalState {
         }
     }
 
-    /// An equal station.
+    /// An equal local state.
     pub fn copy(&self) -> Result<Self, AllocError>
         ensures { IfOk result (λ s. s ≡ self.now) }
     {
@@ -134,17 +104,6 @@ impl LocalState {
         self.core.stands_as(&other.core)
             && self.console.as_slice() == other.console.as_slice()
             && (!self.is_running() || self.core.equals(&other.core))
-    }
-
-    /// The registers, or none of a processor that has stopped.
-    fn kept_registers(&self) -> &[u32]
-        ensures { result.now ≡ (if_running self.now.local_state).processor.registers }
-    {
-        if self.is_running() {
-            self.core.registers()
-        } else {
-            &[]
-        }
     }
 
     /// Sets the registers to 0 that are not live.

@@ -1,6 +1,7 @@
 //! Moves: a reference of one processor, and what it does alone after it.
 
-ghost use Rattle.std.specs.Prelude.{◌≡◌, ◌<◌, ◌≤◌, length, IfOk, OnOk};
+ghost use Rattle.std.specs.Prelude.{◌≡◌, ◌<◌, ◌≤◌, true, length, IfOk, OnOk};
+ghost use Rattle.flat_machine.specs.State.{is_running};
 ghost use Rattle.flat_machine.specs.Turns.{turn_of};
 ghost use Rattle.hart.specs.Deciding.{IsReference};
 ghost use Rattle.local_reduction.specs.Live.{HasAllLive};
@@ -60,7 +61,7 @@ impl StateTables {
         if !local_state.is_running() {
             return Ok(None);
         }
-        let Decision::Refer { word, phi, .. } = local_state.core().decide(code) else {
+        let Decision::Refer { word, phi, .. } = local_state.decide(code) else {
             return Ok(None);
         };
         let list = row[words_place];
@@ -80,7 +81,7 @@ impl StateTables {
         Ok(Some(next))
     }
 
-    /// The number of the station after a reference to a word that had this value before.
+    /// The number of the local state after a reference to a word that had this value before.
     fn moved(
         &mut self,
         transition_cache: &mut TransitionCache,
@@ -91,6 +92,7 @@ impl StateTables {
         before: u32,
     ) -> Result<u32, MoveRefusal>
         requires there { number < length self.old.local_states }
+        requires runs { is_running (placed_at self.old number).local_state.processor.status ≡ true }
         requires refers { IsReference (turn_of (placed_at self.old number).setting code.now
             (placed_at self.old number).local_state.processor) }
         requires known { KnowsLocalStates quietly code.now self.old transition_cache.old }
@@ -106,7 +108,7 @@ impl StateTables {
         Ok(behind)
     }
 
-    /// Makes the reference, and gives the number of the station after it.
+    /// Makes the reference, and gives the number of the local state after it.
     fn retired(
         &mut self,
         code: &Code,
@@ -115,12 +117,13 @@ impl StateTables {
         before: u32,
     ) -> Result<u32, MoveRefusal>
         requires there { number < length self.old.local_states }
+        requires runs { is_running (placed_at self.old number).local_state.processor.status ≡ true }
         requires refers { IsReference (turn_of (placed_at self.old number).setting code.now
             (placed_at self.old number).local_state.processor) }
         ensures kept { OnOk result (HasGrown self.old self.new) }
         ensures behind { IfOk result (IsBehind quietly code.now before (placed_at self.old number) self.new) }
     {
-        let Ok(mut local_state) = self.local_state(number).copy() else {
+        let Ok(mut local_state) = self.local_state(number).restore() else {
             return Err(MoveRefusal::Memory);
         };
         let Ok(()) = local_state.retire(code, before) else {

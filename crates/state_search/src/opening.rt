@@ -49,7 +49,7 @@ impl StateTables {
         Ok(row)
     }
 
-    /// The number of the station at which a processor settles that has printed nothing.
+    /// The number of the local state at which a processor settles that has printed nothing.
     fn opened(
         &mut self,
         alloc: Global,

@@ -8,6 +8,7 @@ ghost use Rattle.state_search.specs.StateTables.{IsRow, means};
 
 use crate::local_state::LocalState;
 use crate::refusal::MoveRefusal;
+use crate::saved::SavedLocalState;
 use crate::state_tables::{Extent, StateTables, StateVector};
 use hart::Decision;
 use local_memory::Code;
@@ -59,7 +60,9 @@ impl LocalState {
         }
         Ok(false)
     }
+}
 
+impl SavedLocalState {
     /// Whether the processor runs, and its next turn is no reference.
     fn goes_on(&self, code: &Code) -> bool
         ensures { IsTrue result ↔ IsGoingOn code.now self.now }
@@ -67,7 +70,7 @@ impl LocalState {
         if !self.is_running() {
             return false;
         }
-        match self.core().decide(code) {
+        match self.decide(code) {
             Decision::Refer { .. } => false,
             Decision::Local | Decision::Halt(_) | Decision::Fault(_) => true,
         }

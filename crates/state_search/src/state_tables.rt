@@ -1,4 +1,4 @@
-//! Tables of stations and of lists of words, and rows that name them.
+//! Tables of local states and of lists of words, and rows that name them.
 
 ghost use Rattle.std.specs.Prelude.{◌≡◌, ◌<◌, [], length, IfOk, OnOk};
 ghost use Rattle.state_search.specs.Placed.{IsSame};
@@ -7,6 +7,7 @@ ghost use Rattle.state_search.specs.Words.{IsTrimmed};
 
 use crate::local_state::LocalState;
 use crate::refusal::MoveRefusal;
+use crate::saved::SavedLocalState;
 use indexmap::IndexSet;
 use local_reduction::LiveTable;
 use std::alloc::Global;
@@ -18,19 +19,20 @@ pub struct Extent {
     /// At most 64.
     pub processors: u8,
     pub shared_words: u32,
-    /// Whether processors that stand alike are exchanged. Then the stations of all have the number 0.
+    /// Whether processors that stand alike are exchanged. Then the local states of all have the number 0.
     pub exchanged: bool,
 }
 
-/// A state: the number of the station of each processor, after them that of the list of words, and zeros.
+/// A state: the number of the local state of each processor, after them that of the list of words, and zeros.
 pub type StateVector<const N: usize> = [u32; N];
 
-/// Stations and lists of shared words, each with a number. They only grow, so a row means the same in
-/// all that they become. What registers hold that are not live is not kept of a station.
+/// Local states and lists of shared words, each with a number. They only grow, so a row means the same in
+/// all that they become. A local state takes as much memory as it needs, and what its registers hold that are not live
+/// is not kept of it.
 #[derive(Drop)]
 pub struct StateTables {
     live: LiveTable,
-    local_states: IndexSet<LocalState>,
+    local_states: IndexSet<SavedLocalState>,
     words: IndexSet<Vec<u32>>,
 }
 
@@ -54,7 +56,7 @@ impl Model for StateTables {
 }
 
 impl StateTables {
-    /// Tables with nothing in them, of which stations are to have these live registers.
+    /// Tables with nothing in them, of which local states are to have these live registers.
     pub fn new(alloc: Global, live: LiveTable) -> Self
         ensures { result ≡ record { live = live; local_states = []; words = [] } }
     {
@@ -65,8 +67,8 @@ impl StateTables {
         }
     }
 
-    /// The station of a number.
-    pub fn local_state(&self, number: u32) -> &LocalState
+    /// The local state of a number.
+    pub fn local_state(&self, number: u32) -> &SavedLocalState
         requires { number < length self.now.local_states }
         ensures { result.now ≡ placed_at self.now number }
     {
@@ -87,20 +89,21 @@ impl StateTables {
         }
     }
 
-    /// The number of a station, which is added where there is no other that is the same. It is brought to its least
-    /// form first.
+    /// The number of a local state, which is added where there is no other that is the same. What is kept of it takes
+    /// as much memory as it needs.
     ///
     /// # Errors
     ///
     /// [`MoveRefusal::Memory`].
-    pub fn local_state_number(&mut self, local_state: LocalState) -> Result<u32, MoveRefusal>
+    pub(crate) fn local_state_number(&mut self, local_state: LocalState) -> Result<u32, MoveRefusal>
         ensures kept { OnOk result (HasGrown self.old self.new) }
         ensures there { IfOk result (λ number. number < length self.new.local_states) }
         ensures same { IfOk result (λ number. IsSame self.new.live (placed_at self.new number) local_state) }
     {
-        let mut local_state = local_state;
-        local_state.forget(&self.live);
-        let Ok((number, _)) = self.local_states.insert_full(local_state) else {
+        let Ok(saved) = SavedLocalState::new(local_state, &self.live) else {
+            return Err(MoveRefusal::Memory);
+        };
+        let Ok((number, _)) = self.local_states.insert_full(saved) else {
             return Err(MoveRefusal::Memory);
         };
         match u32::try_from(number) {
@@ -129,7 +132,7 @@ impl StateTables {
         }
     }
 
-    /// No two stations of one processor are kept the same, and no two lists have the same words.
+    /// No two local states of one processor are kept the same, and no two lists have the same words.
     pub fn are_different(&self)
         ensures { AreDifferent self.now }
     {

@@ -7,7 +7,7 @@ use indexmap::IndexMap;
 use std::alloc::Global;
 use std::marker::Model;
 
-/// How many answers a memo has at most.
+/// How many answers a cache has at most.
 pub const MAX_REMEMBERED: usize = 1_048_576;
 
 /// Answers to questions of three numbers. Not all of them are kept.
@@ -27,7 +27,7 @@ impl Model for TransitionCache {
 }
 
 impl TransitionCache {
-    /// A memo with nothing in it.
+    /// A cache with nothing in it.
     pub fn new(alloc: Global) -> Self
         ensures { result ≡ nothing }
     {
@@ -78,7 +78,7 @@ impl TransitionCache {
     }
 }
 
-/// Where references lead, by the numbers of the station and of the word and the value of the word before; and
+/// Where references lead, by the numbers of the local state and of the word and the value of the word before; and
 /// the list that a list becomes when a word is written, by the list's number, the word's and the value.
 #[derive(Drop)]
 pub struct TransitionCaches {
@@ -87,7 +87,7 @@ pub struct TransitionCaches {
 }
 
 impl TransitionCaches {
-    /// Memos with nothing in them.
+    /// Caches with nothing in them.
     pub fn new(alloc: Global) -> Self
         ensures { result ≡ record { local_states = nothing; lists = nothing } }
     {

@@ -1,7 +1,7 @@
 //! Local memory and code, with little-endian numbers worked out by hand, and the words of a module.
 
 use flat_machine::{Fault, Size};
-use local_memory::{Code, Local};
+use local_memory::{Code, Local, SavedLocal};
 use memory_module::Module;
 use phi_algebra::Phi;
 use rv_table::Insn;
@@ -36,6 +36,28 @@ fn local_accesses(rt: HostRuntime) -> Result<(), Fail> {
     local.set_number(4, Size::Word, 0x0102_0304);
     assert_same!(rt; local.number(4, Size::Byte), 4);
     assert_same!(rt; local.number(7, Size::Byte), 1);
+    Ok(())
+}
+
+/// After each store, as many bytes are saved as there are up to the last one that is not zero.
+#[test]
+fn saved_bytes(rt: HostRuntime) -> Result<(), Fail> {
+    let mut local = Local::new(rt.alloc(), &[0, 0, 0, 0])?;
+    for (address, word, bytes) in [
+        (0x0002_0000, 0, 0),
+        (0x0002_0000, 0x0000_0700, 2),
+        (0x0002_0008, 0xFF00_0000, 12),
+        (0x0002_FFFC, 1, 0xFFFD),
+        (0x0002_FFFC, 0x8000_0000, 0x1_0000),
+        (0x0002_FFFC, 0, 12),
+        (0x0002_0008, 0, 2),
+        (0x0002_0000, 0, 0),
+    ] {
+        assert_same!(rt; local.store(address, Size::Word, word), Ok(()), address);
+        let saved = SavedLocal::new(&local)?;
+        assert_same!(rt; saved.kept().len(), bytes, address);
+        assert!(rt; saved.restore()?.equals(&local), "{address}");
+    }
     Ok(())
 }
 

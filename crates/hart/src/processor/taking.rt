@@ -1,11 +1,11 @@
 //! Turns that are taken: alone, or with the word that a reference read.
 
-ghost use Rattle.std.specs.Prelude.{◌≡◌, ◌%◌, Ok, Some};
+ghost use Rattle.std.specs.Prelude.{◌≡◌, ◌%◌, ℕ, List, Ok, Some};
 ghost use Rattle.rv_table.specs.declared.insn.Insn.{Insn};
 ghost use Rattle.flat_machine.specs.Effects.{effect_of, with_register};
 ghost use Rattle.flat_machine.specs.Turns.{Retires, fetched, gone_to, next_pc, performed, retired_printing};
 ghost use Rattle.flat_machine.specs.Turns.{retired_writing, turn_of};
-ghost use Rattle.hart.specs.Deciding.{HasPhiOf, IsLocal, IsReference, IsTaken, after_reply};
+ghost use Rattle.hart.specs.Deciding.{Decides, HasPhiOf, IsLocal, IsOfEffect, IsReference, IsTaken, after_reply};
 
 use super::Core;
 use crate::decision::{Decision, Taken};
@@ -23,7 +23,7 @@ impl Core {
     {
         match code.fetch(self.pc()) {
             Ok(insn) => {
-                let effect = self.effect(&insn);
+                let effect = self.context.effect(&insn);
                 self.perform(code, insn, effect)
             }
             Err(_) => unreachable!(),
@@ -43,7 +43,7 @@ impl Core {
     {
         match code.fetch(self.pc()) {
             Ok(insn) => {
-                let effect = self.effect(&insn);
+                let effect = self.context.effect(&insn);
                 self.take_effect(code, insn, effect)
             }
             Err(fault) => Taken::Faults(fault),
@@ -66,6 +66,15 @@ impl Core {
         }
     }
 
+    /// What an effect asks for.
+    fn decision(&self, effect: Effect) -> Decision
+        ensures turn { (code : List ℕ) (insn : Insn) →
+            Decides result (performed self.now.setting code self.now.state insn effect) }
+        ensures table { IsOfEffect result effect }
+    {
+        self.context.decision(effect)
+    }
+
     /// Takes a turn that refers to a shared word, once the word's value before it is known.
     #[inline(always)]
     pub fn retire(&mut self, code: &Code, reply: u32) -> Retired
@@ -76,7 +85,7 @@ impl Core {
     {
         match code.fetch(self.pc()) {
             Ok(insn) => {
-                let effect = self.effect(&insn);
+                let effect = self.context.effect(&insn);
                 self.finish(code, insn, effect, reply)
             }
             Err(_) => unreachable!(),
@@ -117,7 +126,7 @@ impl Core {
         ensures setting { self.new.setting ≡ self.old.setting }
     {
         let size = load_size(op);
-        let old = match self.region(size, address, false) {
+        let old = match self.context.region(size, address, false) {
             Ok(Region::Local { place }) => self.local.number(place, size),
             Ok(Region::Code { place }) => code.number(place, size),
             Ok(Region::Shared { .. }) | Err(_) => unreachable!(),
@@ -133,7 +142,7 @@ impl Core {
         ensures setting { self.new.setting ≡ self.old.setting }
     {
         let size = store_size(op);
-        match self.region(size, address, true) {
+        match self.context.region(size, address, true) {
             Ok(Region::Local { place }) => {
                 self.local.set_number(place, size, value);
                 self.go_on(insn, Register::new(0), 0)
@@ -157,7 +166,7 @@ impl Core {
             ≡ Retires self.new.state result }
         ensures setting { self.new.setting ≡ self.old.setting }
     {
-        match self.region(Size::Word, address, true) {
+        match self.context.region(Size::Word, address, true) {
             Ok(Region::Local { place }) => {
                 let old = self.local.number(place, Size::Word);
                 let new = amo_result(op, old, value);
@@ -198,26 +207,11 @@ impl Core {
     }
 
     /// Writes a register, and goes on elsewhere.
-    #[tactic(auto, unfolding(flat_machine::specs::Effects::with_register))]
     fn go(&mut self, insn: Insn, rd: Register, value: u32, target: u32) -> Retired
         requires { target % 4 ≡ 0 }
         ensures gone { self.new ≡ record self.old { state = gone_to target rd value self.old.state } }
         ensures retired { result ≡ retired_writing self.old.state.pc insn rd value }
     {
-        let pc = self.pc;
-        let number = rd.number();
-        let result = if number == 0 {
-            None
-        } else {
-            self.registers[number as usize] = value;
-            Some(value)
-        };
-        self.pc = target;
-        Retired {
-            pc,
-            insn,
-            result,
-            out: None,
-        }
+        self.context.go(insn, rd, value, target)
     }
 }

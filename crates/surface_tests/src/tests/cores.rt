@@ -1,7 +1,7 @@
 //! Local memory and code, a core by itself, and a core at its port.
 
 use hart::{Cause, Core, Decision, Fault, Retired, Setting, Shape, Status};
-use local_memory::{Code, Local, Size};
+use local_memory::{Code, Local, SavedLocal, Size};
 use machine_ports::{Begun, Port};
 use phi_algebra::Phi;
 use rv_table::{AmoOp, Insn, Register};
@@ -23,6 +23,17 @@ fn memories(rt: HostRuntime) -> Result<(), Fail> {
     assert_same!(rt; code.fetch(0x0001_0000), Ok(Insn::Ebreak));
     assert_same!(rt; code.fetch(0x0002_0000), Err(Fault::FetchOutsideCode));
     assert_same!(rt; code.load(0x0001_0002, Size::Half), Ok(0x0010));
+    Ok(())
+}
+
+#[test]
+fn a_memory_is_saved(rt: HostRuntime) -> Result<(), Fail> {
+    let local = Local::new(rt.alloc(), &[0x11, 0, 0x33, 0])?;
+    let saved = SavedLocal::new(&local)?;
+    assert_same!(rt; saved.kept(), [0x11, 0, 0x33].as_slice());
+    let restored = saved.restore()?;
+    assert_same!(rt; restored.load(0x0002_0000, Size::Word), Ok(0x0033_0011));
+    assert!(rt; saved.equals(&SavedLocal::new(&restored)?));
     Ok(())
 }
 
@@ -79,6 +90,25 @@ fn a_core_takes_its_turns(rt: HostRuntime) -> Result<(), Fail> {
     assert_same!(rt; turn(&mut core, &code, 0), Err(Cause::Fault(Fault::Breakpoint)));
     assert_same!(rt; core.status(), Status::Faulted(Fault::Breakpoint));
     assert_same!(rt; (core.pc(), core.registers()[3], core.registers()[4]), (0x0001_0008, 40, 7));
+    Ok(())
+}
+
+/// A core that is saved is at the same turn, and so is the one that is restored.
+#[test]
+fn a_core_is_saved(rt: HostRuntime) -> Result<(), Fail> {
+    let code = Code::new(rt.alloc(), &CODE)?;
+    let mut core = Core::new(rt.alloc(), SETTING, 0x0001_0004, &[0xA5])?;
+    core.set_register(Register::new(1), 0x8000_0008);
+    core.set_register(Register::new(2), 5);
+    let saved = core.save()?;
+    assert_same!(rt; saved.decide(&code), ADDS);
+    assert_same!(rt; (saved.pc(), saved.registers()[2]), (0x0001_0004, 5));
+    assert_same!(rt; (saved.status(), saved.setting().number), (Status::Running, 2));
+    let mut restored = saved.restore()?;
+    assert_same!(rt; restored.byte(0x0002_0000), Ok(0xA5));
+    assert!(rt; saved.equals(&restored.save()?));
+    assert_same!(rt; result_of(&mut restored, &code, 40), Some(40));
+    assert!(rt; !saved.equals(&restored.save()?));
     Ok(())
 }
 

@@ -3,4 +3,4 @@ use Rattle.hart.specs.State.{CoreState}
 use Rattle.hart.proofs.processor.core_has_registers.Goals as goal
 
 pub returns : goal.returns
-returns c = ap (λ (core : CoreState). length core.state.registers) (sym c.core.view_is) ∙ c.core.invariant.2
+returns c = ap (λ (core : CoreState). length core.state.registers) (sym c.core.view_is) ∙ c.registers.ensures.all

@@ -3,7 +3,6 @@ use Rattle.std.specs.Prelude.{slice_index, slice_set}
 use Rattle.flat_machine.specs.State.{is_running}
 use Rattle.flat_machine.specs.Turns.{turn_of}
 use Rattle.hart.specs.declared.decision.Decision.TheVariants.{Refer}
-use Rattle.hart.specs.State.{CoreState}
 use Rattle.hart.specs.Deciding.{Decides}
 use Rattle.state_search.specs.Placed.{Placed}
 use Rattle.state_search.specs.StateTables.{placed_at, setting_at, words_at, IsBehind}
@@ -12,9 +11,6 @@ use Rattle.state_search.proofs.Growing.{kept_all}
 use Rattle.state_search.proofs.Moving.{IsReferred, looked, referred, undecided, stopped_has_none, local_has_none}
 use Rattle.state_search.proofs.Remembering.{local_states_kept, lists_kept}
 use Rattle.state_search.proofs.state_tables.StateTables.next.Goals as goal
-
-abbrev core_of : Placed → CoreState
-core_of a = record { setting = a.setting; state = a.local_state.processor }
 
 pub returns-then-not-is_running-clause-next : goal.returns-then-not-is_running-clause-next
 returns-then-not-is_running-clause-next g c =
@@ -28,7 +24,6 @@ pub returns-in_default : goal.returns-in_default
 returns-in_default g c =
     let is : c.local_state-local_state.result.now ≡ placed_at c.args.self.now (slice_index c.args.row c.args.p) =
     c.local_state-local_state.ensures ∙ ap (λ i. placed_at c.args.self.now (slice_index c.args.row i)) c.from-place.ensures in
-    let core : c.core.result.now ≡ core_of (placed_at c.args.self.now (slice_index c.args.row c.args.p)) = c.core.ensures ∙ ap core_of is in
     record {
       kept = kept_all _;
       local_states = c.requires.local_states;
@@ -36,7 +31,7 @@ returns-in_default g c =
       next = local_has_none c.args.extent c.args.code.now c.args.self.now c.args.row c.args.p c.requires.row c.requires.there
           (c.dead_registers_can_be_forgotten.ensures.forgotten (setting_at c.args.extent) c.args.code.now c.args.self.now.live c.requires.live)
           (undecided c.decide.result _
-          (subst (λ (k : CoreState). Decides c.decide.result (turn_of k.setting c.args.code.now k.state)) core c.decide.ensures.turn)
+          (subst (λ (a : Placed). Decides c.decide.result (turn_of a.setting c.args.code.now a.local_state.processor)) is c.decide.ensures.turn)
           c.in_default.not-Refer);
     }
 
@@ -44,11 +39,10 @@ pub returns-clause-next : goal.returns-clause-next
 returns-clause-next g c =
     let is : c.local_state-local_state.result.now ≡ placed_at c.args.self.now (slice_index c.args.row c.args.p) =
     c.local_state-local_state.ensures ∙ ap (λ i. placed_at c.args.self.now (slice_index c.args.row i)) c.from-place.ensures in
-    let core : c.core.result.now ≡ core_of (placed_at c.args.self.now (slice_index c.args.row c.args.p)) = c.core.ensures ∙ ap core_of is in
     let refers = referred c.in-Refer.word c.word_of-before.result c.in-Refer.phi c.in-Refer.shape
     (turn_of (placed_at c.args.self.now (slice_index c.args.row c.args.p)).setting c.args.code.now
     (placed_at c.args.self.now (slice_index c.args.row c.args.p)).local_state.processor) c.word_of-before.ensures.small
-    (subst (λ (k : CoreState). Decides (Refer c.in-Refer.word c.in-Refer.phi c.in-Refer.shape) (turn_of k.setting c.args.code.now k.state)) core
+    (subst (λ (a : Placed). Decides (Refer c.in-Refer.word c.in-Refer.phi c.in-Refer.shape) (turn_of a.setting c.args.code.now a.local_state.processor)) is
     c.in-Refer.ensures.turn) in
     looked c.args.extent c.args.code.now c.args.classes.now c.args.self.now c.moved.new.self c.rewritten.new.self c.args.row
     (slice_set (slice_set c.args.row c.from-place.result c.in_ok-after.after) c.from-words_place.result c.in_ok-written.written)
@@ -65,7 +59,7 @@ returns-clause-next g c =
       refers = subst (λ v. IsReferred c.in-Refer.word c.word_of-before.result v
           (turn_of (placed_at c.args.self.now (slice_index c.args.row c.args.p)).setting c.args.code.now
           (placed_at c.args.self.now (slice_index c.args.row c.args.p)).local_state.processor)) (sym c.apply.ensures) refers;
-      named = subst (λ (k : CoreState). c.in-Refer.word < k.setting.shared_words) core c.in-Refer.ensures.word;
+      named = subst (λ (a : Placed). c.in-Refer.word < a.setting.shared_words) is c.in-Refer.ensures.word;
       before_is = ap (λ i. slice_index (words_at c.args.self.now (slice_index c.args.row i)) c.in-Refer.word) (sym c.from-words_place.ensures)
           ∙ (ap (λ xs. slice_index xs c.in-Refer.word) (sym c.words.ensures ∙ sym c.as_slice.ensures.value) ∙ sym c.word_of-before.ensures.word);
       behind = subst (λ i. IsBehind c.args.extent.exchanged c.args.code.now c.word_of-before.result

@@ -5,8 +5,9 @@ ghost use Rattle.flat_machine.specs.Effects.{effect_of};
 ghost use Rattle.flat_machine.specs.Turns.{fetched, performed, turn_of};
 ghost use Rattle.rv_table.specs.declared.insn.Insn.{Insn};
 ghost use Rattle.hart.specs.Deciding.{Allows, Decides, IsOfEffect, NamesWord};
+ghost use Rattle.hart.specs.State.{processor_of};
 
-use super::Core;
+use super::Context;
 use crate::decision::{Decision, Shape};
 use crate::instructions;
 use flat_machine::{Effect, Fault, Region, Size};
@@ -14,16 +15,17 @@ use hart_ops::{load_size, store_size};
 use local_memory::Code;
 use rv_table::{AmoOp, LoadOp, StoreOp};
 
-impl Core {
-    /// What the next turn of the processor is, where it runs. One that is local may be taken ([`Core::take_local`]),
-    /// and a reference may retire ([`Core::retire`]).
+impl Context {
+    /// What the next turn of the processor is, if it runs, whatever its local memory holds.
     #[tactic(auto, using(crate::proofs::Decisions::allowed))]
-    pub fn decide(&self, code: &Code) -> Decision
-        ensures turn { Decides result (turn_of self.now.setting code.now self.now.state) }
-        ensures table { (i : Insn) → fetched code.now self.now.state.pc ≡ Ok i
-            → IsOfEffect result (effect_of self.now.setting self.now.state.pc self.now.state.registers i) }
+    pub(crate) fn decide(&self, code: &Code) -> Decision
+        ensures turn { (local : List ℕ) →
+            Decides result (turn_of self.now.setting code.now (processor_of self.now local)) }
+        ensures table { (i : Insn) → fetched code.now self.now.pc ≡ Ok i
+            → IsOfEffect result (effect_of self.now.setting self.now.pc self.now.registers i) }
         ensures word { NamesWord result self.now.setting }
-        ensures allows { Allows result (turn_of self.now.setting code.now self.now.state) }
+        ensures allows { (local : List ℕ) →
+            Allows result (turn_of self.now.setting code.now (processor_of self.now local)) }
     {
         match code.fetch(self.pc()) {
             Ok(insn) => self.decision(self.effect(&insn)),
@@ -32,9 +34,9 @@ impl Core {
     }
 
     /// What an effect asks for.
-    pub(super) fn decision(&self, effect: Effect) -> Decision
-        ensures turn { (code : List ℕ) (insn : Insn) →
-            Decides result (performed self.now.setting code self.now.state insn effect) }
+    pub(crate) fn decision(&self, effect: Effect) -> Decision
+        ensures turn { (code local : List ℕ) (insn : Insn) →
+            Decides result (performed self.now.setting code (processor_of self.now local) insn effect) }
         ensures table { IsOfEffect result effect }
         ensures word { NamesWord result self.now.setting }
     {
@@ -60,8 +62,8 @@ impl Core {
 
     /// What a load asks for.
     fn load_decision(&self, op: LoadOp, address: u32) -> Decision
-        ensures turn { (code : List ℕ) (insn : Insn) (rd : ℕ)
-            → Decides result (performed self.now.setting code self.now.state insn (Effect.Load op rd address)) }
+        ensures turn { (code local : List ℕ) (insn : Insn) (rd : ℕ) → Decides result
+            (performed self.now.setting code (processor_of self.now local) insn (Effect.Load op rd address)) }
         ensures table { (rd : ℕ) → IsOfEffect result (Effect.Load op rd address) }
         ensures word { NamesWord result self.now.setting }
     {
@@ -78,8 +80,8 @@ impl Core {
 
     /// What a store asks for.
     fn store_decision(&self, op: StoreOp, address: u32, value: u32) -> Decision
-        ensures turn { (code : List ℕ) (insn : Insn) →
-            Decides result (performed self.now.setting code self.now.state insn (Effect.Store op address value)) }
+        ensures turn { (code local : List ℕ) (insn : Insn) → Decides result
+            (performed self.now.setting code (processor_of self.now local) insn (Effect.Store op address value)) }
         ensures table { IsOfEffect result (Effect.Store op address value) }
         ensures word { NamesWord result self.now.setting }
     {
@@ -96,8 +98,8 @@ impl Core {
 
     /// What an AMO asks for.
     fn amo_decision(&self, op: AmoOp, address: u32, value: u32) -> Decision
-        ensures turn { (code : List ℕ) (insn : Insn) (rd : ℕ)
-            → Decides result (performed self.now.setting code self.now.state insn (Effect.Amo op rd address value)) }
+        ensures turn { (code local : List ℕ) (insn : Insn) (rd : ℕ) → Decides result
+            (performed self.now.setting code (processor_of self.now local) insn (Effect.Amo op rd address value)) }
         ensures table { (rd : ℕ) → IsOfEffect result (Effect.Amo op rd address value) }
         ensures word { NamesWord result self.now.setting }
     {

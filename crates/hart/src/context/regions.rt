@@ -5,11 +5,11 @@ ghost use Rattle.flat_machine.specs.Memory.{region_of};
 ghost use Rattle.flat_machine.specs.Sizes.{bytes_of};
 ghost use Rattle.hart.specs.Deciding.{IsInside, IsThere, IsWritable};
 
-use super::Core;
+use super::Context;
 use flat_machine::{CODE_START, Fault, LOCAL_START, REGION_BYTES, Region, SHARED_START, Size};
 use hart_ops::is_aligned;
 
-impl Core {
+impl Context {
     /// Where an access goes: to a shared word, or to a place of local memory or of code.
     ///
     /// # Errors
@@ -18,7 +18,7 @@ impl Core {
     /// [`Fault::NoRegion`] where it is in no region, and [`Fault::StoreToCode`] where a write is to
     /// code.
     #[tactic(auto, unfolding(flat_machine::specs::Memory::region_of))]
-    pub(super) fn region(&self, size: Size, address: u32, writes: bool) -> Result<Region, Fault>
+    pub(crate) fn region(&self, size: Size, address: u32, writes: bool) -> Result<Region, Fault>
         ensures value { result ≡ region_of self.now.setting (bytes_of size) address writes }
         ensures inside { IfOk result (IsInside (bytes_of size) address) }
         ensures there { IfOk result (IsThere self.now.setting) }

@@ -4,7 +4,7 @@ ghost use Rattle.std.specs.Prelude.{◌≡◌};
 ghost use Rattle.flat_machine.specs.Effects.{call_of, effect_of, register_of};
 ghost use Rattle.flat_machine.specs.Words.{extended, plus};
 
-use super::Core;
+use super::Context;
 use flat_machine::{Effect, Fault};
 use hart_ops::{
     branch_offset, immediate_result, immediate_word, is_branch_taken, jump_offset, register_result,
@@ -12,11 +12,11 @@ use hart_ops::{
 };
 use rv_table::{BranchOp, Immediate, Insn, Register, UpperOp};
 
-impl Core {
+impl Context {
     /// What the instruction does.
     #[tactic(auto, unfolding(flat_machine::specs::Effects::effect_of))]
-    pub(super) fn effect(&self, insn: &Insn) -> Effect
-        ensures { result ≡ effect_of self.now.setting self.now.state.pc self.now.state.registers insn.now }
+    pub(crate) fn effect(&self, insn: &Insn) -> Effect
+        ensures { result ≡ effect_of self.now.setting self.now.pc self.now.registers insn.now }
     {
         match *insn {
             Insn::Op { op, rd, rs1, rs2 } => Effect::Write {
@@ -78,7 +78,7 @@ impl Core {
     /// A register's value. Register 0 is 0.
     #[tactic(auto, unfolding(flat_machine::specs::Effects::register_of))]
     fn read(&self, register: Register) -> u32
-        ensures { result ≡ register_of self.now.state.registers register }
+        ensures { result ≡ register_of self.now.registers register }
     {
         let number = register.number();
         if number == 0 {
@@ -90,7 +90,7 @@ impl Core {
 
     /// A register's value and an offset of twelve bits: an address.
     fn address(&self, rs1: Register, imm: Immediate<12>) -> u32
-        ensures { result ≡ plus (register_of self.now.state.registers rs1) (extended 12 imm) }
+        ensures { result ≡ plus (register_of self.now.registers rs1) (extended 12 imm) }
     {
         sum(self.read(rs1), immediate_word(imm))
     }
@@ -99,7 +99,7 @@ impl Core {
     #[tactic(auto, unfolding(flat_machine::specs::Effects::effect_of))]
     fn branch(&self, op: BranchOp, rs1: Register, rs2: Register, offset: Immediate<12>) -> Effect
         ensures { result
-            ≡ effect_of self.now.setting self.now.state.pc self.now.state.registers (Insn.Branch op rs1 rs2 offset) }
+            ≡ effect_of self.now.setting self.now.pc self.now.registers (Insn.Branch op rs1 rs2 offset) }
     {
         if is_branch_taken(op, self.read(rs1), self.read(rs2)) {
             Effect::Jump {
@@ -116,7 +116,7 @@ impl Core {
     #[tactic(auto, unfolding(flat_machine::specs::Effects::effect_of))]
     fn upper(&self, op: UpperOp, rd: Register, upper: Immediate<20>) -> Effect
         ensures { result
-            ≡ effect_of self.now.setting self.now.state.pc self.now.state.registers (Insn.Upper op rd upper) }
+            ≡ effect_of self.now.setting self.now.pc self.now.registers (Insn.Upper op rd upper) }
     {
         let high = upper.field() << 12;
         let value = match op {
@@ -128,7 +128,7 @@ impl Core {
 
     /// A jump to the target, with the address of the next instruction in `rd`.
     fn jump(&self, rd: Register, target: u32) -> Effect
-        ensures { result ≡ Effect.Jump rd (plus self.now.state.pc 4) target }
+        ensures { result ≡ Effect.Jump rd (plus self.now.pc 4) target }
     {
         Effect::Jump {
             rd,
@@ -141,8 +141,8 @@ impl Core {
     #[tactic(auto, unfolding(flat_machine::specs::Effects::call_of))]
     fn call(&self) -> Effect
         ensures { result
-            ≡ call_of self.now.setting (register_of self.now.state.registers 17)
-            (register_of self.now.state.registers 10) }
+            ≡ call_of self.now.setting (register_of self.now.registers 17)
+            (register_of self.now.registers 10) }
     {
         let a0 = Register::new(10);
         let byte = (self.read(a0) % 256) as u8;
