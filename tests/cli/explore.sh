@@ -462,6 +462,29 @@ finds_a_fault_in_one_of_64() {
 }
 check 'a fault in one of 64 processors makes one result, in which the processor comes first' finds_a_fault_in_one_of_64
 
+# Four processors add 1 to the first and to the last word, twelve times each. The words have 200 different values or more
+# on the way. So many lists of all 262,144 words would take more memory than there is.
+explores_the_last_word() {
+    cat >"$room/last_word.s" <<'END'
+start: lui s2, 0x80000
+ lui s3, 0x80100
+ addi s3, s3, -4
+ addi s4, x0, 12
+ addi s5, x0, 1
+round: amoadd.w x0, s5, (s2)
+ amoadd.w x0, s5, (s3)
+ addi s4, s4, -1
+ bne s4, x0, round
+ addi a7, x0, 0
+ addi a0, x0, 0
+ ecall
+END
+    ./ultra asm "$room/last_word.s" "$room/last_word.elf" &&
+        (ulimit -v 131072 && crates/ultra/out/ultra explore --k 2 --words 262144 "$room/last_word.elf") >"$room/found" &&
+        diff <(word 0 48 && word 262143 48) <(grep '^word ' "$room/found") && grep -x '1 result, 20475 states' "$room/found"
+}
+check 'a program that uses the first and the last of 262,144 words, in little memory' explores_the_last_word
+
 # If a processor asks for its own number after a reference, no processors are exchanged.
 exchanges_none_if_one_asks() {
     local stages

@@ -7,3 +7,4 @@ pub mod ResultLaws
 -- Words of lower crates, passed on to those above.
 pub use Rattle.local_reduction.specs as local_reduction
 pub use Rattle.state_graph.specs as state_graph
+pub use Rattle.state_search.specs as state_search

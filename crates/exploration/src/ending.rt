@@ -147,12 +147,10 @@ fn result_of<const N: usize>(
     ensures { IfOk result (λ r. r ≡ result_at (means extent state_tables.now row.now)) }
 {
     let processors = processors_of(alloc, state_tables, extent, row)?;
-    let words = copied(state_tables.words(row[usize::from(extent.processors)]))?;
-    Ok(FinalResult {
-        processors,
-        words,
-        shared_words: extent.shared_words,
-    })
+    let words = state_tables
+        .words(row[usize::from(extent.processors)])
+        .copy()?;
+    Ok(FinalResult { processors, words })
 }
 
 /// The results of the processors of a row.
@@ -192,11 +190,4 @@ fn processor_result(
         status: local_state.status(),
         console,
     })
-}
-
-/// The same list.
-fn copied(words: &Vec<u32>) -> Result<Vec<u32>, AllocError>
-    ensures { IfOk result (λ v. v.items ≡ words.now.items) }
-{
-    Ok(words.clone()?)
 }

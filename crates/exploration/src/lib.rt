@@ -27,4 +27,4 @@ pub use refusal::Refusal;
 pub use result_laws::results_are_those_of_the_flat_machine;
 pub use run::{Search, explore};
 pub use state_graph::Termination;
-pub use state_search::{NoProgress, SearchObserver};
+pub use state_search::{NoProgress, NonzeroWord, SearchObserver, SparseWords};

@@ -7,6 +7,7 @@ ghost use Rattle.machine_steps.specs.machine_theory.Processors.{port_at, word_at
 
 use hart::Core;
 use machine_steps::Machine;
+use state_search::SparseWords;
 use std::alloc::{AllocError, Global};
 
 /// The cores of all processors, none of which is away.
@@ -26,11 +27,11 @@ pub fn cores_of(alloc: Global, machine: &Machine) -> Result<Vec<Core>, AllocErro
 }
 
 /// All shared words.
-pub fn words_of(alloc: Global, machine: &Machine) -> Result<Vec<u32>, AllocError>
-    ensures { IfOk result (λ words. words.items
+pub fn words_of(alloc: Global, machine: &Machine) -> Result<SparseWords, AllocError>
+    ensures { IfOk result (λ words. words
         ≡ map (word_at machine.now.config.k machine.now.modules) (range_with_len 0 machine.now.config.shared_words)) }
 {
-    let mut words = Vec::new(alloc);
+    let mut words = SparseWords::new(alloc);
     for number in 0..machine.config().shared_words {
         match machine.word(number) {
             Some(word) => words.push(word)?,

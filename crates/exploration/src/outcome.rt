@@ -1,9 +1,10 @@
 //! What is found.
 
-ghost use Rattle.std.specs.Prelude.{◌≡◌, ◌↔◌, ◌<◌, ℕ, slice_index, IsTrue};
+ghost use Rattle.std.specs.Prelude.{◌≡◌, ◌↔◌, IsTrue};
 
 use flat_machine::Status;
 use state_graph::Termination;
+use state_search::SparseWords;
 use std::marker::Model;
 
 /// Where a processor has stopped, how, and the bytes that it has printed.
@@ -26,23 +27,15 @@ impl Model for ProcessorResult {
 #[derive(Drop)]
 pub struct FinalResult {
     pub processors: Vec<ProcessorResult>,
-    /// The words up to the last that is not zero.
-    pub words: Vec<u32>,
-    /// How many words there are.
-    pub shared_words: u32,
+    pub words: SparseWords,
 }
 
 impl Model for FinalResult {
-    ghost use Rattle.std.specs.Prelude.{map, slice_index};
-    ghost use Rattle.std.specs.List.{range_with_len};
     ghost use Rattle.local_reduction.specs.Results.{FinalResult as Contents};
 
     ghost Value = { Contents };
 
-    ghost view = { λ r. record {
-      processors = r.processors.items;
-      words = map (slice_index r.words.items) (range_with_len 0 r.shared_words);
-    } };
+    ghost view = { λ r. record { processors = r.processors.items; words = r.words } };
 }
 
 impl ProcessorResult {
@@ -61,17 +54,8 @@ impl FinalResult {
     pub fn is_same(&self, other: &FinalResult) -> bool
         ensures { IsTrue result ↔ (self.now ≡ other.now) }
     {
-        if self.shared_words != other.shared_words {
-            return false;
-        }
-        if !are_same(self.processors.as_slice(), other.processors.as_slice()) {
-            return false;
-        }
-        have_same_words(
-            self.words.as_slice(),
-            other.words.as_slice(),
-            self.shared_words,
-        )
+        are_same(self.processors.as_slice(), other.processors.as_slice())
+            && self.words == other.words
     }
 }
 
@@ -88,28 +72,6 @@ fn are_same(some: &[ProcessorResult], others: &[ProcessorResult]) -> bool
         }
     }
     true
-}
-
-/// Whether the first this many words are the same. Those past the last of a list are zero.
-fn have_same_words(some: &[u32], others: &[u32], count: u32) -> bool
-    ensures { IsTrue result ↔ ((i : ℕ) → i < count → slice_index some.now i ≡ slice_index others.now i) }
-{
-    for place in 0..count {
-        if word_at(some, place) != word_at(others, place) {
-            return false;
-        }
-    }
-    true
-}
-
-/// The word at a place.
-fn word_at(words: &[u32], place: u32) -> u32
-    ensures { result ≡ slice_index words.now place }
-{
-    match words.get(place as usize) {
-        Some(word) => *word,
-        None => 0,
-    }
 }
 
 /// All final results, up to exchanges of processors of one class, and whether schedules end.

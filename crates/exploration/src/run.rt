@@ -32,8 +32,8 @@ use state_graph::{
     termination_of,
 };
 use state_search::{
-    Extent, MoveRefusal, Refusal as SearchRefusal, SearchObserver, StateSpace, StateTables,
-    TransitionCaches, classes_of, search,
+    Extent, MoveRefusal, Refusal as SearchRefusal, SearchObserver, SparseWords, StateSpace,
+    StateTables, TransitionCaches, classes_of, search,
 };
 use std::alloc::Global;
 
@@ -154,25 +154,25 @@ fn explored_by_width<G: SearchObserver>(
     code: &Code,
     extent: Extent,
     cores: &[Core],
-    words: Vec<u32>,
+    words: SparseWords,
     wish: Search,
     observer: &mut G,
 ) -> Result<Explored, SearchRefusal>
     requires cores { AreOfExtent extent cores.now }
     requires room { extent.processors ≤ 64 }
-    requires words { length words.items ≡ extent.shared_words }
+    requires words { length words ≡ extent.shared_words }
     ensures sound { IfOk result (λ e. (r q : FinalResult) → Contains e.results.items r → StandsFor e.classes.items r q
-        → IsFlatResult (flat_of code.now cores.now words.items) q) }
-    ensures complete { IfOk result (λ e. (q : FinalResult) → IsFlatResult (flat_of code.now cores.now words.items) q
+        → IsFlatResult (flat_of code.now cores.now words) q) }
+    ensures complete { IfOk result (λ e. (q : FinalResult) → IsFlatResult (flat_of code.now cores.now words) q
         → IsStoodFor e.classes.items e.results.items q) }
     ensures once { IfOk result (λ e. IsOnce e.results.items) }
     ensures classes { IfOk result (λ e. AreClasses extent e.classes.items) }
-    ensures termination { IfOk result (λ e. IsTerminationOf (flat_of code.now cores.now words.items) e.termination) }
+    ensures termination { IfOk result (λ e. IsTerminationOf (flat_of code.now cores.now words) e.termination) }
     ensures states { IfOk result
-        (λ e. AreAllStates (flat_of code.now cores.now words.items) e.classes.items e.results.items
+        (λ e. AreAllStates (flat_of code.now cores.now words) e.classes.items e.results.items
         e.termination e.states) }
     ensures few { IfOk result (λ e. e.states < wish.limit) }
-    ensures given_up { IfErr result (IsGivenUpFor (HasManyStates (flat_of code.now cores.now words.items) wish.limit)) }
+    ensures given_up { IfErr result (IsGivenUpFor (HasManyStates (flat_of code.now cores.now words) wish.limit)) }
 {
     if extent.processors <= 8 {
         explored::<9, G>(alloc, code, extent, cores, words, wish, observer)
@@ -191,26 +191,26 @@ fn explored<const N: usize, G: SearchObserver>(
     code: &Code,
     extent: Extent,
     cores: &[Core],
-    words: Vec<u32>,
+    words: SparseWords,
     wish: Search,
     observer: &mut G,
 ) -> Result<Explored, SearchRefusal>
     requires cores { AreOfExtent extent cores.now }
     requires room { extent.processors < N }
     requires narrow { N ≤ 65 }
-    requires words { length words.items ≡ extent.shared_words }
+    requires words { length words ≡ extent.shared_words }
     ensures sound { IfOk result (λ e. (r q : FinalResult) → Contains e.results.items r → StandsFor e.classes.items r q
-        → IsFlatResult (flat_of code.now cores.now words.items) q) }
-    ensures complete { IfOk result (λ e. (q : FinalResult) → IsFlatResult (flat_of code.now cores.now words.items) q
+        → IsFlatResult (flat_of code.now cores.now words) q) }
+    ensures complete { IfOk result (λ e. (q : FinalResult) → IsFlatResult (flat_of code.now cores.now words) q
         → IsStoodFor e.classes.items e.results.items q) }
     ensures once { IfOk result (λ e. IsOnce e.results.items) }
     ensures classes { IfOk result (λ e. AreClasses extent e.classes.items) }
-    ensures termination { IfOk result (λ e. IsTerminationOf (flat_of code.now cores.now words.items) e.termination) }
+    ensures termination { IfOk result (λ e. IsTerminationOf (flat_of code.now cores.now words) e.termination) }
     ensures states { IfOk result
-        (λ e. AreAllStates (flat_of code.now cores.now words.items) e.classes.items e.results.items
+        (λ e. AreAllStates (flat_of code.now cores.now words) e.classes.items e.results.items
         e.termination e.states) }
     ensures few { IfOk result (λ e. e.states < wish.limit) }
-    ensures given_up { IfErr result (IsGivenUpFor (HasManyStates (flat_of code.now cores.now words.items) wish.limit)) }
+    ensures given_up { IfErr result (IsGivenUpFor (HasManyStates (flat_of code.now cores.now words) wish.limit)) }
 {
     all_stood_for_are_results();
     each_result_is_stood_for();

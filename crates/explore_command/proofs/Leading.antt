@@ -108,13 +108,6 @@ module _ (opening m : MachineLists) (steps : List Step) (tally : TallyState) (ta
   pub to_result : AreOfTheMachine steps → (r : FinalResult) → IsEnd m tally.shown r → LeadToResult opening steps r
   to_result own r end = record { machine = m; replay = taken.replay; own = own; stopped = none_runs end.stopped; left = end.left ∙ left_is }
 
--- the words of a result that is made of all words
-pub words_kept : (words : List ℕ) (word : ℕ → ℕ) (count shared : ℕ) → words ≡ map word (range_with_len 0 count) → shared ≡ count →
-    map (slice_index words) (range_with_len 0 shared) ≡ map word (range_with_len 0 count)
-words_kept words word count shared are same =
-    ap (λ n. map (slice_index words) (range_with_len 0 n)) same
-    ∙ (sym (fill_by_all (slice_index words) words count 0 (ap length are ∙ length-map-range_with_len word 0 count) (λ k within. refl)) ∙ are)
-
 not_zero : (n : ℕ) → (suc n == 0) ≡ true → ⊥
 not_zero n e = cc (sym e ∙ ne_eqb (suc n) 0 (λ z. cc z))
 

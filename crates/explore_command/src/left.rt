@@ -22,11 +22,7 @@ pub(crate) fn left_by(
 {
     let processors = processors_left(alloc, machine, tally)?;
     let words = words_of(alloc, machine)?;
-    Ok(FinalResult {
-        processors,
-        words,
-        shared_words: machine.config().shared_words,
-    })
+    Ok(FinalResult { processors, words })
 }
 
 /// That of each of its processors.

@@ -1,6 +1,6 @@
 //! Final results as lines.
 
-ghost use Rattle.std.specs.Prelude.{◌≡◌, ◌+◌, ◌++◌, ◌<◌, ◌^◌, codes, length, slice_index, IfOk, OnOk, string_bytes};
+ghost use Rattle.std.specs.Prelude.{◌≡◌, ◌+◌, ◌++◌, ◌<◌, ◌^◌, codes, length, IfOk, OnOk, string_bytes};
 ghost use Rattle.std.specs.Fmt.{decimal};
 ghost use Rattle.explore_command.specs.Lines.{counted, processor_line, processor_lines, result_lines, results_lines};
 ghost use Rattle.explore_command.specs.Lines.{schedules_text, shared_lines};
@@ -130,31 +130,8 @@ fn push_words(alloc: Global, text: &mut String, last: &FinalResult) -> Result<()
     ensures { OnOk result (string_bytes text.new ≡ string_bytes text.old
         ++ shared_lines last.now.words (length last.now.words)) }
 {
-    push_first_words(alloc, text, last.words.as_slice(), last.shared_words)?;
-    Ok(())
-}
-
-/// Appends a line for each of the first this many words that is not zero. Those past the last are zero.
-fn push_first_words(
-    alloc: Global,
-    text: &mut String,
-    words: &[u32],
-    count: u32,
-) -> Result<(), AllocError>
-    ensures { OnOk result (string_bytes text.new ≡ string_bytes text.old ++ shared_lines words.now count) }
-{
-    for number in 0..count {
-        push_shared_word(alloc, text, number, word_at(words, number))?;
+    for word in last.words.nonzero() {
+        push_shared_word(alloc, text, word.place, word.value)?;
     }
     Ok(())
-}
-
-/// The word at a place. Those past the last are zero.
-fn word_at(words: &[u32], place: u32) -> u32
-    ensures { result ≡ slice_index words.now place }
-{
-    match words.get(place as usize) {
-        Some(word) => *word,
-        None => 0,
-    }
 }

@@ -1,6 +1,6 @@
 -- Stations and lists of tables that differ, and so do the states that rows mean.
-use Rattle.std.proofs.Common.{◌≡◌, ◌⊎◌, inl, inr, ℕ, ◌-◌, ◌<◌, ◌≤◌, zero, suc, Bool, true, false, true≢false, nat_eq, cond}
-use Rattle.std.proofs.Common.{List, [], ◌∷◌, ◌++◌, Some, length, map, refl, sym, ap, subst, ◌∙◌, arith, length-append}
+use Rattle.std.proofs.Common.{◌≡◌, ◌⊎◌, inl, inr, ℕ, ◌<◌, ◌≤◌, zero, suc, Bool, true, false, true≢false, nat_eq, cond}
+use Rattle.std.proofs.Common.{List, [], ◌∷◌, ◌++◌, Some, length, refl, sym, ap, subst, ◌∙◌, arith, length-append}
 use Rattle.std.specs.Prelude.{slice_get, slice_index, slice_index_or}
 use Rattle.std.specs.List.{AllByRecursion, IsDistinct, list_any}
 use Rattle.std.specs.Cmp.Lexicographic.{pointwise}
@@ -18,9 +18,8 @@ use Rattle.state_search.specs.KeyLaws.{keys_decide}
 use Rattle.state_search.specs.Placed.{Placed, IsBare, IsEqual}
 use Rattle.state_search.specs.Search.{state_at}
 use Rattle.state_search.specs.StateTables.{TableLists, nowhere, placed_at, words_at, means, AreDifferent, AreLeast, IsRow}
-use Rattle.state_search.specs.Words.{IsTrimmed}
 use Rattle.state_search.proofs.Keys.{key_same}
-use Rattle.state_search.proofs.Listed.{listed_at, listed_there}
+use Rattle.state_search.proofs.Listed.{listed_there}
 
 -- ---- keys of which no two are equal
 
@@ -48,44 +47,6 @@ one_place eq xs h i j d li lj one other = by (cases_lt i j) (cases_lt j i)
     by (inr past) (inl less) = absurd (true≢false (sym other ∙ apart eq xs h j i d less li))
     by (inr past) (inr low) = omega (arith, past, low)
 
--- keys that are compared by what a function gives of them
-mapped_all : {K J : Type 0} (f : K → J) (eq : J → J → Bool) (k : K) (xs : List K) → AllByRecursion (λ y. eq (f k) (f y) ≡ false) xs →
-    AllByRecursion (λ y. eq (f k) y ≡ false) (map f xs)
-mapped_all f eq k [] h = h
-mapped_all f eq k (x ∷ xs) h = (h.0, mapped_all f eq k xs h.1)
-
-mapped_distinct : {K J : Type 0} (f : K → J) (eq : J → J → Bool) (xs : List K) → IsDistinct (λ a b. eq (f a) (f b)) xs → IsDistinct eq (map f xs)
-unfolding IsDistinct
-mapped_distinct f eq [] h = h
-mapped_distinct f eq (x ∷ xs) h = (mapped_all f eq x xs h.0, mapped_distinct f eq xs h.1)
-
--- ---- lists of words
-
-tail_trimmed : (x y : ℕ) (xs : List ℕ) → IsTrimmed (x ∷ (y ∷ xs)) → IsTrimmed (y ∷ xs)
-tail_trimmed x y xs h e =
-    let step : length (x ∷ (y ∷ xs)) - 1 ≡ suc (length (y ∷ xs) - 1) = omega arith in
-    h (ap (slice_get (x ∷ (y ∷ xs))) step ∙ e)
-
--- Some word of such a list is not zero, if it has one.
-not_all_zero : (x : ℕ) (xs : List ℕ) → IsTrimmed (x ∷ xs) → ((k : ℕ) → slice_index (x ∷ xs) k ≡ 0) → ⊥
-not_all_zero x [] h none =
-    let step : length (x ∷ []) - 1 ≡ 0 = omega arith in
-    h (ap (slice_get (x ∷ [])) step ∙ ap Some (none 0))
-not_all_zero x (y ∷ ys) h none = not_all_zero y ys (tail_trimmed x y ys h) (λ k. none (suc k))
-
-tail_of : (x : ℕ) (xs : List ℕ) → IsTrimmed (x ∷ xs) → IsTrimmed xs
-tail_of x [] h e = cc
-tail_of x (y ∷ ys) h e = tail_trimmed x y ys h e
-
--- Two such lists that have the same words are the same.
-trimmed_same : (xs ys : List ℕ) → IsTrimmed xs → IsTrimmed ys → ((k : ℕ) → slice_index xs k ≡ slice_index ys k) → xs ≡ ys
-trimmed_same [] [] h k same = refl
-trimmed_same [] (y ∷ ys) h k same = absurd (not_all_zero y ys k (λ i. sym (same i)))
-trimmed_same (x ∷ xs) [] h k same = absurd (not_all_zero x xs h same)
-trimmed_same (x ∷ xs) (y ∷ ys) h k same =
-    let rest = trimmed_same xs ys (tail_of x xs h) (tail_of y ys k) (λ i. same (suc i)) in
-    λ i. same 0 i ∷ rest i
-
 -- ---- tables
 
 equal_kept : (live : List (List Bool)) (a b : Placed) → IsBare live a → IsBare live b → a.setting ≡ b.setting →
@@ -105,23 +66,17 @@ are_different t least local_states words = record {
   local_states = λ i j li lj setting kept.
       let a = placed_at t i in
       let b = placed_at t j in
-      let equal = equal_kept t.live a b (least.0 i li) (least.0 j lj) setting kept in
+      let equal = equal_kept t.live a b (least i li) (least j lj) setting kept in
       let same : key_of a ≡ key_of b = key_same a b equal in
       one_place same_key t.local_states local_states i j nowhere li lj ((keys_decide (key_of a) (key_of b)).1 same)
       ((keys_decide (key_of b) (key_of a)).1 (sym same));
-  words = λ i j li lj each.
-      let same : words_at t i ≡ words_at t j = trimmed_same (words_at t i) (words_at t j) (least.1 i li) (least.1 j lj) each in
+  words = λ i j li lj same.
       one_place (pointwise nat_eq) t.words words i j [] li lj (equal (words_at t i) (words_at t j) same)
       (equal (words_at t j) (words_at t i) (sym same));
 }
   where
     equal : (xs ys : List ℕ) → xs ≡ ys → pointwise nat_eq xs ys ≡ true
     equal xs ys same = (slice_eq-Decides {E = nat_eq} Decides-eqb xs ys (pointwise nat_eq xs ys) refl).1 same
-
--- If no two elements of a list have equal words, no two lists of these words are equal.
-pub mapped_words : {V : Type 0} (items : V → List ℕ) (lists : List V) → IsDistinct (λ a b. pointwise nat_eq (items a) (items b)) lists →
-    IsDistinct (pointwise nat_eq) (map items lists)
-mapped_words items lists h = mapped_distinct items (pointwise nat_eq) lists h
 
 -- ---- rows
 
@@ -137,15 +92,7 @@ module _ (e : Extent) (t : TableLists) (differ : AreDifferent t) (r s : List ℕ
 
   words_same : slice_index r e.processors ≡ slice_index s e.processors
   words_same =
-      differ.words (slice_index r e.processors) (slice_index s e.processors) h.words k.words (λ i. by i (cases_lt i e.shared_words))
-    where
-      by : (i : ℕ) → (i < e.shared_words) ⊎ (e.shared_words ≤ i) →
-          slice_index (words_at t (slice_index r e.processors)) i ≡ slice_index (words_at t (slice_index s e.processors)) i
-      by i (inl low) =
-          sym (listed_at (slice_index (words_at t (slice_index r e.processors))) e.shared_words i 0 low)
-          ∙ (ap (λ (z : MacroState). slice_index z.shared i) same
-          ∙ listed_at (slice_index (words_at t (slice_index s e.processors))) e.shared_words i 0 low)
-      by i (inr past) = h.short i past ∙ sym (k.short i past)
+      differ.words (slice_index r e.processors) (slice_index s e.processors) h.words k.words (ap (λ (z : MacroState). z.shared) same)
 
   -- If the entries of the tables are different, rows of one length that mean the same state are the same.
   pub rows_same : length r ≡ length s → r ≡ s

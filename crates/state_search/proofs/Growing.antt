@@ -1,11 +1,11 @@
 -- Rows mean the same in tables that have grown.
-use Rattle.std.proofs.Common.{◌≡◌, ℕ, Bool, List, [], ◌∷◌, ◌++◌, refl, sym, ap, ◌∙◌, arith, length-append}
+use Rattle.std.proofs.Common.{◌≡◌, ℕ, Bool, List, [], ◌∷◌, ◌++◌, length, refl, sym, ap, ◌∙◌, arith, length-append}
 use Rattle.std.specs.Prelude.{slice_index}
 use Rattle.std.proofs.lemmas.List.{get_or_append_left}
 use Rattle.local_reduction.specs.Forgetting.{kept_by}
 use Rattle.state_search.specs.declared.state_tables.Extent.{Extent}
 use Rattle.state_search.specs.Placed.{Placed}
-use Rattle.state_search.specs.StateTables.{TableLists, nowhere, placed_at, words_at, HasGrown, means, IsRow}
+use Rattle.state_search.specs.StateTables.{TableLists, nowhere, placed_at, HasGrown, means, IsRow}
 use Rattle.state_search.proofs.Lemmas.{listed_same}
 
 -- Tables have grown from themselves, by nothing.
@@ -50,8 +50,7 @@ module _ (e : Extent) (t u : TableLists) (row : List ℕ) (kept : HasGrown t u) 
     there = λ p l. let a = h.there p l in omega (arith, a, kept.local_states);
     own = λ p l. ap (λ (a : Placed). a.setting) (kept.same_local_state (slice_index row p) (h.there p l)) ∙ h.own p l;
     words = omega (arith, h.words, kept.words);
-    short = λ i far.
-        ap (λ list. slice_index list i) (kept.same_words (slice_index row e.processors) h.words) ∙ h.short i far;
+    all = ap length (kept.same_words (slice_index row e.processors) h.words) ∙ h.all;
     rest = h.rest;
   }
 
@@ -61,7 +60,5 @@ module _ (e : Extent) (t u : TableLists) (row : List ℕ) (kept : HasGrown t u) 
       let local_states = listed_same (λ p. kept_by u.live (placed_at u (slice_index row p)).local_state) e.processors
       (λ p. kept_by t.live (placed_at t (slice_index row p)).local_state)
       (λ p l. λ i. kept_by (sym kept.live i) (sym (kept.same_local_state (slice_index row p) (h.there p l)) i).local_state) in
-      let shared = listed_same (slice_index (words_at u (slice_index row e.processors))) e.shared_words
-      (slice_index (words_at t (slice_index row e.processors)))
-      (λ i l. ap (λ list. slice_index list i) (sym (kept.same_words (slice_index row e.processors) h.words))) in
+      let shared = sym (kept.same_words (slice_index row e.processors) h.words) in
       λ i. record { local_states = local_states i; shared = shared i }

@@ -1,5 +1,5 @@
 -- The lemmas that crates above may cite.
-use Rattle.std.proofs.Common.{◌≡◌, ℕ, List, [], ◌∷◌, ◌++◌, refl, sym, subst}
+use Rattle.std.proofs.Common.{ℕ, List, [], ◌∷◌, ◌++◌, refl, sym, subst}
 use Rattle.flat_machine.specs.declared.setting.Setting.{Setting}
 use Rattle.local_reduction.specs.LocalStates.{LocalState}
 use Rattle.local_reduction.specs.Closing.{MacroState}

@@ -1,6 +1,6 @@
+pub mod Listed
 pub mod WordLists
 pub mod Still
-pub mod Listed
 pub mod Spinners
 pub mod Lemmas
 pub mod Growing

@@ -1,5 +1,5 @@
 -- The row that a look for a move gives is where a reference leads, and what the processor does alone after it.
-use Rattle.std.proofs.Common.{◌≡◌, ◌≢◌, ◌⊎◌, inl, inr, ℕ, ◌<◌, ◌≤◌, ◌^◌, Bool, true, false, cond, true≢false}
+use Rattle.std.proofs.Common.{◌≡◌, ◌≢◌, ◌⊎◌, inl, inr, ℕ, ◌<◌, ◌^◌, Bool, true, false, cond, true≢false}
 use Rattle.std.proofs.Common.{List, [], Some, length, refl, sym, ap, subst, ◌∙◌, arith}
 use Rattle.std.specs.Prelude.{slice_get, slice_set, slice_index}
 use Rattle.std.proofs.lemmas.Bool.{cases_eq}
@@ -23,10 +23,9 @@ use Rattle.local_reduction.specs.Live.{HasAllLive}
 use Rattle.local_reduction.specs.Forgetting.{with_live, kept_by, DeadAreForgotten}
 use Rattle.state_search.specs.declared.state_tables.Extent.{Extent}
 use Rattle.state_search.specs.Placed.{Placed}
-use Rattle.state_search.specs.Words.{IsWritten}
 use Rattle.state_search.specs.StateTables.{TableLists, placed_at, words_at, HasGrown, setting_at, own_setting, means, IsRow, IsBehind}
 use Rattle.state_search.specs.Search.{AreClasses, CanMove, IsNext}
-use Rattle.state_search.proofs.Lemmas.{listed_at, listed_there, listed_is, listed_set}
+use Rattle.state_search.proofs.Lemmas.{listed_there, listed_is, listed_set}
 use Rattle.state_search.proofs.Growing.{kept_on}
 
 -- of two turns that go the same way both refer to a word, or none does
@@ -93,7 +92,7 @@ module _ (e : Extent) (code : List ℕ) (classes : List ℕ) (t u v : TableLists
     -- the third tables have the written list
     pub written_there : written < length v.words
     -- it is the list of the row with the word written
-    pub written_is : IsWritten (words_at u (slice_index row e.processors)) word value (words_at v written)
+    pub written_is : words_at v written ≡ slice_set (words_at u (slice_index row e.processors)) word value
     -- the next row has the two new numbers
     pub next_is : next ≡ slice_set (slice_set row p number) e.processors written
 
@@ -129,26 +128,24 @@ module _ (e : Extent) (code : List ℕ) (classes : List ℕ) (t u v : TableLists
     own : here.setting ≡ own_setting e p
     own = h.row_is.own p h.few
 
+    words_after : words_at v written ≡ slice_set (words_at t (slice_index row e.processors)) word value
+    words_after =
+        h.written_is
+        ∙ ap (λ list. slice_set list word value) (h.first_kept.same_words (slice_index row e.processors) h.row_is.words)
+
     next_row : IsRow e v next
     next_row = record {
       there = λ q few. there_at q few (cases_eq q p);
       own = λ q few. own_at q few (cases_eq q p);
       words = subst (λ i. i < length v.words) (sym next_words) h.written_there;
-      short = short;
+      all = ap (λ i. length (words_at v i)) next_words
+          ∙ (ap length words_after ∙ (length-set (words_at t (slice_index row e.processors)) word value ∙ h.row_is.all));
       rest = λ q past.
           ap (λ r. slice_index r q) h.next_is
           ∙ (get_or-set_other (slice_set row p number) e.processors q written 0 (λ same. omega (arith, past, same))
           ∙ (get_or-set_other row p q number 0 (λ same. omega (arith, past, h.few, same)) ∙ h.row_is.rest q past));
     }
       where
-        short : (i : ℕ) → e.shared_words ≤ i → slice_index (words_at v (slice_index next e.processors)) i ≡ 0
-        short i far =
-            let low : word < e.shared_words = subst (λ (z : Setting). word < z.shared_words) own h.named in
-            ap (λ j. slice_index (words_at v j) i) next_words
-            ∙ (h.written_is.others i (λ same. omega (arith, low, far, same))
-            ∙ (ap (λ list. slice_index list i) (h.first_kept.same_words (slice_index row e.processors) h.row_is.words)
-            ∙ h.row_is.short i far))
-
         there_at : (q : ℕ) → q < e.processors → (q ≡ p) ⊎ (q ≡ p → ⊥) → slice_index next q < length v.local_states
         there_at q few (inl same) =
             let is : slice_index next q ≡ number = ap (slice_index next) same ∙ next_own in
@@ -173,7 +170,7 @@ module _ (e : Extent) (code : List ℕ) (classes : List ℕ) (t u v : TableLists
 
     old_is : slice_index s.shared word ≡ before
     unfolding s
-    old_is = listed_at (slice_index (words_at t (slice_index row e.processors))) e.shared_words word 0 named ∙ h.before_is
+    old_is = h.before_is
 
     replied : after_reply (turn_of here.setting code here.local_state.processor) before ≡ Some (h.refers.after before)
     replied = ap (λ turn. after_reply turn before) h.refers.is
@@ -206,14 +203,9 @@ module _ (e : Extent) (code : List ℕ) (classes : List ℕ) (t u v : TableLists
         (λ q. kept_by v.live (placed_at v (slice_index next q)).local_state) p
         (kept_by v.live (turned (own_setting e p, slice_index s.shared word))) h.few here_after
         (λ q other few. λ i. kept_by (kept.live i) (at_other q other few i).local_state) in
-        let lists : words_at u (slice_index row e.processors) ≡ words_at t (slice_index row e.processors) =
-        h.first_kept.same_words (slice_index row e.processors) h.row_is.words in
-        let shared = listed_set (slice_index (words_at t (slice_index row e.processors))) e.shared_words
-        (slice_index (words_at v (slice_index next e.processors))) word (h.refers.change (slice_index s.shared word)) named
-        (ap (λ i. slice_index (words_at v i) word) next_words
-        ∙ (h.written_is.here ∙ (sym h.refers.value_is ∙ ap h.refers.change (sym old_is))))
-        (λ i other few. ap (λ j. slice_index (words_at v j) i) next_words
-        ∙ (h.written_is.others i other ∙ ap (λ list. slice_index list i) lists)) in
+        let shared = ap (words_at v) next_words
+        ∙ (words_after
+        ∙ ap (slice_set (words_at t (slice_index row e.processors)) word) (sym h.refers.value_is ∙ ap h.refers.change (sym old_is))) in
         λ i. record { local_states = local_states i; shared = shared i }
 
     quiet : e.exchanged ≡ true → NeverAsks (own_setting e p) code (behind here.local_state (h.refers.after (slice_index s.shared word)))

@@ -3,7 +3,7 @@ use Rattle.std.proofs.Common.{◌≡◌, ◌⊎◌, Bool, cond, inl, inr, ℕ, �
 use Rattle.std.specs.Prelude.{slice_get, slice_set, slice_index}
 use Rattle.std.proofs.lemmas.Bool.{cases_eq}
 use Rattle.std.proofs.lemmas.List.{length-map, length-set, get_or-set_same, get_or-set_other}
-use Rattle.std.proofs.lemmas.List.FromFn.{length-map-range_with_len, fill_by_all}
+use Rattle.std.proofs.lemmas.List.FromFn.{length-map-range_with_len}
 use Rattle.flat_machine.specs.declared.setting.Setting.{Setting}
 use Rattle.flat_machine.specs.State.{Processor}
 use Rattle.hart.specs.State.{CoreState}
@@ -12,7 +12,6 @@ use Rattle.local_reduction.specs.Closing.{local_state_of, ReachesMacroState}
 use Rattle.local_reduction.specs.Forgetting.{kept_by}
 use Rattle.state_search.specs.declared.state_tables.Extent.{Extent}
 use Rattle.state_search.specs.Placed.{Placed, placed_of}
-use Rattle.state_search.specs.Words.{HasSameWords}
 use Rattle.state_search.specs.StateTables.{TableLists, placed_at, words_at, HasGrown, setting_at, means, IsRow}
 use Rattle.state_search.specs.Opening.{AreOfExtent, flat_of, IsOpened}
 use Rattle.state_search.proofs.Lemmas.{found_at, listed_there}
@@ -79,7 +78,7 @@ opened_on exchanged code cores t u row done number core few is kept h here = rec
 
 module _ (e : Extent) (code : List ℕ) (cores : List CoreState) (words : List ℕ) (t u : TableLists) (row : List ℕ) (number : ℕ)
     (of_extent : AreOfExtent e cores) (wide : length words ≡ e.shared_words) (kept : HasGrown t u)
-    (h : AreOpened e.exchanged code cores t row (length cores)) (words_there : number < length u.words) (same : HasSameWords words (words_at u number)) where
+    (h : AreOpened e.exchanged code cores t row (length cores)) (words_there : number < length u.words) (same : words_at u number ≡ words) where
   first : List ℕ
   first = slice_set row e.processors number
 
@@ -113,15 +112,9 @@ module _ (e : Extent) (code : List ℕ) (cores : List CoreState) (words : List �
         (opened_at p (core_at p few).0 few (core_at p few).1).setting
         ∙ ap (λ (z : Setting). record z { number = cond e.exchanged 0 z.number }) (of_extent.settings p (core_at p few).0 (core_at p few).1);
     words = subst (λ i. i < length u.words) (sym at_words) words_there;
-    short = λ i far.
-        ap (λ j. slice_index (words_at u j) i) at_words ∙ (same.same i ∙ past words i (omega (arith, far, wide)));
+    all = ap (λ j. length (words_at u j)) at_words ∙ (ap length same ∙ wide);
     rest = λ k more. get_or-set_other row e.processors k number 0 (λ here. omega (arith, more, here)) ∙ h.rest k (omega (arith, more, of_extent.all));
   }
-    where
-      past : (xs : List ℕ) (i : ℕ) → length xs ≤ i → slice_index xs i ≡ 0
-      past [] i l = refl
-      past (x ∷ xs) zero l = absurd (omega (arith, l))
-      past (x ∷ xs) (suc i) l = past xs i (omega (arith, l))
 
   -- The flat machine of the cores and words reaches the state that this row means.
   pub first_settles : ReachesMacroState (setting_at e) code (kept_by u.live) (flat_of code cores words) (λ k. [])
@@ -134,8 +127,7 @@ module _ (e : Extent) (code : List ℕ) (cores : List CoreState) (words : List �
       shared_words = wide i;
     });
     code_is = refl;
-    shared = sym (fill_by_all (slice_index (words_at u (slice_index first e.processors))) words e.shared_words 0 wide
-        (λ k l. sym (ap (λ i. slice_index (words_at u i) k) at_words ∙ same.same k)));
+    shared = ap (words_at u) at_words ∙ same;
     all = length-map-range_with_len (λ p. kept_by u.live (placed_at u (slice_index first p)).local_state) 0 e.processors
         ∙ (sym of_extent.all ∙ sym (length-map cores (λ (c : CoreState). c.state)));
     each = λ k p found. by k p (unmapped (λ (c : CoreState). c.state) cores k p found);

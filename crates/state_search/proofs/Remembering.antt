@@ -1,7 +1,7 @@
 -- What is remembered of moves stays right in tables that grow, and when a right answer is noted.
 use Rattle.std.proofs.Common.{◌≡◌, ◌⊎◌, inl, inr, ℕ, ◌<◌, Bool, true, false, cond, nat_eq, List, [], ◌∷◌, Option, Some, None}
 use Rattle.std.proofs.Common.{length, refl, sym, ap, subst, ◌∙◌, arith}
-use Rattle.std.specs.Prelude.{Result, Ok, Err, IfNone, IfSome, OnOk, OnErr, slice_index}
+use Rattle.std.specs.Prelude.{Result, Ok, Err, IfNone, IfSome, OnOk, OnErr, slice_index, slice_set}
 use Rattle.std.specs.Cmp.Lexicographic.{pointwise}
 use Rattle.std.proofs.lemmas.Bool.Decides.{Decides-eqb}
 use Rattle.std.proofs.lemmas.Slice.Eq.{slice_eq-Decides}
@@ -15,7 +15,6 @@ use Rattle.local_reduction.specs.Exchanging.{AskNot}
 use Rattle.local_reduction.specs.LocalStates.{LocalState, behind, alone, IsSettled}
 use Rattle.local_reduction.specs.Forgetting.{kept_by}
 use Rattle.state_search.specs.Placed.{Placed, IsSame, HasRetired, HasGone, IsStill, IsQuiet}
-use Rattle.state_search.specs.Words.{IsWritten}
 use Rattle.state_search.specs.StateTables.{TableLists, placed_at, words_at, HasGrown, IsBehind}
 use Rattle.state_search.specs.TransitionCache.{Remembered, nothing, answer_to, IsForgotten, IsNoted, KnowsLocalStates, KnowsLists}
 
@@ -53,8 +52,7 @@ lists_kept t u m kept h number word value written fact =
     let k = h number word value written fact in (
       omega (arith, k.0, kept.words),
       omega (arith, k.1, kept.words),
-      subst (λ (xs : List ℕ). IsWritten xs word value (words_at u written)) (sym (kept.same_words number k.0))
-          (subst (IsWritten (words_at t number) word value) (sym (kept.same_words written k.1)) k.2),
+      kept.same_words written k.1 ∙ (k.2 ∙ ap (λ xs. slice_set xs word value) (sym (kept.same_words number k.0))),
     )
 
 -- What is remembered of references is right after a right answer is noted.
@@ -79,11 +77,11 @@ local_states_remembered quietly code t m n number word before behind h noted the
 -- What is remembered of written lists is right after a right answer is noted.
 pub lists_noted : (t : TableLists) (m n : Remembered) (number word value written : ℕ) → KnowsLists t m →
     IsNoted m (number ∷ word ∷ value ∷ []) written n → number < length t.words → written < length t.words →
-    IsWritten (words_at t number) word value (words_at t written) → KnowsLists t n
+    words_at t written ≡ slice_set (words_at t number) word value → KnowsLists t n
 lists_noted t m n number word value written h noted there gives is i w v j fact = at (noted (i ∷ w ∷ v ∷ []) j fact)
   where
     at : (answer_to m (i ∷ w ∷ v ∷ []) ≡ Some j) ⊎ (((i ∷ w ∷ v ∷ []) ≡ (number ∷ word ∷ value ∷ [])) × (j ≡ written)) →
-        (i < length t.words) × (j < length t.words) × IsWritten (words_at t i) w v (words_at t j)
+        (i < length t.words) × (j < length t.words) × (words_at t j ≡ slice_set (words_at t i) w v)
     at (inl old) = h i w v j old
     at (inr new) =
         let first : number ≡ i = sym (ap (λ q. slice_index q 0) new.0) in
@@ -91,10 +89,7 @@ lists_noted t m n number word value written h noted there gives is i w v j fact 
         let third : value ≡ v = sym (ap (λ q. slice_index q 2) new.0) in (
           subst (λ k. k < length t.words) first there,
           subst (λ k. k < length t.words) (sym new.1) gives,
-          subst (λ k. IsWritten (words_at t i) w v (words_at t k)) (sym new.1)
-              (subst (λ x. IsWritten (words_at t i) w x (words_at t written)) third
-              (subst (λ x. IsWritten (words_at t i) x value (words_at t written)) second
-              (subst (λ k. IsWritten (words_at t k) word value (words_at t written)) first is))),
+          ap (words_at t) new.1 ∙ (is ∙ (λ d. slice_set (words_at t (first d)) (second d) (third d))),
         )
 
 -- what an insertion leaves, or a failed one that changes nothing
@@ -158,7 +153,7 @@ knows_no_lists t number word value written fact = absurd cc
 
 -- ---- what stands after a reference
 
--- A station that a reference, and turns alone, make of another is after it.
+-- A local state that a reference, and turns alone, make of another is after it.
 pub behind_is : (quietly : Bool) (code : List ℕ) (before : ℕ) (old mid new : Placed) (t : TableLists) (number : ℕ) → HasRetired code before old mid →
     HasGone quietly code mid new → IsStill code new → IsQuiet quietly code new → number < length t.local_states → IsSame t.live (placed_at t number) new →
     IsBehind quietly code before old t number

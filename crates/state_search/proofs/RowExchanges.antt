@@ -1,7 +1,6 @@
 -- Rows with their processors exchanged mean states with their processors exchanged.
-use Rattle.std.proofs.Common.{◌≡◌, ◌⊎◌, inl, inr, ℕ, ◌<◌, ◌≤◌, Bool, true, false, cond, List, Some, None, length, map, refl, sym, ap, subst, ◌∙◌, arith}
+use Rattle.std.proofs.Common.{◌≡◌, ◌⊎◌, inl, inr, ℕ, ◌<◌, ◌≤◌, Bool, true, false, cond, List, Some, None, length, refl, sym, ap, subst, ◌∙◌, arith}
 use Rattle.std.specs.Prelude.{slice_get, slice_index}
-use Rattle.std.specs.List.{range_with_len}
 use Rattle.local_reduction.specs.Closing.{MacroState}
 use Rattle.std.proofs.lemmas.Bool.{cases_lt}
 use Rattle.std.proofs.lemmas.Option.{slice_get_past}
@@ -46,14 +45,14 @@ module _ (e : Extent) (classes : List ℕ) (t : TableLists) (old new : List ℕ)
     own = λ p few.
         ap (λ i. (placed_at t i).setting) (number_is p few) ∙ (h.own (x.exchange.place p) (place_there p few) ∙ own_same p few);
     words = subst (λ i. i < length t.words) (sym words_same) h.words;
-    short = λ i far. ap (λ n. slice_index (words_at t n) i) words_same ∙ h.short i far;
+    all = ap (λ n. length (words_at t n)) words_same ∙ h.all;
     rest = λ k more. x.others k (omega (arith, are.all, more)) ∙ h.rest k more;
   }
 
   -- and it means the state with its processors exchanged.
   pub ordered_means : IsExchanged x.exchange.place (means e t old) (means e t new)
   ordered_means = record {
-    shared = ap (λ i. map (slice_index (words_at t i)) (range_with_len 0 e.shared_words)) words_same;
+    shared = ap (words_at t) words_same;
     each = λ k. by k (cases_lt k e.processors);
   }
     where

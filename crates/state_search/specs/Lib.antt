@@ -1,6 +1,7 @@
 pub mod Placed
-pub mod Words
 pub mod Saved
+pub mod SparseWords
+pub mod SparseWordLaws
 pub mod Keys
 pub mod KeyLaws
 pub mod StateTables

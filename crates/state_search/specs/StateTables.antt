@@ -1,4 +1,4 @@
--- Tables of stations and of lists of words, and what rows of their numbers mean.
+-- Tables of local states and of lists of words, and what rows of their numbers mean.
 use Rattle.std.specs.Prelude.{◌≡◌, ℕ, ◌<◌, ◌≤◌, Bool, true, if◌then◌else◌, List, [], Some, length, map, slice_index}
 use Rattle.std.specs.Prelude.{slice_index_or}
 use Rattle.std.specs.List.{range_with_len}
@@ -14,15 +14,14 @@ use Rattle.local_reduction.specs.Exchanging.{AskNot, NeverAsks}
 use Rattle.local_reduction.specs.Forgetting.{kept_by}
 use Rattle.state_search.specs.declared.state_tables.Extent.{Extent}
 use Rattle.state_search.specs.Placed.{Placed, IsBare}
-use Rattle.state_search.specs.Words.{IsTrimmed}
 
--- Beside them which registers are live at each word of code: what the others hold is not kept of a station.
+-- Beside them which registers are live at each word of code: what the others hold is not kept of a local state.
 pub record TableLists : Type 0 where
   pub live : List (List Bool)
   pub local_states : List Placed
   pub words : List (List ℕ)
 
--- what is read where no station is
+-- what is read where no local state is
 abbrev pub nowhere : Placed
 nowhere = record {
   setting = record { number = 0; processors = 0; shared_words = 0 };
@@ -35,19 +34,16 @@ placed_at t i = slice_index_or t.local_states i nowhere
 abbrev pub words_at : TableLists → (number : ℕ) → List ℕ
 words_at t i = slice_index_or t.words i []
 
--- Each station has 0 in the registers that are not live, and no list of words has a zero at the end.
+-- Each local state has 0 in the registers that are not live.
 abbrev pub AreLeast : TableLists → Type 0
-AreLeast t =
-    ((i : ℕ) → i < length t.local_states → IsBare t.live (placed_at t i))
-    × ((i : ℕ) → i < length t.words → IsTrimmed (words_at t i))
+AreLeast t = (i : ℕ) → i < length t.local_states → IsBare t.live (placed_at t i)
 
--- No two stations of one processor are kept the same, and no two lists have the same words.
+-- No two local states of one processor are kept the same, and no two lists have the same words.
 pub record AreDifferent (t : TableLists) : Type 0 where
   pub local_states : (i j : ℕ) → i < length t.local_states → j < length t.local_states →
       (placed_at t i).setting ≡ (placed_at t j).setting →
       kept_by t.live (placed_at t i).local_state ≡ kept_by t.live (placed_at t j).local_state → i ≡ j
-  pub words : (i j : ℕ) → i < length t.words → j < length t.words →
-      ((k : ℕ) → slice_index (words_at t i) k ≡ slice_index (words_at t j) k) → i ≡ j
+  pub words : (i j : ℕ) → i < length t.words → j < length t.words → words_at t i ≡ words_at t j → i ≡ j
 
 -- ---- tables that grow
 
@@ -65,7 +61,7 @@ pub record HasGrown (old new : TableLists) : Type 0 where
 abbrev pub setting_at : Extent → ℕ → Setting
 setting_at e p = record { number = p; processors = e.processors; shared_words = e.shared_words }
 
--- what its stations say that it knows: where processors are exchanged, all have the number 0
+-- what its local states say that it knows: where processors are exchanged, all have the number 0
 abbrev pub own_setting : Extent → ℕ → Setting
 own_setting e p = setting_at e (if e.exchanged then 0 else p)
 
@@ -74,20 +70,20 @@ abbrev pub means : Extent → TableLists → (row : List ℕ) → MacroState
 means e t row = record {
   local_states = map (λ p. kept_by t.live (placed_at t (slice_index row p)).local_state)
       (range_with_len 0 e.processors);
-  shared = map (slice_index (words_at t (slice_index row e.processors))) (range_with_len 0 e.shared_words);
+  shared = words_at t (slice_index row e.processors);
 }
 
--- The row has numbers of the tables, of each processor one of its own stations, and zeros after them. The words past
--- the last that the machine has are zero.
+-- The row has numbers of the tables, of each processor one of its own local states and of the words a list of all that
+-- the machine has, and zeros after them.
 pub record IsRow (e : Extent) (t : TableLists) (row : List ℕ) : Type 0 where
   pub there : (p : ℕ) → p < e.processors → slice_index row p < length t.local_states
   pub own : (p : ℕ) → p < e.processors → (placed_at t (slice_index row p)).setting ≡ own_setting e p
   pub words : slice_index row e.processors < length t.words
-  pub short : (i : ℕ) → e.shared_words ≤ i → slice_index (words_at t (slice_index row e.processors)) i ≡ 0
+  pub all : length (words_at t (slice_index row e.processors)) ≡ e.shared_words
   pub rest : (k : ℕ) → e.processors < k → slice_index row k ≡ 0
 
--- The tables have under a number what a station becomes by a reference to a word that had this value before, and some
--- turns alone after it.
+-- The tables have under a number what a local state becomes by a reference to a word that had this value before, and
+-- some turns alone after it.
 pub record IsBehind (quietly : Bool) (code : List ℕ) (before : ℕ) (old : Placed) (t : TableLists)
     (number : ℕ) : Type 0 where
   pub there : number < length t.local_states

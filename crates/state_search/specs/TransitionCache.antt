@@ -1,9 +1,8 @@
 -- What is remembered of moves, and that it is right.
-use Rattle.std.specs.Prelude.{◌≡◌, ◌⊎◌, Bool, ℕ, ◌<◌, List, [], ◌∷◌, Option, Some, length, nat_eq}
+use Rattle.std.specs.Prelude.{◌≡◌, ◌⊎◌, Bool, ℕ, ◌<◌, List, [], ◌∷◌, Option, Some, length, nat_eq, slice_set}
 use Rattle.std.specs.Cmp.Lexicographic.{pointwise}
 use Rattle.std.specs.Map.{lookup}
 use Rattle.state_search.specs.StateTables.{TableLists, placed_at, words_at, IsBehind}
-use Rattle.state_search.specs.Words.{IsWritten}
 
 -- questions, each a list of numbers, with their answers
 pub record Remembered : Type 0 where
@@ -25,7 +24,8 @@ IsNoted old question answer new =
 abbrev pub IsForgotten : (old new : Remembered) → Type 0
 IsForgotten old new = (q : List ℕ) (a : ℕ) → answer_to new q ≡ Some a → answer_to old q ≡ Some a
 
--- A reference of a station of the tables, to a word that had a value before, leads to the station that is remembered.
+-- A reference of a local state of the tables, to a word that had a value before, leads to the local state that is
+-- remembered.
 abbrev pub KnowsLocalStates : (quietly : Bool) → (code : List ℕ) → TableLists → Remembered → Type 0
 KnowsLocalStates quietly code t m =
     (number word before behind : ℕ) → answer_to m (number ∷ word ∷ before ∷ []) ≡ Some behind →
@@ -36,4 +36,4 @@ abbrev pub KnowsLists : TableLists → Remembered → Type 0
 KnowsLists t m =
     (number word value written : ℕ) → answer_to m (number ∷ word ∷ value ∷ []) ≡ Some written →
     (number < length t.words) × (written < length t.words)
-    × IsWritten (words_at t number) word value (words_at t written)
+    × (words_at t written ≡ slice_set (words_at t number) word value)

@@ -1,6 +1,6 @@
 //! Moves: a reference of one processor, and what it does alone after it.
 
-ghost use Rattle.std.specs.Prelude.{◌≡◌, ◌<◌, ◌≤◌, true, length, IfOk, OnOk};
+ghost use Rattle.std.specs.Prelude.{◌≡◌, ◌<◌, ◌≤◌, true, length, slice_set, IfOk, OnOk};
 ghost use Rattle.flat_machine.specs.State.{is_running};
 ghost use Rattle.flat_machine.specs.Turns.{turn_of};
 ghost use Rattle.hart.specs.Deciding.{IsReference};
@@ -8,12 +8,10 @@ ghost use Rattle.local_reduction.specs.Live.{HasAllLive};
 ghost use Rattle.state_search.specs.TransitionCache.{KnowsLists, KnowsLocalStates};
 ghost use Rattle.state_search.specs.Search.{AreClasses, IsNext};
 ghost use Rattle.state_search.specs.StateTables.{IsBehind, HasGrown, IsRow, means, placed_at, words_at};
-ghost use Rattle.state_search.specs.Words.{IsWritten};
 
 use crate::refusal::MoveRefusal;
 use crate::state_tables::{Extent, StateTables, StateVector};
 use crate::transition_cache::{TransitionCache, TransitionCaches};
-use crate::words::{with_word, word_of};
 use hart::Decision;
 use local_memory::Code;
 use local_reduction::{
@@ -65,7 +63,7 @@ impl StateTables {
             return Ok(None);
         };
         let list = row[words_place];
-        let before = word_of(self.words(list).as_slice(), word);
+        let before = self.words(list).get(word);
         let after = self.moved(
             &mut transition_caches.local_states,
             code,
@@ -143,12 +141,13 @@ impl StateTables {
         value: u32,
     ) -> Result<u32, MoveRefusal>
         requires there { number < length self.old.words }
+        requires word { word < length (words_at self.old number) }
         requires known { KnowsLists self.old transition_cache.old }
         ensures kept { OnOk result (HasGrown self.old self.new) }
         ensures known { OnOk result (KnowsLists self.new transition_cache.new) }
         ensures there { IfOk result (λ written. written < length self.new.words) }
         ensures written { IfOk result (λ written.
-            IsWritten (words_at self.old number) word value (words_at self.new written)) }
+            words_at self.new written ≡ slice_set (words_at self.old number) word value) }
     {
         if let Some(written) = transition_cache.get([number, word, value]) {
             return Ok(written);
@@ -160,13 +159,14 @@ impl StateTables {
 
     /// Writes the word, and gives the number of the list that has it.
     fn written(&mut self, number: u32, word: u32, value: u32) -> Result<u32, MoveRefusal>
-        requires { number < length self.old.words }
+        requires there { number < length self.old.words }
+        requires word { word < length (words_at self.old number) }
         ensures kept { OnOk result (HasGrown self.old self.new) }
         ensures there { IfOk result (λ written. written < length self.new.words) }
         ensures written { IfOk result (λ written.
-            IsWritten (words_at self.old number) word value (words_at self.new written)) }
+            words_at self.new written ≡ slice_set (words_at self.old number) word value) }
     {
-        let Ok(list) = with_word(self.words(number), word, value) else {
+        let Ok(list) = self.words(number).with_word(word, value) else {
             return Err(MoveRefusal::Memory);
         };
         self.words_number(list)

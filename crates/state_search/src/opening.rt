@@ -4,13 +4,12 @@ ghost use Rattle.std.specs.Prelude.{◌≡◌, ◌<◌, ◌≤◌, [], length, I
 ghost use Rattle.local_reduction.specs.Closing.{ReachesMacroState};
 ghost use Rattle.local_reduction.specs.Forgetting.{kept_by};
 ghost use Rattle.state_search.specs.Opening.{AreOfExtent, IsOpened, flat_of};
-ghost use Rattle.state_search.specs.StateTables.{HasGrown, IsRow, means, setting_at, words_at};
-ghost use Rattle.state_search.specs.Words.{HasSameWords};
+ghost use Rattle.state_search.specs.StateTables.{HasGrown, IsRow, means, setting_at};
 
 use crate::local_state::LocalState;
 use crate::refusal::MoveRefusal;
+use crate::sparse_words::SparseWords;
 use crate::state_tables::{Extent, StateTables, StateVector};
-use crate::words::trim;
 use hart::Core;
 use local_memory::Code;
 use std::alloc::Global;
@@ -28,24 +27,24 @@ impl StateTables {
         code: &Code,
         extent: Extent,
         cores: &[Core],
-        words: Vec<u32>,
+        words: SparseWords,
     ) -> Result<StateVector<N>, MoveRefusal>
         requires cores { AreOfExtent extent cores.now }
         requires room { extent.processors < N }
         requires narrow { N ≤ 65 }
-        requires words { length words.items ≡ extent.shared_words }
+        requires words { length words ≡ extent.shared_words }
         ensures kept { OnOk result (HasGrown self.old self.new) }
         ensures row { IfOk result (IsRow extent self.new) }
         ensures settles { IfOk result (λ row.
             ReachesMacroState (setting_at extent) code.now (kept_by self.new.live)
-            (flat_of code.now cores.now words.items) (λ k. [])
+            (flat_of code.now cores.now words) (λ k. [])
             (means extent self.new row)) }
     {
         let mut row = [0; N];
         for (p, core) in cores.iter().enumerate() {
             row[p] = self.opened(alloc, code, extent.exchanged, core)?;
         }
-        row[usize::from(extent.processors)] = self.trimmed_number(words)?;
+        row[usize::from(extent.processors)] = self.words_number(words)?;
         Ok(row)
     }
 
@@ -68,16 +67,5 @@ impl StateTables {
             local_state.set_number(0);
         }
         self.local_state_number(local_state)
-    }
-
-    /// The number of a list of words, of which those at the end that are zero are left out.
-    fn trimmed_number(&mut self, words: Vec<u32>) -> Result<u32, MoveRefusal>
-        ensures kept { OnOk result (HasGrown self.old self.new) }
-        ensures there { IfOk result (λ number. number < length self.new.words) }
-        ensures same { IfOk result (λ number. HasSameWords words.items (words_at self.new number)) }
-    {
-        let mut words = words;
-        trim(&mut words);
-        self.words_number(words)
     }
 }

@@ -3,11 +3,11 @@
 ghost use Rattle.std.specs.Prelude.{◌≡◌, ◌<◌, [], length, IfOk, OnOk};
 ghost use Rattle.state_search.specs.Placed.{IsSame};
 ghost use Rattle.state_search.specs.StateTables.{AreDifferent, HasGrown, placed_at, words_at};
-ghost use Rattle.state_search.specs.Words.{IsTrimmed};
 
 use crate::local_state::LocalState;
 use crate::refusal::MoveRefusal;
 use crate::saved::SavedLocalState;
+use crate::sparse_words::SparseWords;
 use indexmap::IndexSet;
 use local_reduction::LiveTable;
 use std::alloc::Global;
@@ -33,11 +33,10 @@ pub type StateVector<const N: usize> = [u32; N];
 pub struct StateTables {
     live: LiveTable,
     local_states: IndexSet<SavedLocalState>,
-    words: IndexSet<Vec<u32>>,
+    words: IndexSet<SparseWords>,
 }
 
 impl Model for StateTables {
-    ghost use Rattle.std.specs.Prelude.{map};
     ghost use Rattle.state_search.specs.StateTables.{AreLeast, TableLists};
 
     ghost Value = { TableLists };
@@ -45,13 +44,13 @@ impl Model for StateTables {
     ghost view = { λ t. record {
       live = t.live;
       local_states = t.local_states.keys;
-      words = map (λ list. list.items) t.words.keys;
+      words = t.words.keys;
     } };
 
     ghost invariant = { λ t. AreLeast (record {
       live = t.live;
       local_states = t.local_states.keys;
-      words = map (λ list. list.items) t.words.keys;
+      words = t.words.keys;
     }) };
 }
 
@@ -78,10 +77,10 @@ impl StateTables {
         }
     }
 
-    /// The list of words of a number. Those past its end are zero.
-    pub fn words(&self, number: u32) -> &Vec<u32>
+    /// The list of words of a number.
+    pub fn words(&self, number: u32) -> &SparseWords
         requires { number < length self.now.words }
-        ensures { result.now.items ≡ words_at self.now number }
+        ensures { result.now ≡ words_at self.now number }
     {
         match self.words.get_index(number as usize) {
             Some(words) => words,
@@ -117,11 +116,10 @@ impl StateTables {
     /// # Errors
     ///
     /// [`MoveRefusal::Memory`].
-    pub fn words_number(&mut self, words: Vec<u32>) -> Result<u32, MoveRefusal>
-        requires trimmed { IsTrimmed words.items }
+    pub fn words_number(&mut self, words: SparseWords) -> Result<u32, MoveRefusal>
         ensures kept { OnOk result (HasGrown self.old self.new) }
         ensures there { IfOk result (λ number. number < length self.new.words) }
-        ensures same { IfOk result (λ number. words_at self.new number ≡ words.items) }
+        ensures same { IfOk result (λ number. words_at self.new number ≡ words) }
     {
         let Ok((number, _)) = self.words.insert_full(words) else {
             return Err(MoveRefusal::Memory);

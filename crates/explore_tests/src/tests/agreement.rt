@@ -63,7 +63,7 @@ fn count(last: &FinalResult, classes: &[u8], class: u8, shown: &ProcessorResult)
 
 /// Whether one result stands for the other: in both the words are the same, and each class shows the same in any order.
 fn stands_for(one: &FinalResult, other: &FinalResult, classes: &[u8]) -> bool {
-    if one.words.as_slice() != other.words.as_slice() {
+    if one.words != other.words {
         return false;
     }
     for (processor, class) in one.processors.iter().zip(classes) {

@@ -5,7 +5,7 @@ use super::texts::{
     SECOND_ASKS, SEEN, SUM, TICKETS, TOO_LONG_STRETCH,
 };
 use super::{each, exchanged, explored, found, reported};
-use exploration::{Refusal, Search};
+use exploration::{NonzeroWord, Refusal, Search};
 use std::alloc::Global;
 use std::test::Fail;
 use test_support::assert_same;
@@ -86,14 +86,14 @@ fn results_are_told(rt: HostRuntime) -> Result<(), Fail> {
             SUM,
             1,
             "1000c Halted(0) []\n1000c Halted(0) []\n",
-            [2].as_slice(),
+            [NonzeroWord { place: 0, value: 2 }].as_slice(),
         ),
     ] {
         let found = found(rt.alloc(), text, k, each(100))?;
         for last in found.results.iter() {
             assert_same!(rt; reported(rt.alloc(), last)?.as_str(), lines);
-            assert_same!(rt; last.words.as_slice(), words);
-            assert_same!(rt; last.shared_words, 16);
+            assert_same!(rt; last.words.len(), 16);
+            assert_same!(rt; last.words.nonzero(), words);
         }
     }
     Ok(())

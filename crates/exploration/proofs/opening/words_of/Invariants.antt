@@ -4,4 +4,4 @@ use Rattle.machine_steps.specs.machine_theory.Processors.{word_at}
 use Rattle.exploration.proofs.opening.words_of.Given as goal
 
 abbrev pub invariant-loop-number : goal.invariant-loop-number
-invariant-loop-number l = l.words.items ≡ map (word_at l.machine.config.k l.machine.modules) (range_with_len 0 l.number)
+invariant-loop-number l = l.words ≡ map (word_at l.machine.config.k l.machine.modules) (range_with_len 0 l.number)

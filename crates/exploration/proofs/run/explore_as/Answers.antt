@@ -23,8 +23,8 @@ pub returns : goal.returns
 returns g c =
     let m = c.args.machine.now in
     let seen = are_read c.machine_is_well_formed.ensures c.extent_of-extent.ensures (c.as_slice-all.ensures.value ∙ c.in-Ok.ensures) c.in-Ok-words_of.ensures in
-    let flat : flat_of c.deref-code.result.now c.as_slice-all.result.now c.in-Ok-words_of.words.items ≡ flat_state m =
-    ap (λ k. flat_of k c.as_slice-all.result.now c.in-Ok-words_of.words.items) (c.deref-code.ensures ∙ c.code.ensures) ∙ flat_is seen in
+    let flat : flat_of c.deref-code.result.now c.as_slice-all.result.now c.in-Ok-words_of.words ≡ flat_state m =
+    ap (λ k. flat_of k c.as_slice-all.result.now c.in-Ok-words_of.words) (c.deref-code.ensures ∙ c.code.ensures) ∙ flat_is seen in
     let law : (r : FinalResult) → IsMachineResult m r ↔ IsFlatResult (flat_state m) r =
     λ r. c.results_are_those_of_the_flat_machine.ensures.results m r c.machine_is_well_formed.ensures c.requires.idle in
     let found = c.in_ok-explored.explored in
@@ -47,8 +47,8 @@ pub returns-in_err-explored-clause-given_up : goal.returns-in_err-explored-claus
 returns-in_err-explored-clause-given_up g c =
     let m = c.args.machine.now in
     let seen = are_read c.machine_is_well_formed.ensures c.extent_of-extent.ensures (c.as_slice-all.ensures.value ∙ c.in-Ok.ensures) c.in-Ok-words_of.ensures in
-    let flat : flat_of c.deref-code.result.now c.as_slice-all.result.now c.in-Ok-words_of.words.items ≡ flat_state m =
-    ap (λ k. flat_of k c.as_slice-all.result.now c.in-Ok-words_of.words.items) (c.deref-code.ensures ∙ c.code.ensures) ∙ flat_is seen in
+    let flat : flat_of c.deref-code.result.now c.as_slice-all.result.now c.in-Ok-words_of.words ≡ flat_state m =
+    ap (λ k. flat_of k c.as_slice-all.result.now c.in-Ok-words_of.words) (c.deref-code.ensures ∙ c.code.ensures) ∙ flat_is seen in
     let p = err_from_is_err_and c.from_residual.result c.from_residual.ensures.1 in
     rw (p.1, p.2)
     (given_up_on _ _ (subst (λ (n : FlatState). HasManyStates n c.args.wish.limit) flat) _ c.in_err-explored.ensures.given_up)

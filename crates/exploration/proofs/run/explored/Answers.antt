@@ -52,7 +52,7 @@ returns-clause-sound g c =
     let code = c.args.code.now in
     let t = c.search.new.state_tables in
     let first = means e c.open.new.self c.in_ok-first.first in
-    let m = flat_of code c.args.cores.now c.args.words.items in
+    let m = flat_of code c.args.cores.now c.args.words in
     let settles = subst (λ live. ReachesMacroState (setting_at e) code (kept_by live) m (λ k. []) first)
     (sym c.in_ok-found.ensures.kept.live) c.in_ok-first.ensures.settles in
     let is : t.live ≡ c.in-Ok.live =
@@ -72,7 +72,7 @@ returns-clause-complete g c =
     let code = c.args.code.now in
     let t = c.search.new.state_tables in
     let first = means e c.open.new.self c.in_ok-first.first in
-    let m = flat_of code c.args.cores.now c.args.words.items in
+    let m = flat_of code c.args.cores.now c.args.words in
     let settles = subst (λ live. ReachesMacroState (setting_at e) code (kept_by live) m (λ k. []) first)
     (sym c.in_ok-found.ensures.kept.live) c.in_ok-first.ensures.settles in
     let is : t.live ≡ c.in-Ok.live =
@@ -95,7 +95,7 @@ returns-clause-termination g c =
     let code = c.args.code.now in
     let t = c.search.new.state_tables in
     let first = means e c.open.new.self c.in_ok-first.first in
-    let m = flat_of code c.args.cores.now c.args.words.items in
+    let m = flat_of code c.args.cores.now c.args.words in
     let settles = subst (λ live. ReachesMacroState (setting_at e) code (kept_by live) m (λ k. []) first)
     (sym c.in_ok-found.ensures.kept.live) c.in_ok-first.ensures.settles in
     let is : t.live ≡ c.in-Ok.live =
@@ -112,7 +112,7 @@ returns-clause-states g c =
     let code = c.args.code.now in
     let t = c.search.new.state_tables in
     let first = means e c.open.new.self c.in_ok-first.first in
-    let m = flat_of code c.args.cores.now c.args.words.items in
+    let m = flat_of code c.args.cores.now c.args.words in
     let settles = subst (λ live. ReachesMacroState (setting_at e) code (kept_by live) m (λ k. []) first)
     (sym c.in_ok-found.ensures.kept.live) c.in_ok-first.ensures.settles in
     let is : t.live ≡ c.in-Ok.live =
@@ -144,7 +144,7 @@ returns-in_err-found-clause-given_up g c =
     let code = c.args.code.now in
     let t = c.search.new.state_tables in
     let first = means e c.open.new.self c.in_ok-first.first in
-    let m = flat_of code c.args.cores.now c.args.words.items in
+    let m = flat_of code c.args.cores.now c.args.words in
     let p = err_from_is_err_and c.from_residual-in_err-found.result c.from_residual-in_err-found.ensures.1 in
     rw (p.1, p.2)
     (given_up_on _ (HasManyStates m c.args.wish.limit)

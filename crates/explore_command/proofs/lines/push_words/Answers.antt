@@ -1,11 +1,22 @@
-use Rattle.std.proofs.Common.{◌++◌, List, ℕ, ap, ◌∙◌}
+use Rattle.std.proofs.Common.{◌++◌, List, ℕ, length, ap, ◌∙◌, arith}
 use Rattle.std.specs.Prelude.{string_bytes}
+use Rattle.exploration.specs.local_reduction.Results.{FinalResult}
+use Rattle.exploration.specs.state_search.declared.sparse_words.NonzeroWord.{NonzeroWord}
 use Rattle.explore_command.specs.Lines.{shared_lines}
-use Rattle.explore_command.proofs.Words.{lines_are}
+use Rattle.explore_command.proofs.Words.{lines_are, lines_more, no_lines, nonzero_lines}
 use Rattle.explore_command.proofs.lines.push_words.Goals as goal
+
+pub loop-word-preserved : goal.loop-word-preserved
+loop-word-preserved c =
+    lines_more c.nonzero-word-items.result.now c.loop-word.word-index (record { place = 0; value = 0 }) (string_bytes c.loop-word.text)
+    (string_bytes c.push_shared_word.new.text) (string_bytes c.args.text.now ++ nonzero_lines c.nonzero-word-items.result.now) (omega arith)
+    c.in_ok-push_shared_word.ensures c.loop-word.invariant
 
 pub returns : goal.returns
 returns c =
-    c.in_ok-push_first_words.ensures
-    ∙ (ap (λ (words : List ℕ). string_bytes c.args.text.now ++ shared_lines words c.last.inside.shared_words) c.as_slice.ensures.value
-    ∙ ap (λ (lines : List ℕ). string_bytes c.args.text.now ++ lines) (lines_are _ _ c.args.last.now _ c.last.view_is))
+    let words = c.nonzero-word-items.result.now in
+    no_lines words c.loop-word.word-index (string_bytes c.loop-word.text) (string_bytes c.args.text.now ++ nonzero_lines words)
+    c.loop-word-test.false c.loop-word.invariant
+    ∙ (ap (λ (ws : List NonzeroWord). string_bytes c.args.text.now ++ nonzero_lines ws) c.nonzero-word-items.ensures
+    ∙ (ap (λ (lines : List ℕ). string_bytes c.args.text.now ++ lines) (lines_are c.last.inside.words)
+    ∙ ap (λ (r : FinalResult). string_bytes c.args.text.now ++ shared_lines r.words (length r.words)) c.last.view_is))

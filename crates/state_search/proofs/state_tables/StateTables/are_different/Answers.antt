@@ -1,7 +1,6 @@
 use Rattle.std.proofs.Common.{subst}
-use Rattle.std.specs.Prelude.{map}
 use Rattle.state_search.specs.StateTables.{AreDifferent}
-use Rattle.state_search.proofs.Differing.{are_different, mapped_words}
+use Rattle.state_search.proofs.Differing.{are_different}
 use Rattle.state_search.proofs.state_tables.StateTables.are_different.Goals as goal
 
 pub returns : goal.returns
@@ -10,6 +9,5 @@ returns c =
     (are_different (record {
       live = c.self.inside.live;
       local_states = c.self.inside.local_states.keys;
-      words = map (λ list. list.items) c.self.inside.words.keys;
-    }) c.self.invariant c.len.ensures.unique
-    (mapped_words (λ list. list.items) c.self.inside.words.keys c.len-2.ensures.unique))
+      words = c.self.inside.words.keys;
+    }) c.self.invariant c.len.ensures.unique c.len-2.ensures.unique)

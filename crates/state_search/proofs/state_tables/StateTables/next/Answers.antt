@@ -6,7 +6,6 @@ use Rattle.hart.specs.declared.decision.Decision.TheVariants.{Refer}
 use Rattle.hart.specs.Deciding.{Decides}
 use Rattle.state_search.specs.Placed.{Placed}
 use Rattle.state_search.specs.StateTables.{placed_at, setting_at, words_at, IsBehind}
-use Rattle.state_search.specs.Words.{IsWritten}
 use Rattle.state_search.proofs.Growing.{kept_all}
 use Rattle.state_search.proofs.Moving.{IsReferred, looked, referred, undecided, stopped_has_none, local_has_none}
 use Rattle.state_search.proofs.Remembering.{local_states_kept, lists_kept}
@@ -39,14 +38,14 @@ pub returns-clause-next : goal.returns-clause-next
 returns-clause-next g c =
     let is : c.local_state-local_state.result.now ≡ placed_at c.args.self.now (slice_index c.args.row c.args.p) =
     c.local_state-local_state.ensures ∙ ap (λ i. placed_at c.args.self.now (slice_index c.args.row i)) c.from-place.ensures in
-    let refers = referred c.in-Refer.word c.word_of-before.result c.in-Refer.phi c.in-Refer.shape
+    let refers = referred c.in-Refer.word c.get-before.result c.in-Refer.phi c.in-Refer.shape
     (turn_of (placed_at c.args.self.now (slice_index c.args.row c.args.p)).setting c.args.code.now
-    (placed_at c.args.self.now (slice_index c.args.row c.args.p)).local_state.processor) c.word_of-before.ensures.small
+    (placed_at c.args.self.now (slice_index c.args.row c.args.p)).local_state.processor) c.get-before.ensures.small
     (subst (λ (a : Placed). Decides (Refer c.in-Refer.word c.in-Refer.phi c.in-Refer.shape) (turn_of a.setting c.args.code.now a.local_state.processor)) is
     c.in-Refer.ensures.turn) in
     looked c.args.extent c.args.code.now c.args.classes.now c.args.self.now c.moved.new.self c.rewritten.new.self c.args.row
     (slice_set (slice_set c.args.row c.from-place.result c.in_ok-after.after) c.from-words_place.result c.in_ok-written.written)
-    c.args.p c.in-Refer.word c.word_of-before.result
+    c.args.p c.in-Refer.word c.get-before.result
     c.apply.result c.in_ok-after.after c.in_ok-written.written
     (record {
       classes_are = c.requires.classes;
@@ -56,18 +55,18 @@ returns-clause-next g c =
       first_kept = c.in_ok-after.ensures.kept;
       then_kept = c.in_ok-written.ensures.kept;
       runs = ap (λ (a : Placed). is_running a.local_state.processor.status) (sym is) ∙ (sym c.is_running.ensures ∙ c.if-not-is_running.false);
-      refers = subst (λ v. IsReferred c.in-Refer.word c.word_of-before.result v
+      refers = subst (λ v. IsReferred c.in-Refer.word c.get-before.result v
           (turn_of (placed_at c.args.self.now (slice_index c.args.row c.args.p)).setting c.args.code.now
           (placed_at c.args.self.now (slice_index c.args.row c.args.p)).local_state.processor)) (sym c.apply.ensures) refers;
       named = subst (λ (a : Placed). c.in-Refer.word < a.setting.shared_words) is c.in-Refer.ensures.word;
       before_is = ap (λ i. slice_index (words_at c.args.self.now (slice_index c.args.row i)) c.in-Refer.word) (sym c.from-words_place.ensures)
-          ∙ (ap (λ xs. slice_index xs c.in-Refer.word) (sym c.words.ensures ∙ sym c.as_slice.ensures.value) ∙ sym c.word_of-before.ensures.word);
-      behind = subst (λ i. IsBehind c.args.extent.exchanged c.args.code.now c.word_of-before.result
+          ∙ (ap (λ xs. slice_index xs c.in-Refer.word) (sym c.words.ensures) ∙ sym c.get-before.ensures.word);
+      behind = subst (λ i. IsBehind c.args.extent.exchanged c.args.code.now c.get-before.result
           (placed_at c.args.self.now (slice_index c.args.row i)) c.moved.new.self
           c.in_ok-after.after) c.from-place.ensures c.in_ok-after.ensures.behind;
       written_there = c.in_ok-written.ensures.there;
-      written_is = subst (λ i. IsWritten (words_at c.moved.new.self (slice_index c.args.row i)) c.in-Refer.word c.apply.result
-          (words_at c.rewritten.new.self c.in_ok-written.written)) c.from-words_place.ensures c.in_ok-written.ensures.written;
+      written_is = c.in_ok-written.ensures.written
+          ∙ ap (λ i. slice_set (words_at c.moved.new.self (slice_index c.args.row i)) c.in-Refer.word c.apply.result) c.from-words_place.ensures;
       next_is = λ i. slice_set (slice_set c.args.row (c.from-place.ensures i) c.in_ok-after.after) (c.from-words_place.ensures i) c.in_ok-written.written;
     })
     c.moves_are_of_any.ensures.any c.moves_are_of_what_is_kept.ensures.made c.dead_registers_can_be_forgotten.ensures.forgotten c.requires.live

@@ -23,8 +23,8 @@ loop-p-preserved g c =
 pub returns-clause-row : goal.returns-clause-row
 returns-clause-row g c =
     let all : c.loop-p.p ≡ length c.args.cores.now = omega arith in
-    subst (λ i. IsRow c.args.extent c.trimmed_number.new.self (slice_set c.loop-p.row i c.in_ok-row-2.field-0)) (sym c.from.ensures)
-    (first_row c.args.extent c.args.code.now c.args.cores.now c.args.words.items c.loop-p.self c.trimmed_number.new.self c.loop-p.row c.in_ok-row-2.field-0
+    subst (λ i. IsRow c.args.extent c.words_number.new.self (slice_set c.loop-p.row i c.in_ok-row-2.field-0)) (sym c.from.ensures)
+    (first_row c.args.extent c.args.code.now c.args.cores.now c.args.words c.loop-p.self c.words_number.new.self c.loop-p.row c.in_ok-row-2.field-0
     c.requires.cores c.requires.words c.in_ok-row-2.ensures.kept
     (subst (AreOpened c.args.extent.exchanged c.args.code.now c.args.cores.now c.loop-p.self c.loop-p.row) all c.loop-p.invariant.opened)
     c.in_ok-row-2.ensures.there c.in_ok-row-2.ensures.same)
@@ -32,10 +32,10 @@ returns-clause-row g c =
 pub returns-clause-settles : goal.returns-clause-settles
 returns-clause-settles g c =
     let all : c.loop-p.p ≡ length c.args.cores.now = omega arith in
-    subst (λ i. ReachesMacroState (setting_at c.args.extent) c.args.code.now (kept_by c.trimmed_number.new.self.live)
-    (flat_of c.args.code.now c.args.cores.now c.args.words.items) (λ k. [])
-    (means c.args.extent c.trimmed_number.new.self (slice_set c.loop-p.row i c.in_ok-row-2.field-0))) (sym c.from.ensures)
-    (first_settles c.args.extent c.args.code.now c.args.cores.now c.args.words.items c.loop-p.self c.trimmed_number.new.self c.loop-p.row c.in_ok-row-2.field-0
+    subst (λ i. ReachesMacroState (setting_at c.args.extent) c.args.code.now (kept_by c.words_number.new.self.live)
+    (flat_of c.args.code.now c.args.cores.now c.args.words) (λ k. [])
+    (means c.args.extent c.words_number.new.self (slice_set c.loop-p.row i c.in_ok-row-2.field-0))) (sym c.from.ensures)
+    (first_settles c.args.extent c.args.code.now c.args.cores.now c.args.words c.loop-p.self c.words_number.new.self c.loop-p.row c.in_ok-row-2.field-0
     c.requires.cores c.requires.words c.in_ok-row-2.ensures.kept
     (subst (AreOpened c.args.extent.exchanged c.args.code.now c.args.cores.now c.loop-p.self c.loop-p.row) all c.loop-p.invariant.opened)
     c.in_ok-row-2.ensures.there c.in_ok-row-2.ensures.same)

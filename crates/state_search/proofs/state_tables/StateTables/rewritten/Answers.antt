@@ -1,6 +1,5 @@
-use Rattle.std.proofs.Common.{sym, subst, ◌∙◌, arith}
-use Rattle.state_search.specs.Words.{IsWritten}
-use Rattle.state_search.specs.StateTables.{words_at}
+use Rattle.std.proofs.Common.{sym, ap, ◌∙◌, arith}
+use Rattle.std.specs.Prelude.{slice_set}
 use Rattle.state_search.proofs.Remembering.{lists_kept, lists_noted}
 use Rattle.state_search.proofs.state_tables.StateTables.rewritten.Goals as goal
 
@@ -18,5 +17,4 @@ returns-clause-known c =
     lists_noted c.written.new.self c.args.transition_cache.now c.remember.new.self c.args.number c.args.word c.args.value c.in_ok-written.written
     (lists_kept c.args.self.now c.written.new.self c.args.transition_cache.now kept c.requires.known) c.remember.ensures
     (omega (arith, c.requires.there, kept.words)) c.in_ok-written.ensures.there
-    (subst (λ xs. IsWritten xs c.args.word c.args.value (words_at c.written.new.self c.in_ok-written.written))
-    (sym (kept.same_words c.args.number c.requires.there)) c.in_ok-written.ensures.written)
+    (c.in_ok-written.ensures.written ∙ ap (λ xs. slice_set xs c.args.word c.args.value) (sym (kept.same_words c.args.number c.requires.there)))
