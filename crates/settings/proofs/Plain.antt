@@ -17,26 +17,25 @@ use Rattle.clap.specs.declared.error.kind.ErrorKind.TheVariants.{OutOfMemory}
 use Rattle.settings.specs.declared.choice.Settings.{Settings}
 use Rattle.settings.specs.declared.choice.Settings.TheVariants as asked
 use Rattle.clap.proofs.OnLiterals.{clap_on_literals}
+use Rattle.settings.specs.declared.choice.Explain.{Explain}
 use Rattle.settings.specs.declared.choice.Replay.{Replay}
 use Rattle.settings.specs.Lines.{IsAsked, IsChosen, GivesAsm, GivesCheck, GivesDis, GivesExplain, GivesExplore}
 use Rattle.settings.specs.Lines.{GivesHunt, GivesOrder, GivesPicture, GivesReplay, GivesRun, GivesSession, GivesWords}
 use Rattle.settings.specs.Lines.{Named}
 use Rattle.command_forms.specs.Commands.{ultra_command}
-use Rattle.settings.specs.Plain.{AreAsmOf, AreCheckOf, AreDebugOf, AreDisOf, AreExplainOf, AreExploreOf, AreHuntOf}
-use Rattle.settings.specs.Plain.{AreOrderOf, ArePictureOf, AreReplayOf, AreRunOf, AreStatsOf, AreStoryOf, AreWordsOf}
-use Rattle.settings.specs.Plain.{IsPlain, IsReplayOf, NameExplainOf, NamesFile, NamesFiles}
+use Rattle.settings.specs.Plain.{HasCode, HasFile, HasFiles, HasTrace, IsNoOption, IsPlain}
 use Rattle.command_forms.proofs.Lemmas.{commands}
 
-no_hyphen : (file : Text) → IsPlain file → strip_byte 45 file ≡ None
+no_hyphen : (file : Text) → IsNoOption file → strip_byte 45 file ≡ None
 no_hyphen [] h = refl
 no_hyphen (x ∷ xs) h =
     let e : (x == 45) ≡ false = grind (arith, nat_tests) in
     rw e refl
 
-no_hyphens : (file : Text) → IsPlain file → bytes_eq file (45 ∷ 45 ∷ []) ≡ false
+no_hyphens : (file : Text) → IsNoOption file → bytes_eq file (45 ∷ 45 ∷ []) ≡ false
 no_hyphens file h = go (bytes_eq file (45 ∷ 45 ∷ [])) refl
   where
-    begins : (text : Text) → text ≡ 45 ∷ 45 ∷ [] → IsPlain text → ⊥
+    begins : (text : Text) → text ≡ 45 ∷ 45 ∷ [] → IsNoOption text → ⊥
     begins text e h = rw e at h refl
 
     go : (b : Bool) → bytes_eq file (45 ∷ 45 ∷ []) ≡ b → b ≡ false
@@ -134,20 +133,35 @@ give Q words name rows met are (Err e) chosen kinds = go (rw met.0 at kinds)
     go (inl memory) = memory
     go (inr among) = absurd among
 
+-- settings come of the words that these say plainly
+abbrev GivePlain : List Text → Type 0
+GivePlain words = Give words (λ given. IsPlain given words)
+
 file_rows : (file : Text) → List Row
 file_rows file = row (codes "FILE") file CommandLine ∷ []
 
 trace_rows : (trace file : Text) → List Row
 trace_rows trace file = row (codes "TRACE") trace CommandLine ∷ row (codes "FILE") file CommandLine ∷ []
 
--- the two files that are read from words that name them
-same_text : (x y : Text) → Some x ≡ Some y → y ≡ x
+-- the file that is read from words that name it
+same_text : (x y : Text) → Some x ≡ Some y → x ≡ y
 same_text x y e = cc
 
+-- so the words name the file that is read
+file_read : {command : Text} (file read : Text) (words : List Text) → HasFile command file words → Some file ≡ Some read → HasFile command read words
+file_read {command} file read words named e = subst (λ f. HasFile command f words) (same_text file read e) named
+
+-- and both files that are read
+files_read : {command : Text} (one read other second : Text) (words : List Text) → HasFiles command one other words → Some one ≡ Some read →
+    Some other ≡ Some second → HasFiles command read second words
+files_read {command} one read other second words named e f =
+    subst (λ g. HasFiles command g second words) (same_text one read e) (subst (λ g. HasFiles command one g words) (same_text other second f) named)
+
 -- the rows of a trace and an image give both files, for 1,024 words
-replay_is : (trace file : Text) (r : Replay) → GivesReplay (trace_rows trace file) r → IsReplayOf trace file r
+replay_is : {command : Text} (trace file : Text) (r : Replay) (words : List Text) → HasFiles command trace file words → GivesReplay (trace_rows trace file) r
+    → HasTrace command r words
 unfolding row trace_rows
-replay_is trace file r said = (same_text trace r.trace.now said.0, same_text file r.file.now said.1, said.2.0)
+replay_is trace file r words named said = (files_read trace r.trace.now file r.file.now words named said.0 said.1, said.2.0)
 
 no_text : (o : Option (Bor Text)) → None ≡ option_map (λ t. t.now) o → o ≡ None
 no_text None e = refl
@@ -159,75 +173,62 @@ unset true f = let bad : Some (codes "false") ≡ Some (codes "true") = f refl i
 
 -- ---- the commands with one file and no flag: `words FILE`, `check FILE`, `dis FILE` and `debug FILE`
 
-pub data FileCommand : Type 0 where
+data FileCommand : Type 0 where
   OfWords : FileCommand
   OfCheck : FileCommand
   OfDis : FileCommand
   OfDebug : FileCommand
 
-abbrev pub file_command : FileCommand → Text
+abbrev file_command : FileCommand → Text
 file_command OfWords = codes "words"
 file_command OfCheck = codes "check"
 file_command OfDis = codes "dis"
 file_command OfDebug = codes "debug"
 
-abbrev pub AreOfFile : FileCommand → Text → Settings → Type 0
-AreOfFile OfWords = AreWordsOf
-AreOfFile OfCheck = AreCheckOf
-AreOfFile OfDis = AreDisOf
-AreOfFile OfDebug = AreDebugOf
-
-file_met : (c : FileCommand) (program file : Text) → IsPlain file → Meets (program ∷ file_command c ∷ file ∷ []) (file_command c) (file_rows file)
+file_met : (c : FileCommand) (program file : Text) → IsNoOption file → Meets (program ∷ file_command c ∷ file ∷ []) (file_command c) (file_rows file)
 unfolding row file_rows clap_on_literals commands
 file_met OfWords program file h = rw (no_hyphens file h, no_hyphen file h, no_hyphen file h) (refl, refl)
 file_met OfCheck program file h = rw (no_hyphens file h, no_hyphen file h, no_hyphen file h) (refl, refl)
 file_met OfDis program file h = rw (no_hyphens file h, no_hyphen file h, no_hyphen file h) (refl, refl)
 file_met OfDebug program file h = rw (no_hyphens file h, no_hyphen file h, no_hyphen file h) (refl, refl)
 
-file_are : (c : FileCommand) (file : Text) (s : Settings) → (name_of s ≡ file_command c) × AreOf (file_rows file) s → AreOfFile c file s
+file_are : (c : FileCommand) (file : Text) (words : List Text) → HasFile (file_command c) file words → (s : Settings)
+    → (name_of s ≡ file_command c) × AreOf (file_rows file) s → IsPlain s words
 unfolding name_of row file_rows
-file_are OfWords file (asked.Words w) said = same_text file w.file.now said.1
-file_are OfWords file other said = apart (name_of other) (codes "words") refl said.0
-file_are OfCheck file (asked.Check c) said = same_text file c.file.now said.1
-file_are OfCheck file other said = apart (name_of other) (codes "check") refl said.0
-file_are OfDis file (asked.Dis d) said = (same_text file d.file.now said.1.0, said.1.1.0)
-file_are OfDis file other said = apart (name_of other) (codes "dis") refl said.0
-file_are OfDebug file (asked.Debug d) said =
+file_are OfWords file words named (asked.Words w) said = file_read file w.file.now words named said.1
+file_are OfWords file words named other said = apart (name_of other) (codes "words") refl said.0
+file_are OfCheck file words named (asked.Check c) said = file_read file c.file.now words named said.1
+file_are OfCheck file words named other said = apart (name_of other) (codes "check") refl said.0
+file_are OfDis file words named (asked.Dis d) said = (file_read file d.file.now words named said.1.0, said.1.1.0)
+file_are OfDis file words named other said = apart (name_of other) (codes "dis") refl said.0
+file_are OfDebug file words named (asked.Debug d) said =
     let sizes = said.1.2 in
     let budget = said.1.3 in
     let port = said.1.4 in
-    (same_text file d.file.now said.1.0, no_text d.trace said.1.1, (sizes.0.0, sizes.1.0, sizes.2.0, sizes.3.0, sizes.4.0), budget.0, port.0)
-file_are OfDebug file other said = apart (name_of other) (codes "debug") refl said.0
+    (file_read file d.file.now words named said.1.0, no_text d.trace said.1.1, (sizes.0.0, sizes.1.0, sizes.2.0, sizes.3.0, sizes.4.0), budget.0, port.0)
+file_are OfDebug file words named other said = apart (name_of other) (codes "debug") refl said.0
 
 -- the command gives the file, no trace, and each number its default
-pub file_given : (c : FileCommand) (file : Text) (words : List Text) → NamesFile (file_command c) file words → Give words (AreOfFile c file)
-file_given c file words named =
-    give (AreOfFile c file) words (file_command c) (file_rows file) (rw named.1 (file_met c named.0 file named.2)) (file_are c file)
+file_given : (c : FileCommand) (file : Text) (words : List Text) → HasFile (file_command c) file words → GivePlain words
+file_given c file words named = give _ words (file_command c) (file_rows file) (rw named.1 (file_met c named.0 file named.2)) (file_are c file words named)
 
 -- ---- the commands with a trace and an image: `replay TRACE FILE`, `order TRACE FILE`, `picture TRACE FILE`, `story TRACE FILE` and `stats TRACE FILE`
 
-pub data TraceCommand : Type 0 where
+data TraceCommand : Type 0 where
   OfReplay : TraceCommand
   OfOrder : TraceCommand
   OfPicture : TraceCommand
   OfStory : TraceCommand
   OfStats : TraceCommand
 
-abbrev pub trace_command : TraceCommand → Text
+abbrev trace_command : TraceCommand → Text
 trace_command OfReplay = codes "replay"
 trace_command OfOrder = codes "order"
 trace_command OfPicture = codes "picture"
 trace_command OfStory = codes "story"
 trace_command OfStats = codes "stats"
 
-abbrev pub AreOfTrace : TraceCommand → (trace file : Text) → Settings → Type 0
-AreOfTrace OfReplay = AreReplayOf
-AreOfTrace OfOrder = AreOrderOf
-AreOfTrace OfPicture = ArePictureOf
-AreOfTrace OfStory = AreStoryOf
-AreOfTrace OfStats = AreStatsOf
-
-trace_met : (c : TraceCommand) (program trace file : Text) → IsPlain trace → IsPlain file →
+trace_met : (c : TraceCommand) (program trace file : Text) → IsNoOption trace → IsNoOption file →
     Meets (program ∷ trace_command c ∷ trace ∷ file ∷ []) (trace_command c) (trace_rows trace file)
 unfolding row trace_rows clap_on_literals commands
 trace_met OfReplay program trace file h k =
@@ -241,46 +242,45 @@ trace_met OfStory program trace file h k =
 trace_met OfStats program trace file h k =
     rw (no_hyphens trace h, no_hyphen trace h, no_hyphen trace h, no_hyphens file k, no_hyphen file k, no_hyphen file k) (refl, refl)
 
-trace_are : (c : TraceCommand) (trace file : Text) (s : Settings) → (name_of s ≡ trace_command c) × AreOf (trace_rows trace file) s →
-    AreOfTrace c trace file s
+trace_are : (c : TraceCommand) (trace file : Text) (words : List Text) → HasFiles (trace_command c) trace file words → (s : Settings)
+    → (name_of s ≡ trace_command c) × AreOf (trace_rows trace file) s → IsPlain s words
 unfolding name_of row trace_rows
-trace_are OfReplay trace file (asked.Replay r) said = replay_is trace file r said.1
-trace_are OfReplay trace file other said = apart (name_of other) (codes "replay") refl said.0
-trace_are OfOrder trace file (asked.Order o) said = (replay_is trace file o.replay said.1.0, said.1.1, said.1.2)
-trace_are OfOrder trace file other said = apart (name_of other) (codes "order") refl said.0
-trace_are OfPicture trace file (asked.Picture p) said = (replay_is trace file p.replay said.1.0, said.1.1)
-trace_are OfPicture trace file other said = apart (name_of other) (codes "picture") refl said.0
-trace_are OfStory trace file (asked.Story r) said = replay_is trace file r said.1
-trace_are OfStory trace file other said = apart (name_of other) (codes "story") refl said.0
-trace_are OfStats trace file (asked.Stats r) said = replay_is trace file r said.1
-trace_are OfStats trace file other said = apart (name_of other) (codes "stats") refl said.0
+trace_are OfReplay trace file words named (asked.Replay r) said = replay_is trace file r words named said.1
+trace_are OfReplay trace file words named other said = apart (name_of other) (codes "replay") refl said.0
+trace_are OfOrder trace file words named (asked.Order o) said = (replay_is trace file o.replay words named said.1.0, said.1.1, said.1.2)
+trace_are OfOrder trace file words named other said = apart (name_of other) (codes "order") refl said.0
+trace_are OfPicture trace file words named (asked.Picture p) said = (replay_is trace file p.replay words named said.1.0, said.1.1)
+trace_are OfPicture trace file words named other said = apart (name_of other) (codes "picture") refl said.0
+trace_are OfStory trace file words named (asked.Story r) said = replay_is trace file r words named said.1
+trace_are OfStory trace file words named other said = apart (name_of other) (codes "story") refl said.0
+trace_are OfStats trace file words named (asked.Stats r) said = replay_is trace file r words named said.1
+trace_are OfStats trace file words named other said = apart (name_of other) (codes "stats") refl said.0
 
 -- the command gives both files, for 1,024 words, and chooses nothing
-pub trace_given : (c : TraceCommand) (trace file : Text) (words : List Text) → NamesFiles (trace_command c) trace file words →
-    Give words (AreOfTrace c trace file)
+trace_given : (c : TraceCommand) (trace file : Text) (words : List Text) → HasFiles (trace_command c) trace file words → GivePlain words
 trace_given c trace file words named =
-    give (AreOfTrace c trace file) words (trace_command c) (trace_rows trace file) (rw named.1 (trace_met c named.0 trace file named.2 named.3))
-    (trace_are c trace file)
+    give _ words (trace_command c) (trace_rows trace file) (rw named.1 (trace_met c named.0 trace file named.2 named.3)) (trace_are c trace file words named)
 
 -- ---- `asm FILE OUT`
 
 asm_rows : (file out : Text) → List Row
 asm_rows file out = row (codes "FILE") file CommandLine ∷ row (codes "OUT") out CommandLine ∷ []
 
-asm_met : (program file out : Text) → IsPlain file → IsPlain out → Meets (program ∷ codes "asm" ∷ file ∷ out ∷ []) (codes "asm") (asm_rows file out)
+asm_met : (program file out : Text) → IsNoOption file → IsNoOption out → Meets (program ∷ codes "asm" ∷ file ∷ out ∷ []) (codes "asm") (asm_rows file out)
 unfolding row asm_rows clap_on_literals commands
 asm_met program file out h k =
     rw (no_hyphens file h, no_hyphen file h, no_hyphen file h, no_hyphens out k, no_hyphen out k, no_hyphen out k) (refl, refl)
 
-asm_are : (file out : Text) (s : Settings) → (name_of s ≡ codes "asm") × AreOf (asm_rows file out) s → AreAsmOf file out s
+asm_are : (file out : Text) (words : List Text) → HasFiles (codes "asm") file out words → (s : Settings)
+    → (name_of s ≡ codes "asm") × AreOf (asm_rows file out) s → IsPlain s words
 unfolding name_of row asm_rows
-asm_are file out (asked.Asm a) said = (same_text file a.file.now said.1.0, same_text out a.out.now said.1.1)
-asm_are file out other said = apart (name_of other) (codes "asm") refl said.0
+asm_are file out words named (asked.Asm a) said = files_read file a.file.now out a.out.now words named said.1.0 said.1.1
+asm_are file out words named other said = apart (name_of other) (codes "asm") refl said.0
 
 -- `asm FILE OUT` gives both files
-pub asm_given : (file out : Text) (words : List Text) → NamesFiles (codes "asm") file out words → Give words (AreAsmOf file out)
+asm_given : (file out : Text) (words : List Text) → HasFiles (codes "asm") file out words → GivePlain words
 asm_given file out words named =
-    give (AreAsmOf file out) words (codes "asm") (asm_rows file out) (rw named.1 (asm_met named.0 file out named.2 named.3)) (asm_are file out)
+    give _ words (codes "asm") (asm_rows file out) (rw named.1 (asm_met named.0 file out named.2 named.3)) (asm_are file out words named)
 
 -- ---- `run FILE`
 
@@ -288,17 +288,18 @@ run_rows : (file : Text) → List Row
 run_rows file =
     row (codes "FILE") file CommandLine ∷ row (codes "sweep") (codes "false") DefaultValue ∷ row (codes "quiet") (codes "false") DefaultValue ∷ []
 
-run_met : (program file : Text) → IsPlain file → Meets (program ∷ codes "run" ∷ file ∷ []) (codes "run") (run_rows file)
+run_met : (program file : Text) → IsNoOption file → Meets (program ∷ codes "run" ∷ file ∷ []) (codes "run") (run_rows file)
 unfolding row run_rows clap_on_literals commands
 run_met program file h = rw (no_hyphens file h, no_hyphen file h, no_hyphen file h) (refl, refl)
 
-run_are : (file : Text) (s : Settings) → (name_of s ≡ codes "run") × AreOf (run_rows file) s → AreRunOf file s
+run_are : (file : Text) (words : List Text) → HasFile (codes "run") file words → (s : Settings) → (name_of s ≡ codes "run") × AreOf (run_rows file) s →
+    IsPlain s words
 unfolding name_of row run_rows
-run_are file (asked.Run r) said =
+run_are file words named (asked.Run r) said =
     let sizes = said.1.4 in
     let budget = said.1.5 in
     let start = said.1.6 in (
-      same_text file r.file.now said.1.0,
+      file_read file r.file.now words named said.1.0,
       no_text r.trace said.1.1,
       unset r.sweep said.1.2.0,
       unset r.quiet said.1.3.0,
@@ -306,11 +307,11 @@ run_are file (asked.Run r) said =
       budget.0,
       start.0,
     )
-run_are file other said = apart (name_of other) (codes "run") refl said.0
+run_are file words named other said = apart (name_of other) (codes "run") refl said.0
 
 -- `run FILE` gives the file, no trace, no flag, and each number its default
-pub run_given : (file : Text) (words : List Text) → NamesFile (codes "run") file words → Give words (AreRunOf file)
-run_given file words named = give (AreRunOf file) words (codes "run") (run_rows file) (rw named.1 (run_met named.0 file named.2)) (run_are file)
+run_given : (file : Text) (words : List Text) → HasFile (codes "run") file words → GivePlain words
+run_given file words named = give _ words (codes "run") (run_rows file) (rw named.1 (run_met named.0 file named.2)) (run_are file words named)
 
 -- ---- `hunt FILE`
 
@@ -318,18 +319,19 @@ hunt_rows : (file : Text) → List Row
 hunt_rows file =
     row (codes "FILE") file CommandLine ∷ row (codes "overwrite") (codes "false") DefaultValue ∷ row (codes "quiet") (codes "false") DefaultValue ∷ []
 
-hunt_met : (program file : Text) → IsPlain file → Meets (program ∷ codes "hunt" ∷ file ∷ []) (codes "hunt") (hunt_rows file)
+hunt_met : (program file : Text) → IsNoOption file → Meets (program ∷ codes "hunt" ∷ file ∷ []) (codes "hunt") (hunt_rows file)
 unfolding row hunt_rows clap_on_literals commands
 hunt_met program file h = rw (no_hyphens file h, no_hyphen file h, no_hyphen file h) (refl, refl)
 
-hunt_are : (file : Text) (s : Settings) → (name_of s ≡ codes "hunt") × AreOf (hunt_rows file) s → AreHuntOf file s
+hunt_are : (file : Text) (words : List Text) → HasFile (codes "hunt") file words → (s : Settings) → (name_of s ≡ codes "hunt") × AreOf (hunt_rows file) s →
+    IsPlain s words
 unfolding name_of row hunt_rows
-hunt_are file (asked.Hunt h) said =
+hunt_are file words named (asked.Hunt h) said =
     let sizes = said.1.4 in
     let budget = said.1.5 in
     let runs = said.1.6 in
     let start = said.1.7 in (
-      same_text file h.file.now said.1.0,
+      file_read file h.file.now words named said.1.0,
       no_text h.trace said.1.1,
       unset h.overwrite said.1.2.0,
       unset h.quiet said.1.3.0,
@@ -338,12 +340,11 @@ hunt_are file (asked.Hunt h) said =
       runs.0,
       start.0,
     )
-hunt_are file other said = apart (name_of other) (codes "hunt") refl said.0
+hunt_are file words named other said = apart (name_of other) (codes "hunt") refl said.0
 
 -- `hunt FILE` gives the file, no trace, no flag, and each number its default
-pub hunt_given : (file : Text) (words : List Text) → NamesFile (codes "hunt") file words → Give words (AreHuntOf file)
-hunt_given file words named =
-    give (AreHuntOf file) words (codes "hunt") (hunt_rows file) (rw named.1 (hunt_met named.0 file named.2)) (hunt_are file)
+hunt_given : (file : Text) (words : List Text) → HasFile (codes "hunt") file words → GivePlain words
+hunt_given file words named = give _ words (codes "hunt") (hunt_rows file) (rw named.1 (hunt_met named.0 file named.2)) (hunt_are file words named)
 
 -- ---- `explain [CODE]`
 
@@ -351,21 +352,25 @@ explain_rows : Option Text → List Row
 explain_rows None = []
 explain_rows (Some code) = row (codes "CODE") code CommandLine ∷ []
 
-explain_met : (code : Option Text) (words : List Text) → NameExplainOf code words → Meets words (codes "explain") (explain_rows code)
+explain_met : (code : Option Text) (words : List Text) → HasCode (codes "explain") code words → Meets words (codes "explain") (explain_rows code)
 unfolding row explain_rows clap_on_literals commands
 explain_met None words named = rw named.1 (refl, refl)
 explain_met (Some code) words named = rw (named.1, no_hyphens code named.2, no_hyphen code named.2, no_hyphen code named.2) (refl, refl)
 
-explain_are : (code : Option Text) (s : Settings) → (name_of s ≡ codes "explain") × AreOf (explain_rows code) s → AreExplainOf code s
-unfolding name_of row explain_rows
-explain_are None (asked.Explain x) said = sym said.1
-explain_are (Some code) (asked.Explain x) said = sym said.1
-explain_are code other said = apart (name_of other) (codes "explain") refl said.0
+explain_code : (code : Option Text) (x : Explain) → GivesExplain (explain_rows code) x → code ≡ option_map (λ c. c.now) x.code
+unfolding row explain_rows
+explain_code None x said = said
+explain_code (Some code) x said = said
+
+explain_are : (code : Option Text) (words : List Text) → HasCode (codes "explain") code words → (s : Settings)
+    → (name_of s ≡ codes "explain") × AreOf (explain_rows code) s → IsPlain s words
+unfolding name_of
+explain_are code words named (asked.Explain x) said = subst (λ c. HasCode (codes "explain") c words) (explain_code code x said.1) named
+explain_are code words named other said = apart (name_of other) (codes "explain") refl said.0
 
 -- `explain CODE` gives the code, and `explain` none
-pub explain_given : (code : Option Text) (words : List Text) → NameExplainOf code words → Give words (AreExplainOf code)
-explain_given code words named =
-    give (AreExplainOf code) words (codes "explain") (explain_rows code) (explain_met code words named) (explain_are code)
+explain_given : (code : Option Text) (words : List Text) → HasCode (codes "explain") code words → GivePlain words
+explain_given code words named = give _ words (codes "explain") (explain_rows code) (explain_met code words named) (explain_are code words named)
 
 -- ---- `explore FILE`
 
@@ -374,16 +379,17 @@ explore_rows file =
     row (codes "FILE") file CommandLine ∷ row (codes "each") (codes "false") DefaultValue
     ∷ row (codes "every") (codes "false") DefaultValue ∷ row (codes "quiet") (codes "false") DefaultValue ∷ []
 
-explore_met : (program file : Text) → IsPlain file → Meets (program ∷ codes "explore" ∷ file ∷ []) (codes "explore") (explore_rows file)
+explore_met : (program file : Text) → IsNoOption file → Meets (program ∷ codes "explore" ∷ file ∷ []) (codes "explore") (explore_rows file)
 unfolding row explore_rows clap_on_literals commands
 explore_met program file h = rw (no_hyphens file h, no_hyphen file h, no_hyphen file h) (refl, refl)
 
-explore_are : (file : Text) (s : Settings) → (name_of s ≡ codes "explore") × AreOf (explore_rows file) s → AreExploreOf file s
+explore_are : (file : Text) (words : List Text) → HasFile (codes "explore") file words → (s : Settings)
+    → (name_of s ≡ codes "explore") × AreOf (explore_rows file) s → IsPlain s words
 unfolding name_of row explore_rows
-explore_are file (asked.Explore x) said =
+explore_are file words named (asked.Explore x) said =
     let sizes = said.1.5 in
     let states = said.1.6 in (
-      same_text file x.file.now said.1.0,
+      file_read file x.file.now words named said.1.0,
       no_text x.trace said.1.1,
       unset x.each said.1.2.0,
       unset x.every said.1.3.0,
@@ -392,9 +398,28 @@ explore_are file (asked.Explore x) said =
       states.0,
       said.1.7,
     )
-explore_are file other said = apart (name_of other) (codes "explore") refl said.0
+explore_are file words named other said = apart (name_of other) (codes "explore") refl said.0
 
 -- `explore FILE` gives the file, no trace, no flag, no witness, and each number its default
-pub explore_given : (file : Text) (words : List Text) → NamesFile (codes "explore") file words → Give words (AreExploreOf file)
+explore_given : (file : Text) (words : List Text) → HasFile (codes "explore") file words → GivePlain words
 explore_given file words named =
-    give (AreExploreOf file) words (codes "explore") (explore_rows file) (rw named.1 (explore_met named.0 file named.2)) (explore_are file)
+    give _ words (codes "explore") (explore_rows file) (rw named.1 (explore_met named.0 file named.2)) (explore_are file words named)
+
+-- ---- all commands
+
+-- words that say plainly what some settings are give settings that they say plainly
+pub plain_given : (s : Settings) (words : List Text) → IsPlain s words → GivePlain words
+plain_given (asked.Words w) words said = file_given OfWords w.file.now words said
+plain_given (asked.Check c) words said = file_given OfCheck c.file.now words said
+plain_given (asked.Asm a) words said = asm_given a.file.now a.out.now words said
+plain_given (asked.Dis d) words said = file_given OfDis d.file.now words said.0
+plain_given (asked.Run r) words said = run_given r.file.now words said.0
+plain_given (asked.Hunt h) words said = hunt_given h.file.now words said.0
+plain_given (asked.Explore x) words said = explore_given x.file.now words said.0
+plain_given (asked.Replay r) words said = trace_given OfReplay r.trace.now r.file.now words said.0
+plain_given (asked.Order o) words said = trace_given OfOrder o.replay.trace.now o.replay.file.now words said.0.0
+plain_given (asked.Story r) words said = trace_given OfStory r.trace.now r.file.now words said.0
+plain_given (asked.Stats r) words said = trace_given OfStats r.trace.now r.file.now words said.0
+plain_given (asked.Picture p) words said = trace_given OfPicture p.replay.trace.now p.replay.file.now words said.0.0
+plain_given (asked.Debug d) words said = file_given OfDebug d.file.now words said.0
+plain_given (asked.Explain e) words said = explain_given (option_map (λ c. c.now) e.code) words said
