@@ -111,6 +111,10 @@ pub record Placed : Type 0 where
   pub address : ℕ
   pub statement : Option Stmt
 
+-- a statement that stands at the next byte
+abbrev pub placed_at : Place → Option Stmt → Placed
+placed_at at s = record { section = at.section; address = address at; statement = s }
+
 abbrev pub unaligned : ℕ → Option AsmFault
 unaligned n = if n % 4 == 0 then None else Some Range
 
@@ -127,11 +131,10 @@ misplacement s n (zeros m) = None
 abbrev pub fit_or_fault : Option AsmFault → Place → Stmt → Result Placed AsmFault
 fit_or_fault (Some f) at s = Err f
 fit_or_fault None at s =
-    if nat_le (count_of at.section at + size_of s) (room_of at.section)
-    then Ok (record { section = at.section; address = address at; statement = Some s }) else Err SectionFull
+    if nat_le (count_of at.section at + size_of s) (room_of at.section) then Ok (placed_at at (Some s)) else Err SectionFull
 
 abbrev pub place_statement : Place → Option Stmt → Result Placed AsmFault
-place_statement at None = Ok (record { section = at.section; address = address at; statement = None })
+place_statement at None = Ok (placed_at at None)
 place_statement at (Some s) = fit_or_fault (misplacement at.section (address at) s) at s
 
 abbrev pub is_taken : Place → Option (List ℕ) → Bool

@@ -5,8 +5,8 @@ ghost use Rattle.std.specs.Prelude.{slice_get, map};
 ghost use Rattle.std.specs.Option.{option_map};
 ghost use Rattle.asm_lines.specs.Statements.{stmt_of, said_of};
 ghost use Rattle.assembler.specs.declared.fault.AsmFault.TheVariants.{Memory, LabelTwice};
-ghost use Rattle.assembler.specs.Meaning.{Labels, Place, start, address, count_of, after_option};
-ghost use Rattle.assembler.specs.Meaning.{labelled, is_taken, place_statement, place_said, place_line};
+ghost use Rattle.assembler.specs.Meaning.{Labels, Place, start, address, count_of, after_statement};
+ghost use Rattle.assembler.specs.Meaning.{labelled, is_taken, place_statement, place_said, place_line, placed_at};
 ghost use Rattle.assembler.specs.Meaning.{after_said, after, line_piece, pieces_from};
 ghost use Rattle.assembler.specs.Passes.{name_of, nows, place_of, piece_at};
 
@@ -57,13 +57,9 @@ impl<'a> Cursor<'a> {
 
     /// Goes after a statement, where it may stand here.
     fn place_statement(&mut self, statement: &Statement<'_>) -> Result<(), AsmFault>
-        ensures ok { OnOk result ((place_statement (place_of self.old) (Some (stmt_of statement.now))
-            ≡ Ok (record {
-              section = self.old.section;
-              address = address (place_of self.old);
-              statement = Some (stmt_of statement.now);
-            }))
-            × (place_of self.new ≡ after_option (place_of self.old) (Some (stmt_of statement.now)))) }
+        ensures ok { OnOk result (place_statement (place_of self.old) (Some (stmt_of statement.now))
+            ≡ Ok (placed_at (place_of self.old) (Some (stmt_of statement.now)))) }
+        ensures after { OnOk result (place_of self.new ≡ after_statement (place_of self.old) (stmt_of statement.now)) }
         ensures err { IfErr result (λ f. place_statement (place_of self.old) (Some (stmt_of statement.now)) ≡ Err f) }
     {
         let section = self.section;
@@ -87,10 +83,10 @@ impl<'a> Cursor<'a> {
     }
 
     fn add_label(&mut self, name: Option<&'a [u8]>) -> Result<(), AsmFault>
-        ensures ok { OnOk result ((is_taken (place_of self.old) (name_of name.entry) ≡ false)
-            × (place_of self.new ≡ labelled (name_of name.entry) (place_of self.old))) }
-        ensures err { IfErr result (λ f. f ≢ Memory →
-            (is_taken (place_of self.old) (name_of name.entry) ≡ true) × (f ≡ LabelTwice)) }
+        ensures ok { OnOk result (is_taken (place_of self.old) (name_of name.entry) ≡ false) }
+        ensures after { OnOk result (place_of self.new ≡ labelled (name_of name.entry) (place_of self.old)) }
+        ensures err { IfErr result (λ f. f ≢ Memory → f ≡ LabelTwice) }
+        ensures taken { IfErr result (λ f. f ≢ Memory → is_taken (place_of self.old) (name_of name.entry) ≡ true) }
     {
         let Some(name) = name else {
             return Ok(());
@@ -109,13 +105,9 @@ impl<'a> Cursor<'a> {
     /// Takes what a line says.
     #[tactic(auto, unfolding(crate::specs::Meaning::place_said, crate::specs::Meaning::after_said))]
     fn place_said(&mut self, said: &Line<'a>) -> Result<(), AsmFault>
-        ensures ok { OnOk result ((place_said (place_of self.old) (said_of said.now)
-            ≡ Ok (record {
-              section = self.old.section;
-              address = address (place_of self.old);
-              statement = option_map stmt_of said.now.statement;
-            }))
-            × (place_of self.new ≡ after_said (place_of self.old) (said_of said.now))) }
+        ensures ok { OnOk result (place_said (place_of self.old) (said_of said.now)
+            ≡ Ok (placed_at (place_of self.old) (option_map stmt_of said.now.statement))) }
+        ensures after { OnOk result (place_of self.new ≡ after_said (place_of self.old) (said_of said.now)) }
         ensures err { IfErr result (λ f. f ≢ Memory → place_said (place_of self.old) (said_of said.now) ≡ Err f) }
     {
         self.add_label(said.label)?;
@@ -128,8 +120,8 @@ impl<'a> Cursor<'a> {
     /// Takes the next line.
     #[tactic(auto, unfolding(crate::specs::Passes::statement_piece, crate::specs::Passes::piece_at))]
     pub fn place_line(&mut self, alloc: Global, line: &'a [u8]) -> Result<LineAt<'a>, AsmFault>
-        ensures ok { IfOk result (λ p. ((ls : Labels) → line_piece ls (place_of self.old) line.now ≡ piece_at ls p)
-            × (place_of self.new ≡ after (place_of self.old) line.now)) }
+        ensures ok { IfOk result (λ p. (ls : Labels) → line_piece ls (place_of self.old) line.now ≡ piece_at ls p) }
+        ensures after { OnOk result (place_of self.new ≡ after (place_of self.old) line.now) }
         ensures err { IfErr result (λ f. f ≢ Memory → place_line (place_of self.old) line.now ≡ Err f) }
     {
         let section = self.section;
@@ -152,10 +144,12 @@ pub fn place_lines<'a>(
     alloc: Global,
     lines: &[&'a [u8]],
 ) -> Result<(Vec<LineAt<'a>>, Cursor<'a>), AsmError>
-    ensures ok { IfOk result (λ r. ((ls : Labels) → pieces_from ls start (nows lines.now) ≡ map (piece_at ls) r.0.items)
-        × (place_of r.1 ≡ fold after start (nows lines.now))) }
-    ensures err { IfErr result (λ e. e.fault ≢ Memory → (0 < e.line)
-        × ((ls : Labels) → slice_get (pieces_from ls start (nows lines.now)) (e.line - 1) ≡ Some (Err e.fault))) }
+    ensures ok { IfOk result (λ r. (ls : Labels) →
+        pieces_from ls start (nows lines.now) ≡ map (piece_at ls) r.0.items) }
+    ensures after { IfOk result (λ r. place_of r.1 ≡ fold after start (nows lines.now)) }
+    ensures line { IfErr result (λ e. e.fault ≢ Memory → 0 < e.line) }
+    ensures err { IfErr result (λ e. e.fault ≢ Memory → (ls : Labels) →
+        slice_get (pieces_from ls start (nows lines.now)) (e.line - 1) ≡ Some (Err e.fault)) }
 {
     let mut cursor = Cursor::new(alloc);
     let mut placed = Vec::new(alloc);
