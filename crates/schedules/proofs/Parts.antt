@@ -9,13 +9,13 @@ use Rattle.schedules.proofs.Places.{round_length}
 
 -- A round that has come through row 0 has come through the turns.
 pub turns_gone : {limit : ℕ} {old new : Log} {end : Option Bool} → HasGone limit (0 * 2 ^ stages_of old) ((0 + 1) * 2 ^ stages_of old) old end new →
-    HasGone limit 0 (2 ^ stages_of old) old end new
+    HasGone limit 0 (1 * 2 ^ stages_of old) old end new
 turns_gone gone = gone_at gone (omega arith) (omega arith)
 
 -- A round that has come through the turns, and then through the moves up, has come through both.
-pub ups_gone : {limit : ℕ} {old l new : Log} {end : Option Bool} → HasGone limit 0 (2 ^ stages_of old) old None l →
-    HasGone limit (2 ^ stages_of l) ((stages_of l + 1) * 2 ^ stages_of l) l end new → HasGone limit 0 ((stages_of old + 1) * 2 ^ stages_of old) old end new
-ups_gone {limit} {old} {l} {new} {end} = then_gone limit 0 (λ n. 2 ^ n) (λ n. (n + 1) * 2 ^ n) old l new end
+pub ups_gone : {limit : ℕ} {old l new : Log} {end : Option Bool} → HasGone limit 0 (1 * 2 ^ stages_of old) old None l →
+    HasGone limit (1 * 2 ^ stages_of l) ((stages_of l + 1) * 2 ^ stages_of l) l end new → HasGone limit 0 ((stages_of old + 1) * 2 ^ stages_of old) old end new
+ups_gone {limit} {old} {l} {new} {end} = then_gone limit 0 (λ n. 1 * 2 ^ n) (λ n. (n + 1) * 2 ^ n) old l new end
 
 -- A round that has come through the turns and moves up, and then through the services, has come through them all.
 pub services_gone : {limit : ℕ} {old l new : Log} {end : Option Bool} → HasGone limit 0 ((stages_of old + 1) * 2 ^ stages_of old) old None l →

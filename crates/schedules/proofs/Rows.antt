@@ -15,19 +15,32 @@ module _ (m : MachineLists) (base wires wire : ℕ) (set : ℕ → Bool) (few : 
       subst (IsQuiet m) same (quiet (place - base) (omega (arith, before, within, from))
       (none (place - base) (omega (arith, from)) (omega (arith, before, from))))
 
-  -- If the first wire of the set from a wire on is found, it is in the row, and the steps up to it stall.
-  pub first_found : (o : Option ℕ) → IfSome o (IsFirst set wire) → IfSome o (λ w. (wire ≤ w) × (w < wires) × AreQuiet m (base + wire) (base + w))
-  first_found None f = f
-  first_found (Some w) f = by (cases_lt w wires)
+  inside : (w : ℕ) → IsFirst set wire w → w < wires
+  inside w f = by (cases_lt w wires)
     where
-      by : (w < wires) ⊎ (wires ≤ w) → (wire ≤ w) × (w < wires) × AreQuiet m (base + wire) (base + w)
-      by (inl less) = (f.behind, less, up_to w (omega (arith, less)) f.first)
+      by : (w < wires) ⊎ (wires ≤ w) → w < wires
+      by (inl less) = less
       by (inr past) = absurd (true≢false (sym f.member ∙ few w past))
+
+  -- If the first wire of the set from a wire on is found, it is in the row.
+  pub found_inside : (o : Option ℕ) → IfSome o (IsFirst set wire) → IfSome o (λ w. w < wires)
+  found_inside None f = f
+  found_inside (Some w) f = inside w f
+
+  -- The steps up to it stall.
+  pub first_found : (o : Option ℕ) → IfSome o (IsFirst set wire) → IfSome o (λ w. AreQuiet m (base + wire) (base + w))
+  first_found None f = f
+  first_found (Some w) f = let less = inside w f in up_to w (omega (arith, less)) f.first
 
   -- If the set has no wire from a wire on, the rest of the row's steps stall.
   pub none_found : (end : ℕ) → end ≡ base + wires → wires ≤ 64 → HasNoneIn set wire 64 → AreQuiet m (base + wire) end
   none_found end is most none =
       subst (AreQuiet m (base + wire)) (sym is) (up_to wires (omega arith) (λ w from before. none w from (omega (arith, before, most))))
+
+-- The first wire of a set from a wire on is not before it.
+pub found_ahead : (set : ℕ → Bool) (wire : ℕ) (o : Option ℕ) → IfSome o (IsFirst set wire) → IfSome o (λ w. wire ≤ w)
+found_ahead set wire None f = f
+found_ahead set wire (Some w) f = f.behind
 
 -- after the last row there is no step
 pub past_rows : (wires rows row wire : ℕ) → rows ≤ row → wires * rows ≤ row * wires + wire

@@ -1,5 +1,5 @@
 -- The sweep: round after round of the same steps.
-use Rattle.std.specs.Prelude.{ℕ, zero, suc, ◌^◌, List, [], ◌++◌, map}
+use Rattle.std.specs.Prelude.{ℕ, zero, suc, ◌+◌, ◌*◌, ◌^◌, List, [], ◌++◌, map}
 use Rattle.std.specs.List.{range_with_len}
 use Rattle.steps.specs.declared.step.Step.{Step}
 use Rattle.steps.specs.declared.step.Step.TheVariants.{Turn, Up, Serve, Down}
@@ -22,6 +22,14 @@ downs k (suc stage) = downs k stage ++ on_each_wire k (Down stage)
 -- replies move, those nearest to the processors first.
 unfoldable pub round : (k : ℕ) → List Step
 round k = on_each_wire k Turn ++ ups k k ++ on_each_wire k Serve ++ downs k k
+
+-- the place at which a row of a round begins; each row has a step for each wire, and row 0 is the first
+abbrev pub row_start : (k row : ℕ) → ℕ
+row_start k row = row * 2 ^ k
+
+-- the place of a wire's step in a row
+abbrev pub place_of : (k row wire : ℕ) → ℕ
+place_of k row wire = row_start k row + wire
 
 -- where the sweep stands in its round, by how many steps of it are after
 pub record Sweeping : Type 0 where

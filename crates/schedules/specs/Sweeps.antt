@@ -14,7 +14,7 @@ use Rattle.machine_steps.specs.Machines.{MachineLists, IsIdle}
 use Rattle.machine_steps.specs.Runs.{answer_after, machine_after, IsOpening, IsReplay}
 use Rattle.machine_log.specs.Logs.{Log, entered}
 pub use Rattle.machine_log.specs.Logs.{opened}
-use Rattle.schedules.specs.Rounds.{round}
+use Rattle.schedules.specs.Rounds.{round, row_start}
 use Rattle.schedules.specs.declared.sweeping.SweepEnd.{SweepEnd}
 use Rattle.schedules.specs.declared.sweeping.SweepEnd.TheVariants.{Over, Budget}
 
@@ -146,3 +146,12 @@ pub record HasGone (limit from to : ℕ) (old : Log) (end : Option Bool) (new : 
   pub ended : (is_over : Bool) → end ≡ Some is_over → (start : Log) → length start.steps < limit →
       IsInRound limit start from old →
       WasAskedRound limit start is_over new
+
+-- from the beginning of one row to that of another
+abbrev pub HasGoneRows : (limit from to : ℕ) → (old : Log) → (end : Option Bool) → (new : Log) → Type 0
+HasGoneRows limit from to old end new =
+    HasGone limit (row_start old.machine.config.k from) (row_start old.machine.config.k to) old end new
+
+-- through one row
+abbrev pub HasGoneRow : (limit row : ℕ) → (old : Log) → (end : Option Bool) → (new : Log) → Type 0
+HasGoneRow limit row old end new = HasGoneRows limit row (row + 1) old end new

@@ -2,6 +2,7 @@
 
 ghost use Rattle.std.specs.Prelude.{◌≡◌, ◌≤◌, ◌<◌, ◌*◌, ◌+◌, ◌^◌, Some, slice_get};
 ghost use Rattle.schedules.specs.Choices.{choices};
+ghost use Rattle.schedules.specs.Rounds.{place_of};
 
 use steps::Step;
 
@@ -21,7 +22,7 @@ fn choice_in(k: u8, row: u8, wire: u8) -> Step
     requires stages { k ≤ 6 }
     requires row { row < 2 * k + 1 }
     requires wire { wire < 2 ^ k }
-    ensures { slice_get (choices k) (row * 2 ^ k + wire) ≡ Some result }
+    ensures { slice_get (choices k) (place_of k row wire) ≡ Some result }
 {
     if row < k {
         Step::Up { stage: row, wire }

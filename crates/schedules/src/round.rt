@@ -2,7 +2,7 @@
 
 ghost use Rattle.std.specs.Prelude.{◌≡◌, ◌≤◌, ◌<◌, ◌+◌, ◌*◌, ◌^◌, None, IfSome, length};
 ghost use Rattle.schedules.specs.Rounds.{round};
-ghost use Rattle.schedules.specs.Skips.{AreQuiet, IsNext};
+ghost use Rattle.schedules.specs.Skips.{AreQuiet, AreQuietInRow, IsNext, IsRestQuiet};
 
 use crate::row::{Downs, Row, Services, Turns, Ups};
 use crate::schedule::step_at;
@@ -21,11 +21,11 @@ pub struct Round {
 
 impl Model for Round {
     ghost use Rattle.std.specs.Prelude.{◌≤◌, ◌*◌, ◌+◌, ◌^◌};
-    ghost use Rattle.schedules.specs.Rounds.{Sweeping};
+    ghost use Rattle.schedules.specs.Rounds.{Sweeping, place_of};
 
     ghost Value = { Sweeping };
 
-    ghost view = { λ r. record { k = r.k; place = r.row * 2 ^ r.k + r.wire } };
+    ghost view = { λ r. record { k = r.k; place = place_of r.k r.row r.wire } };
 
     ghost invariant = { λ r. (r.k ≤ 6) × (r.row ≤ 2 * r.k + 2) × (r.wire ≤ 2 ^ r.k) };
 }
@@ -45,8 +45,8 @@ impl Round {
         requires { machine.now.config.k ≡ self.old.k }
         ensures size { self.new.k ≡ self.old.k }
         ensures next { IfSome result (λ step. IsNext machine.now self.old.place step self.new.place) }
-        ensures on { IfSome result (λ step. (self.old.place < self.new.place)
-            × (self.new.place ≤ length (round self.old.k))) }
+        ensures on { IfSome result (λ step. self.old.place < self.new.place) }
+        ensures within { IfSome result (λ step. self.new.place ≤ length (round self.old.k)) }
         ensures over { result ≡ None → AreQuiet machine.now self.old.place (length (round self.old.k)) }
     {
         while self.row < 2 * self.k + 2 {
@@ -65,10 +65,10 @@ impl Round {
 fn first_from(machine: &Machine, row: u8, wire: u8) -> Option<u8>
     requires stages { machine.now.config.k ≤ 6 }
     requires row { row < 2 * machine.now.config.k + 2 }
-    ensures first { IfSome result (λ w. (wire ≤ w) × (w < 2 ^ machine.now.config.k)
-        × AreQuiet machine.now (row * 2 ^ machine.now.config.k + wire) (row * 2 ^ machine.now.config.k + w)) }
-    ensures none { result ≡ None →
-        AreQuiet machine.now (row * 2 ^ machine.now.config.k + wire) ((row + 1) * 2 ^ machine.now.config.k) }
+    ensures ahead { IfSome result (λ w. wire ≤ w) }
+    ensures wire { IfSome result (λ w. w < 2 ^ machine.now.config.k) }
+    ensures first { IfSome result (AreQuietInRow machine.now row wire) }
+    ensures none { result ≡ None → IsRestQuiet machine.now row wire }
 {
     let k = machine.config().k;
     if row == 0 {

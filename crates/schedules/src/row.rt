@@ -1,8 +1,8 @@
 //! The rows of a round: steps of one kind each.
 
 ghost use Rattle.std.specs.Prelude.{◌≡◌, ◌≤◌, ◌<◌, ◌+◌, ◌*◌, ◌^◌, ℕ, None, Some, IfSome, slice_get};
-ghost use Rattle.schedules.specs.Rounds.{round};
-ghost use Rattle.schedules.specs.Skips.{AreQuiet};
+ghost use Rattle.schedules.specs.Rounds.{place_of, round};
+ghost use Rattle.schedules.specs.Skips.{AreQuietInRow, IsRestQuiet};
 
 use machine_steps::{Machine, machine_is_well_formed};
 use omega_wires::WireSet;
@@ -22,17 +22,15 @@ pub trait Row {
     /// The first wire of the row, this one or one after it, whose step may do something.
     fn first(&self, machine: &Machine, wire: u8) -> Option<u8>
         requires there { Self.is_there self.now machine.now.config.k }
-        ensures first { IfSome result (λ w. (wire ≤ w) × (w < 2 ^ machine.now.config.k)
-            × AreQuiet machine.now (Self.number self.now machine.now.config.k * 2 ^ machine.now.config.k + wire)
-            (Self.number self.now machine.now.config.k * 2 ^ machine.now.config.k + w)) }
-        ensures none { result ≡ None →
-            AreQuiet machine.now (Self.number self.now machine.now.config.k * 2 ^ machine.now.config.k + wire)
-            ((Self.number self.now machine.now.config.k + 1) * 2 ^ machine.now.config.k) };
+        ensures ahead { IfSome result (λ w. wire ≤ w) }
+        ensures wire { IfSome result (λ w. w < 2 ^ machine.now.config.k) }
+        ensures first { IfSome result (AreQuietInRow machine.now (Self.number self.now machine.now.config.k) wire) }
+        ensures none { result ≡ None → IsRestQuiet machine.now (Self.number self.now machine.now.config.k) wire };
 
     /// The step of a wire.
     fn step(&self, wire: u8) -> Step
         ensures { (k : ℕ) → k ≤ 6 → Self.is_there self.now k → wire < 2 ^ k →
-            slice_get (round k) (Self.number self.now k * 2 ^ k + wire) ≡ Some result };
+            slice_get (round k) (place_of k (Self.number self.now k) wire) ≡ Some result };
 
     /// It is one of the rows that a round has.
     ghost is_within: { (row : Self) (k : ℕ) → is_there row k → number row k < 2 * k + 2 };

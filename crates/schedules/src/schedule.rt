@@ -6,7 +6,7 @@
 //! `specs/Rounds.antt` has a round as a list.
 
 ghost use Rattle.std.specs.Prelude.{◌≡◌, ◌≤◌, ◌<◌, ◌*◌, ◌+◌, ◌^◌, Some, slice_get};
-ghost use Rattle.schedules.specs.Rounds.{round};
+ghost use Rattle.schedules.specs.Rounds.{place_of, round};
 
 use steps::Step;
 
@@ -17,7 +17,7 @@ pub fn step_at(k: u8, row: u8, wire: u8) -> Step
     requires stages { k ≤ 6 }
     requires row { row < 2 * k + 2 }
     requires wire { wire < 2 ^ k }
-    ensures { slice_get (round k) (row * 2 ^ k + wire) ≡ Some result }
+    ensures { slice_get (round k) (place_of k row wire) ≡ Some result }
 {
     if row == 0 {
         Step::Turn(wire)

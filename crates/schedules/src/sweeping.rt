@@ -6,7 +6,8 @@ ghost use Rattle.trace_file.specs.Traces.{HaveRecords};
 ghost use Rattle.machine_steps.specs.Draining.{drain_bound};
 ghost use Rattle.machine_steps.specs.Standing.{HasRunning};
 ghost use Rattle.schedules.specs.Rounds.{round};
-ghost use Rattle.schedules.specs.Sweeps.{HasFollowed, HasGone, IsFault, IsStop, IsSwept, WasAskedRound, most_of};
+ghost use Rattle.schedules.specs.Sweeps.{HasFollowed, HasGone, HasGoneRow, HasGoneRows, IsFault, IsStop, IsSwept};
+ghost use Rattle.schedules.specs.Sweeps.{WasAskedRound, most_of};
 
 use crate::row::{Downs, Row, Services, Turns, Ups};
 use flat_machine::Cause;
@@ -134,9 +135,7 @@ fn take_rows(log: &mut ReservedLog, limit: usize) -> Option<bool>
 /// Goes through the rows of a round in which requests move up.
 fn take_ups(log: &mut ReservedLog, limit: usize) -> Option<bool>
     requires room { limit ≤ length log.old.log.steps + log.old.capacity_left }
-    ensures gone { HasGone limit (2 ^ log.old.log.machine.config.k)
-        ((log.old.log.machine.config.k + 1) * 2 ^ log.old.log.machine.config.k)
-        log.old.log result log.new.log }
+    ensures gone { HasGoneRows limit 1 (log.old.log.machine.config.k + 1) log.old.log result log.new.log }
     ensures room { length log.new.log.steps + log.new.capacity_left ≡ length log.old.log.steps + log.old.capacity_left }
 {
     reserved_log_is_well_formed(log);
@@ -155,8 +154,8 @@ fn take_ups(log: &mut ReservedLog, limit: usize) -> Option<bool>
 /// Goes through the rows of a round in which replies move down.
 fn take_downs(log: &mut ReservedLog, limit: usize) -> Option<bool>
     requires room { limit ≤ length log.old.log.steps + log.old.capacity_left }
-    ensures gone { HasGone limit ((log.old.log.machine.config.k + 2) * 2 ^ log.old.log.machine.config.k)
-        ((2 * log.old.log.machine.config.k + 2) * 2 ^ log.old.log.machine.config.k) log.old.log result log.new.log }
+    ensures gone { HasGoneRows limit (log.old.log.machine.config.k + 2) (2 * log.old.log.machine.config.k + 2)
+        log.old.log result log.new.log }
     ensures room { length log.new.log.steps + log.new.capacity_left ≡ length log.old.log.steps + log.old.capacity_left }
 {
     reserved_log_is_well_formed(log);
@@ -175,9 +174,7 @@ fn take_downs(log: &mut ReservedLog, limit: usize) -> Option<bool>
 fn take_row<R: Row>(log: &mut ReservedLog, limit: usize, row: &R) -> Option<bool>
     requires there { R.is_there row.now log.old.log.machine.config.k }
     requires room { limit ≤ length log.old.log.steps + log.old.capacity_left }
-    ensures gone { HasGone limit (R.number row.now log.old.log.machine.config.k * 2 ^ log.old.log.machine.config.k)
-        ((R.number row.now log.old.log.machine.config.k + 1) * 2 ^ log.old.log.machine.config.k) log.old.log result
-        log.new.log }
+    ensures gone { HasGoneRow limit (R.number row.now log.old.log.machine.config.k) log.old.log result log.new.log }
     ensures room { length log.new.log.steps + log.new.capacity_left ≡ length log.old.log.steps + log.old.capacity_left }
 {
     reserved_log_is_well_formed(log);

@@ -40,7 +40,8 @@ returns-then-is_over-clause-gone g c =
     let number = g.R.Row.number c.args.row.now in
     let next = c.in_ok-next.next in
     let size : l.machine.config.k ≡ k = ap (λ (d : Config). d.k) i.config in
-    let there = row_step number c.machine.result.now l.machine k c.loop-log.wire next c.step.result c.machine.ensures.machine size c.in_ok-next.ensures.first
+    let there = row_step number c.machine.result.now l.machine k c.loop-log.wire next c.step.result c.machine.ensures.machine size
+    (c.in_ok-next.ensures.ahead, c.in_ok-next.ensures.wire, c.in_ok-next.ensures.first)
     (c.step.ensures k c.reserved_log_is_well_formed.ensures.kept.sound.limits.stages c.requires.there) in
     let taken = c.step-outcome.ensures.taken in
     let inside : length l.steps < c.args.limit = (let len = ap length c.steps.ensures.steps in omega (arith, len, c.loop-log-test.true)) in
@@ -64,7 +65,8 @@ loop-log-preserved g c =
     let number = g.R.Row.number c.args.row.now in
     let next = c.in_ok-next.next in
     let size : l.machine.config.k ≡ k = ap (λ (d : Config). d.k) i.config in
-    let there = row_step number c.machine.result.now l.machine k c.loop-log.wire next c.step.result c.machine.ensures.machine size c.in_ok-next.ensures.first
+    let there = row_step number c.machine.result.now l.machine k c.loop-log.wire next c.step.result c.machine.ensures.machine size
+    (c.in_ok-next.ensures.ahead, c.in_ok-next.ensures.wire, c.in_ok-next.ensures.first)
     (c.step.ensures k c.reserved_log_is_well_formed.ensures.kept.sound.limits.stages c.requires.there) in
     let taken = c.step-outcome.ensures.taken in
     let inside : length l.steps < c.args.limit = (let len = ap length c.steps.ensures.steps in omega (arith, len, c.loop-log-test.true)) in

@@ -12,8 +12,8 @@ loop-passed-init c = record {
 
 pub returns-in-Some-clause-gone : goal.returns-in-Some-clause-gone
 returns-in-Some-clause-gone c =
-    gone_at (ended_before (up_gone (same_stages c.config-stages.ensures.config c.machine.ensures.machine) c.loop-passed-test.true c.loop-passed.invariant.gone
-    c.in-Some.ensures.gone)) (omega arith) refl
+    ended_before (up_gone (same_stages c.config-stages.ensures.config c.machine.ensures.machine) c.loop-passed-test.true c.loop-passed.invariant.gone
+    c.in-Some.ensures.gone)
 
 pub loop-passed-preserved : goal.loop-passed-preserved
 loop-passed-preserved c = record {
@@ -28,4 +28,4 @@ returns-clause-gone c =
     let k = c.args.log.now.log.machine.config.k in
     let stages : c.config-stages.result.k ≡ k = same_stages c.config-stages.ensures.config c.machine.ensures.machine in
     let all : c.loop-passed.passed ≡ k = omega (arith, stages, c.loop-passed-test.false, c.loop-passed.auto.passed-end) in
-    gone_at c.loop-passed.invariant.gone (omega arith) (ap (λ n. (n + 1) * 2 ^ k) all)
+    gone_at c.loop-passed.invariant.gone refl (ap (λ n. (n + 1) * 2 ^ k) all)

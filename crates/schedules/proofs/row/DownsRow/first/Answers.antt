@@ -3,7 +3,7 @@ use Rattle.omega_wires.specs.Members.{members}
 use Rattle.machine_steps.proofs.Lemmas.{count_small}
 use Rattle.schedules.specs.Skips.{IsQuiet}
 use Rattle.schedules.proofs.OfKinds.{downs_quiet}
-use Rattle.schedules.proofs.Rows.{first_found, none_found, row_ends}
+use Rattle.schedules.proofs.Rows.{first_found, found_ahead, found_inside, none_found, row_ends}
 use Rattle.schedules.proofs.row.DownsRow.first.Goals as goal
 
 pub overflow_add-self : goal.overflow_add-self
@@ -17,8 +17,11 @@ returns c =
     let quiet : (w : ℕ) → w < 2 ^ k → members c.reply_wires.result w ≡ false → IsQuiet m ((k + 2 + c.args.self.now.stage) * 2 ^ k + w) =
     λ w within none. downs_quiet m few c.args.self.now.stage c.requires.there w within (sym (c.reply_wires.ensures.exact w within) ∙ none) in
     record {
-      first = first_found m ((k + 2 + c.args.self.now.stage) * 2 ^ k) (2 ^ k) c.args.wire (members c.reply_wires.result) c.reply_wires.ensures.few quiet
-          c.first_from.result c.first_from.ensures.first;
+      ahead = found_ahead (members c.reply_wires.result) c.args.wire c.first_from.result c.first_from.ensures.first;
+      wire = found_inside m ((k + 2 + c.args.self.now.stage) * 2 ^ k) (2 ^ k) c.args.wire (members c.reply_wires.result) c.reply_wires.ensures.few quiet c.first_from.result
+          c.first_from.ensures.first;
+      first = first_found m ((k + 2 + c.args.self.now.stage) * 2 ^ k) (2 ^ k) c.args.wire (members c.reply_wires.result) c.reply_wires.ensures.few quiet c.first_from.result
+          c.first_from.ensures.first;
       none = λ none. none_found m ((k + 2 + c.args.self.now.stage) * 2 ^ k) (2 ^ k) c.args.wire (members c.reply_wires.result) c.reply_wires.ensures.few quiet
           ((k + 2 + c.args.self.now.stage + 1) * 2 ^ k) (row_ends (k + 2 + c.args.self.now.stage) (2 ^ k)) (count_small k few) (c.first_from.ensures.none none);
     }

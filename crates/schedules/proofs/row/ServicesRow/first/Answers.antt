@@ -6,7 +6,7 @@ use Rattle.machine_steps.specs.omega_network.Networks.{net_of}
 use Rattle.machine_steps.proofs.Lemmas.{count_small}
 use Rattle.schedules.specs.Skips.{IsQuiet}
 use Rattle.schedules.proofs.Quiet.{serve_quiet}
-use Rattle.schedules.proofs.Rows.{first_found, none_found, row_ends}
+use Rattle.schedules.proofs.Rows.{first_found, found_ahead, found_inside, none_found, row_ends}
 use Rattle.schedules.proofs.row.ServicesRow.first.Goals as goal
 
 pub returns : goal.returns
@@ -19,6 +19,9 @@ returns c =
     λ w within none. serve_quiet m few (k + 1) w refl within
     (subst (λ n. is_some (slice_get ((net_of m.network).requests n w) 0) ≡ false) size (sym (c.request_wires.ensures.exact w within) ∙ none)) in
     record {
+      ahead = found_ahead (members c.request_wires.result) c.args.wire c.first_from.result c.first_from.ensures.first;
+      wire = found_inside m ((k + 1) * 2 ^ k) (2 ^ k) c.args.wire (members c.request_wires.result) c.request_wires.ensures.few quiet c.first_from.result
+          c.first_from.ensures.first;
       first = first_found m ((k + 1) * 2 ^ k) (2 ^ k) c.args.wire (members c.request_wires.result) c.request_wires.ensures.few quiet c.first_from.result
           c.first_from.ensures.first;
       none = λ none. none_found m ((k + 1) * 2 ^ k) (2 ^ k) c.args.wire (members c.request_wires.result) c.request_wires.ensures.few quiet
