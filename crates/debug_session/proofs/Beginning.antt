@@ -41,7 +41,7 @@ module _ {R W : Type 0} (gives : R × W → Type 0) (remaining : R → Option (L
   Served old = HasServed (sweep_spec budget) (remaining link.0) (remaining reader) (contents link.1) (contents writer) old new end
 
   abbrev Refused : Type 0
-  Refused = (reader ≡ link.0) × (writer ≡ link.1) × (new ≡ old)
+  Refused = new ≡ old
 
   -- A session on a log that was just opened, begun or refused, is a session of the command.
   pub session : IsImageOf c.shared_words known image → IsOpening c image opening → old ≡ opened opening → gives link →
@@ -60,14 +60,14 @@ module _ {R W : Type 0} (gives : R × W → Type 0) (remaining : R → Option (L
     writer = writer;
     served =
         whichever end (Served (opened opening)) Refused (new ≡ opened opening)
-        (subst (λ (l : Log). IsServed end (Served l) (Unit {0})) begun served) refused (λ same. same.2 ∙ begun);
+        (subst (λ (l : Log). IsServed end (Served l) (Unit {0})) begun served) refused (λ same. same ∙ begun);
   }
     where
       opening_is : new.opening ≡ opening
       opening_is =
           whoever end (Served old) Refused (new.opening ≡ old.opening) served refused
           (opens_alike (sweep_spec budget) (remaining link.0) (remaining reader) (contents link.1) (contents writer) old new end)
-          (λ same. ap (λ (l : Log). l.opening) same.2)
+          (λ same. ap (λ (l : Log). l.opening) same)
           ∙ ap (λ (l : Log). l.opening) begun
 
 -- the image is refused

@@ -12,7 +12,7 @@ use Rattle.debug_replies.specs.declared.error.Error.TheVariants as error
 use Rattle.debug_replies.specs.Errors.{error_of}
 use Rattle.debug_replies.specs.Stops.{is_running_at}
 use Rattle.machine_steps.specs.Runs.{flat_state}
-use Rattle.debug_session.specs.Answers.{Acts, ActsUnless, Continues, Ending, HasStepped, IsTried, Session, Sets, StepsWhere, pokes_of}
+use Rattle.debug_session.specs.Answers.{Acts, ActsUnless, Continues, Ending, HasStepped, IsTried, Session, Sets, StepsWhere, pokes_of, session}
 use Rattle.debug_session.specs.Conversations.{HasServed}
 use Rattle.debug_session.specs.Dialogues.{asked, Dialogue}
 use Rattle.debug_session.specs.Runs.{RunSpec}
@@ -96,5 +96,5 @@ pub opens_alike : (run : RunSpec) (r0 r1 w0 w1 : Option (List ℕ)) (old new : L
     new.opening ≡ old.opening
 opens_alike run r0 r1 w0 w1 old new end served =
     let c = served.conversation in
-    talked run (record { log = served.drained; breaks = served.breaks }) c.events c.replies (record { log = new; breaks = served.breaks' }) c.dialogue
+    talked run (session served.drained served.breaks) c.events c.replies (session new served.breaks') c.dialogue
     ∙ served.drain.opening

@@ -11,7 +11,7 @@ use Rattle.debug_lines.specs.Lines.{Held, IsAfter, joined}
 use Rattle.debug_replies.specs.Breaking.{is_break}
 use Rattle.machine_steps.specs.Machines.{IsIdle}
 use Rattle.machine_log.specs.Logs.{Log}
-use Rattle.debug_session.specs.Answers.{Session, Answers}
+use Rattle.debug_session.specs.Answers.{Session, session, Answers}
 use Rattle.debug_session.specs.Runs.{RunSpec}
 use Rattle.debug_session.specs.Dialogues.{asked, Dialogue, NoneQuits, is_quit}
 use Rattle.debug_session.specs.Conversations.{Conversation, EndsWith, Goes, HasDrained, HasServed, IsCutShort, IsEnd, IsServed, IsStop, Reads, Stops}
@@ -248,7 +248,7 @@ module _ (run : RunSpec) where
   -- A conversation that begins after a drain, with no break, and leaves no reference open, is a session served.
   pub has_served : (r0 r1 w0 w1 : Option (List ℕ)) (old drained new : Log) (breaks kept : List Bool) (end : SessionEnd) → HasDrained old drained →
       ((a : ℕ) → is_break breaks a ≡ false) →
-      Conversation run r0 r1 w0 w1 (record { log = drained; breaks = breaks }) (record { log = new; breaks = kept }) end → IsIdle new.machine →
+      Conversation run r0 r1 w0 w1 (session drained breaks) (session new kept) end → IsIdle new.machine →
       HasServed run r0 r1 w0 w1 old new end
   has_served r0 r1 w0 w1 old drained new breaks kept end d none c idle = record {
     drained = drained;

@@ -27,6 +27,9 @@ pub record Session : Type 0 where
   pub log : Log
   pub breaks : List Bool
 
+abbrev pub session : Log → (breaks : List Bool) → Session
+session log breaks = record { log = log; breaks = breaks }
+
 -- how a command ended: it was carried out, or refused with an error
 abbrev pub Ending : Type 0
 Ending = Result (Unit {0}) Error

@@ -1,14 +1,15 @@
 -- A whole session, between its reader, its writer and its log.
 use Rattle.std.specs.Prelude.{◌≡◌, ℕ, ◌<◌, Bool, true, false, List, [], ◌∷◌, ◌++◌, length, Option}
 use Rattle.std.specs.Io.KnownBytes.{Appends, Consumes, IsAtEnd}
+use Rattle.link.specs.Transfer.{AppendsPart}
 use Rattle.debug_lines.specs.declared.reader.Event.{Event}
 use Rattle.debug_lines.specs.Lines.{Held, IsAfter, joined}
 use Rattle.debug_replies.specs.Breaking.{is_break}
 use Rattle.machine_steps.specs.Draining.{drain_steps, IsDrained}
 use Rattle.machine_steps.specs.Machines.{IsIdle}
 use Rattle.machine_log.specs.Logs.{Log}
-use Rattle.debug_session.specs.Answers.{Session}
-use Rattle.debug_session.specs.Dialogues.{Dialogue, NoneQuits, is_quit}
+use Rattle.debug_session.specs.Answers.{Answers, Session, session}
+use Rattle.debug_session.specs.Dialogues.{Dialogue, NoneQuits, asked, is_quit}
 use Rattle.debug_session.specs.Runs.{RunSpec}
 use Rattle.debug_session.specs.declared.session_end.SessionEnd.{SessionEnd}
 use Rattle.debug_session.specs.declared.session_end.SessionEnd.TheVariants.{Quit, EndOfInput, ReadFailed, WriteFailed}
@@ -77,8 +78,8 @@ pub record HasServed (run : RunSpec) (reader reader' writer writer' : Option (Li
   pub breaks : List Bool
   pub no_break : (a : ℕ) → is_break breaks a ≡ false
   pub breaks' : List Bool
-  pub conversation : Conversation run reader reader' writer writer' (record { log = drained; breaks = breaks })
-      (record { log = new; breaks = breaks' }) end
+  pub conversation : Conversation run reader reader' writer writer' (session drained breaks)
+      (session new breaks') end
   pub idle : IsIdle new.machine
 
 -- ---- on the way
@@ -88,6 +89,20 @@ abbrev pub Reads : (held : Held) → (input : List ℕ) → List Event → (kept
 Reads held input events kept =
     (bytes : List ℕ) (before : List Event) → IsAfter bytes before held →
     IsAfter (bytes ++ input) (before ++ events) kept
+
+-- The command of an event is carried out, and the reply to it is written with its line feed.
+pub record AnswersEvent (run : RunSpec) (old : Session) (writer : Option (List ℕ)) (event : Event)
+    (new : Session) (writer' : Option (List ℕ)) : Type 0 where
+  pub reply : List ℕ
+  pub answers : Answers run old (asked event) reply new
+  pub wrote : Appends writer writer' (reply ++ 10 ∷ [])
+
+-- The command of an event is carried out, and the reply to it is written but for its end.
+pub record AnswersEventInPart (run : RunSpec) (old : Session) (writer : Option (List ℕ)) (event : Event)
+    (new : Session) (writer' : Option (List ℕ)) : Type 0 where
+  pub reply : List ℕ
+  pub answers : Answers run old (asked event) reply new
+  pub wrote : AppendsPart writer writer' (reply ++ 10 ∷ [])
 
 -- Some events were read, none of which ends the session, and answered whole.
 pub record Goes (run : RunSpec) (held : Held) (old : Session) (writer : Option (List ℕ)) (input : List ℕ)
@@ -121,6 +136,14 @@ pub record Stops (run : RunSpec) (held : Held) (old : Session) (writer : Option 
   pub wrote : Appends writer writer' written
   pub stop : IsStop end events replies missing
 
+-- It stops so after some bytes of a piece; those after them are not read.
+pub record StopsWithin (run : RunSpec) (held : Held) (old : Session) (writer : Option (List ℕ)) (piece : List ℕ)
+    (kept : Held) (new : Session) (writer' : Option (List ℕ)) (end : SessionEnd) : Type 0 where
+  pub input : List ℕ
+  pub unread : List ℕ
+  pub all : piece ≡ input ++ unread
+  pub stops : Stops run held old writer input kept new writer' end
+
 -- whether the session was begun: the second fact is for the refusals of the first drain
 abbrev pub IsServed : SessionEnd → (served refused : Type 0) → Type 0
 IsServed Quit served refused = served
@@ -129,3 +152,11 @@ IsServed ReadFailed served refused = served
 IsServed WriteFailed served refused = served
 IsServed Memory served refused = refused
 IsServed TraceFull served refused = refused
+
+-- the fact holds if the session was begun
+abbrev pub IfBegun : SessionEnd → (fact : Type 0) → Type 0
+IfBegun end fact = IsServed end fact (Unit {0})
+
+-- the fact holds if the first drain was refused
+abbrev pub IfRefused : SessionEnd → (fact : Type 0) → Type 0
+IfRefused end fact = IsServed end (Unit {0}) fact

@@ -5,7 +5,7 @@ ghost use Rattle.debug_replies.specs.Errors.{error_of, error_text};
 ghost use Rattle.debug_replies.specs.Stops.{is_faulted_at, is_flagged};
 ghost use Rattle.machine_steps.specs.Machines.{IsIdle};
 ghost use Rattle.machine_steps.specs.Runs.{flat_state};
-ghost use Rattle.debug_session.specs.Answers.{done_text, ActsUnless, Answers};
+ghost use Rattle.debug_session.specs.Answers.{done_text, session, ActsUnless, Answers};
 
 use crate::acting::{go_on, set, step, write};
 use crate::runner::Runner;
@@ -25,8 +25,8 @@ pub(crate) fn answer<C: Runner>(
     text: &mut ArrayVec<u8, 1024>,
 )
     requires idle { IsIdle log.old.machine }
-    ensures answers { Answers (C.spec budget) (record { log = log.old; breaks = breaks.old }) command.now
-        text.new.items (record { log = log.new; breaks = breaks.new }) }
+    ensures answers { Answers (C.spec budget) (session log.old breaks.old) command.now text.new.items
+        (session log.new breaks.new) }
     ensures idle { IsIdle log.new.machine }
 {
     flat_states_are_read();
@@ -52,10 +52,7 @@ fn carry_out<C: Runner>(
 ) -> Result<(), Error>
     requires idle { IsIdle log.old.machine }
     ensures acts { ActsUnless (C.spec budget) (error_of (flat_state log.old.machine) command.now)
-        (record { log = log.old; breaks = breaks.old }) command.now result (record {
-          log = log.new;
-          breaks = breaks.new;
-        }) }
+        (session log.old breaks.old) command.now result (session log.new breaks.new) }
     ensures idle { IsIdle log.new.machine }
 {
     if let Some(error) = error_of(log.machine(), command) {

@@ -1,14 +1,12 @@
 //! A session's own loops.
 
-ghost use Rattle.std.specs.Prelude.{◌≡◌, ◌↔◌, ◌<◌, ◌+◌, [], ◌∷◌, ◌++◌, ℕ, List, true, false, length, is_err};
-ghost use Rattle.std.specs.Prelude.{MatchResult, IfSome, IfNone};
-ghost use Rattle.std.specs.Io.KnownBytes.{Appends};
-ghost use Rattle.link.specs.Transfer.{AppendsPart};
+ghost use Rattle.std.specs.Prelude.{◌≡◌, ◌↔◌, ◌<◌, ◌+◌, true, false, length, is_err, IfNone, IfOk, IfSome, OnErr, OnOk};
 ghost use Rattle.machine_steps.specs.Draining.{drain_bound};
 ghost use Rattle.machine_steps.specs.Machines.{IsIdle};
-ghost use Rattle.debug_session.specs.Answers.{Answers};
+ghost use Rattle.debug_session.specs.Answers.{session};
 ghost use Rattle.debug_session.specs.Dialogues.{asked, is_quit};
-ghost use Rattle.debug_session.specs.Conversations.{Goes, HasServed, IsServed, Stops};
+ghost use Rattle.debug_session.specs.Conversations.{AnswersEvent, AnswersEventInPart, Goes, HasServed, IfBegun};
+ghost use Rattle.debug_session.specs.Conversations.{IfRefused, StopsWithin};
 
 use crate::answering::answer;
 use crate::runner::Runner;
@@ -48,12 +46,13 @@ pub fn serve<R: LinkRead, W: LinkWrite, C: Runner>(
     // The refusals of the first steps.
     ensures full { (result ≡ SessionEnd.TraceFull)
         ↔ (4194304 < length log.old.steps + drain_bound log.old.machine.config) }
-    ensures refused { IsServed result (Unit {0}) ((reader.new ≡ reader.old) × (writer.new ≡ writer.old)
-        × (log.new ≡ log.old)) }
+    ensures unread { IfRefused result (reader.new ≡ reader.old) }
+    ensures unwritten { IfRefused result (writer.new ≡ writer.old) }
+    ensures refused { IfRefused result (log.new ≡ log.old) }
 
     // All else is the dialogue of the events that were read.
-    ensures served { IsServed result (HasServed (C.spec budget) (R.remaining reader.old) (R.remaining reader.new)
-        (W.contents writer.old) (W.contents writer.new) log.old log.new result) (Unit {0}) }
+    ensures served { IfBegun result (HasServed (C.spec budget) (R.remaining reader.old) (R.remaining reader.new)
+        (W.contents writer.old) (W.contents writer.new) log.old log.new result) }
 {
     match log.drain() {
         Ok(_) => {}
@@ -98,13 +97,10 @@ fn serve_piece<W: LinkWrite, C: Runner>(
     requires idle { IsIdle log.old.machine }
     ensures failed { (result ≡ Some SessionEnd.WriteFailed) ↔ (W.has_failed writer.new ≡ true) }
     ensures idle { IsIdle log.new.machine }
-    ensures goes { IfNone result (Goes (C.spec budget) lines.old (record { log = log.old; breaks = breaks.old })
-        (W.contents writer.old) piece.now lines.new (record { log = log.new; breaks = breaks.new }) (W.contents
-        writer.new)) }
-    ensures stops { IfSome result (λ end. (input : List ℕ) × (unread : List ℕ) × (piece.now ≡ input ++ unread)
-        × Stops (C.spec budget) lines.old (record { log = log.old; breaks = breaks.old })
-        (W.contents writer.old) input lines.new (record { log = log.new; breaks = breaks.new }) (W.contents
-        writer.new) end) }
+    ensures goes { IfNone result (Goes (C.spec budget) lines.old (session log.old breaks.old) (W.contents writer.old)
+        piece.now lines.new (session log.new breaks.new) (W.contents writer.new)) }
+    ensures stops { IfSome result (StopsWithin (C.spec budget) lines.old (session log.old breaks.old)
+        (W.contents writer.old) piece.now lines.new (session log.new breaks.new) (W.contents writer.new)) }
 {
     let mut rest = piece;
     while !rest.is_empty() {
@@ -134,12 +130,11 @@ fn serve_event<W: LinkWrite, C: Runner>(
     requires idle { IsIdle log.old.machine }
     ensures failed { W.has_failed writer.new ≡ is_err result }
     ensures idle { IsIdle log.new.machine }
-    ensures answered { (text : List ℕ)
-        × Answers (C.spec budget) (record { log = log.old; breaks = breaks.old }) (asked event.now) text
-        (record { log = log.new; breaks = breaks.new })
-        × MatchResult result (λ quits. (quits ≡ is_quit event.now)
-        × Appends (W.contents writer.old) (W.contents writer.new) (text ++ 10 ∷ []))
-        (λ _. AppendsPart (W.contents writer.old) (W.contents writer.new) (text ++ 10 ∷ [])) }
+    ensures quits { IfOk result (λ quits. quits ≡ is_quit event.now) }
+    ensures answered { OnOk result (AnswersEvent (C.spec budget) (session log.old breaks.old) (W.contents writer.old)
+        event.now (session log.new breaks.new) (W.contents writer.new)) }
+    ensures cut { OnErr result (AnswersEventInPart (C.spec budget) (session log.old breaks.old)
+        (W.contents writer.old) event.now (session log.new breaks.new) (W.contents writer.new)) }
 {
     let command = asked(event);
     let mut text = ArrayVec::new();

@@ -3,14 +3,14 @@ use mathlib.Core.Path.{fun_ext}
 use Rattle.debug_replies.specs.Stops.{is_faulted_at}
 use Rattle.machine_steps.specs.Machines.{MachineLists}
 use Rattle.machine_steps.specs.Runs.{flat_state}
-use Rattle.debug_session.specs.Answers.{done_text, Session}
+use Rattle.debug_session.specs.Answers.{done_text, session}
 use Rattle.debug_session.proofs.Sound.{step_is_small}
 use Rattle.debug_session.proofs.answering.answer.Goals as goal
 
 pub reply-requires : goal.reply-requires
 reply-requires g c =
-    let old : Session = record { log = c.args.log.now; breaks = c.args.breaks.now } in
-    let new : Session = record { log = c.carry_out.new.log; breaks = c.carry_out.new.breaks } in
+    let old = session c.args.log.now c.args.breaks.now in
+    let new = session c.carry_out.new.log c.carry_out.new.breaks in
     let is = c.machine.ensures.kept.sound in
     let count = (c.flat_states_are_read.ensures.processors c.args.log.now.machine is).0 in
     record { named = λ p same. step_is_small (g.C.Runner.spec c.args.budget) old new c.args.command.now c.in-Ok.field-0 p is count c.in-Ok.ensures.acts same }

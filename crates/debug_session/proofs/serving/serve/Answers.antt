@@ -40,9 +40,9 @@ returns-in-Some-serve_piece-clause-served g c =
     let stop = c.in-Some-serve_piece.ensures.stops in
     served c.in-Some-serve_piece.end _
     (has_served _ _ _ _ _ _ c.drain.new.self _ c.new-breaks.result c.serve_piece.new.breaks _ inv.4 inv.5
-    (ends_at_event _ w.0 _ _ _ _ _ _ _ (w.1 ++ stop.0) stop.1 _ w.2
-    (takes_part _ _ _ w.1 stop.0 stop.1 _ w.3 c.in-Ok-receive.ensures.bytes.0 stop.2)
-    (goes_and_stops _ _ _ _ _ _ _ _ _ _ w.1 stop.0 _ w.4 stop.3)) c.in-Some-serve_piece.ensures.idle)
+    (ends_at_event _ w.0 _ _ _ _ _ _ _ (w.1 ++ stop.input) stop.unread _ w.2
+    (takes_part _ _ _ w.1 stop.input stop.unread _ w.3 c.in-Ok-receive.ensures.bytes.0 stop.all)
+    (goes_and_stops _ _ _ _ _ _ _ _ _ _ w.1 stop.input _ w.4 stop.stops)) c.in-Some-serve_piece.ensures.idle)
 
 pub loop-preserved : goal.loop-preserved
 loop-preserved g c =

@@ -11,19 +11,22 @@ returns-in-Ok-true-clause-stops g c =
     let w = c.loop-rest.invariant.2 in
     let reads = rw c.in-Some.is at c.feed-count.ensures.events in
     let fact = c.in-Ok-true.ensures.answered in
-    let fed = take c.feed-count.result.0 c.loop-rest.rest.now in (
-      w.0 ++ fed,
-      drop c.feed-count.result.0 c.loop-rest.rest.now,
-      fed_part c.args.piece.now w.0 c.loop-rest.rest.now c.feed-count.result.0 w.1,
-      goes_and_stops _ _ _ _ _ _ _ _ _ _ w.0 fed Quit w.2
-          (stops_at_quit _ _ _ _ _ _ _ fed c.in-Some.event fact.0 reads fact.1 (sym fact.2.0 ∙ c.in-Ok-true.field-0-test) fact.2.1),
-    )
+    let quits = sym c.in-Ok-true.ensures.quits ∙ c.in-Ok-true.field-0-test in
+    let fed = take c.feed-count.result.0 c.loop-rest.rest.now in
+    record {
+      input = w.0 ++ fed;
+      unread = drop c.feed-count.result.0 c.loop-rest.rest.now;
+      all = fed_part c.args.piece.now w.0 c.loop-rest.rest.now c.feed-count.result.0 w.1;
+      stops = goes_and_stops _ _ _ _ _ _ _ _ _ _ w.0 fed Quit w.2
+          (stops_at_quit _ _ _ _ _ _ _ fed c.in-Some.event fact.reply reads fact.answers quits fact.wrote);
+    }
 
 pub loop-rest-preserved-in-Ok-false : goal.loop-rest-preserved-in-Ok-false
 loop-rest-preserved-in-Ok-false g c =
     let w = c.loop-rest.invariant.2 in
     let reads = rw c.in-Some.is at c.feed-count.ensures.events in
     let fact = c.in-Ok-false.ensures.answered in
+    let goes_on = sym c.in-Ok-false.ensures.quits ∙ c.in-Ok-false.field-0-test in
     let fed = take c.feed-count.result.0 c.loop-rest.rest.now in (
       c.in-Ok-false.ensures.failed,
       c.in-Ok-false.ensures.idle,
@@ -31,7 +34,7 @@ loop-rest-preserved-in-Ok-false g c =
         w.0 ++ fed,
         fed_more c.args.piece.now w.0 c.loop-rest.rest.now c.feed-count.result.0 (length c.loop-rest.rest.now) (omega arith) w.1,
         goes_both _ _ _ _ _ _ _ _ _ _ w.0 fed w.2
-            (goes_one _ _ _ _ _ _ _ fed c.in-Some.event fact.0 reads fact.1 (sym fact.2.0 ∙ c.in-Ok-false.field-0-test) fact.2.1),
+            (goes_one _ _ _ _ _ _ _ fed c.in-Some.event fact.reply reads fact.answers goes_on fact.wrote),
       ),
     )
 
@@ -39,14 +42,15 @@ pub returns-in-Err-clause-stops : goal.returns-in-Err-clause-stops
 returns-in-Err-clause-stops g c =
     let w = c.loop-rest.invariant.2 in
     let reads = rw c.in-Some.is at c.feed-count.ensures.events in
-    let fact = c.in-Err.ensures.answered in
-    let fed = take c.feed-count.result.0 c.loop-rest.rest.now in (
-      w.0 ++ fed,
-      drop c.feed-count.result.0 c.loop-rest.rest.now,
-      fed_part c.args.piece.now w.0 c.loop-rest.rest.now c.feed-count.result.0 w.1,
-      goes_and_stops _ _ _ _ _ _ _ _ _ _ w.0 fed WriteFailed w.2
-          (stops_at_write _ _ _ _ _ _ _ fed c.in-Some.event fact.0 reads fact.1 fact.2),
-    )
+    let fact = c.in-Err.ensures.cut in
+    let fed = take c.feed-count.result.0 c.loop-rest.rest.now in
+    record {
+      input = w.0 ++ fed;
+      unread = drop c.feed-count.result.0 c.loop-rest.rest.now;
+      all = fed_part c.args.piece.now w.0 c.loop-rest.rest.now c.feed-count.result.0 w.1;
+      stops = goes_and_stops _ _ _ _ _ _ _ _ _ _ w.0 fed WriteFailed w.2
+          (stops_at_write _ _ _ _ _ _ _ fed c.in-Some.event fact.reply reads fact.answers fact.wrote);
+    }
 
 pub loop-rest-preserved : goal.loop-rest-preserved
 loop-rest-preserved g c =
