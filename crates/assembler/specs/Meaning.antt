@@ -131,7 +131,8 @@ misplacement s n (zeros m) = None
 abbrev pub fit_or_fault : Option AsmFault → Place → Stmt → Result Placed AsmFault
 fit_or_fault (Some f) at s = Err f
 fit_or_fault None at s =
-    if nat_le (count_of at.section at + size_of s) (room_of at.section) then Ok (placed_at at (Some s)) else Err SectionFull
+    if nat_le (count_of at.section at + size_of s) (room_of at.section)
+    then Ok (placed_at at (Some s)) else Err SectionFull
 
 abbrev pub place_statement : Place → Option Stmt → Result Placed AsmFault
 place_statement at None = Ok (placed_at at None)

@@ -34,7 +34,8 @@ pub fn settings<'a>(alloc: Global, words: &'a [&'a str]) -> Result<Settings<'a>,
     // Words that are a command and its files, or its code, and nothing else give settings that say just this: each
     // option is as it is if it is not given. Only a lack of memory prevents it.
     ensures plain { (s : Settings) → IsPlain s (texts_of words.entry.now) →
-        MatchResult result (λ given. IsPlain given (texts_of words.entry.now)) (λ e. kind_of e ≡ ErrorKind.OutOfMemory) }
+        MatchResult result (λ given. IsPlain given (texts_of words.entry.now))
+        (λ e. kind_of e ≡ ErrorKind.OutOfMemory) }
 {
     read(alloc, words)
 }

@@ -15,10 +15,10 @@ returns c =
     λ w within none. ups_quiet m few c.args.self.now.stage c.requires.there w within (sym (c.request_wires.ensures.exact w within) ∙ none) in
     record {
       ahead = found_ahead (members c.request_wires.result) c.args.wire c.first_from.result c.first_from.ensures.first;
-      wire = found_inside m ((k - c.args.self.now.stage) * 2 ^ k) (2 ^ k) c.args.wire (members c.request_wires.result) c.request_wires.ensures.few quiet c.first_from.result
-          c.first_from.ensures.first;
-      first = first_found m ((k - c.args.self.now.stage) * 2 ^ k) (2 ^ k) c.args.wire (members c.request_wires.result) c.request_wires.ensures.few quiet c.first_from.result
-          c.first_from.ensures.first;
+      wire = found_inside m ((k - c.args.self.now.stage) * 2 ^ k) (2 ^ k) c.args.wire (members c.request_wires.result) c.request_wires.ensures.few quiet
+          c.first_from.result c.first_from.ensures.first;
+      first = first_found m ((k - c.args.self.now.stage) * 2 ^ k) (2 ^ k) c.args.wire (members c.request_wires.result) c.request_wires.ensures.few quiet
+          c.first_from.result c.first_from.ensures.first;
       none = λ none. none_found m ((k - c.args.self.now.stage) * 2 ^ k) (2 ^ k) c.args.wire (members c.request_wires.result) c.request_wires.ensures.few quiet
           ((k - c.args.self.now.stage + 1) * 2 ^ k) (row_ends (k - c.args.self.now.stage) (2 ^ k)) (count_small k few) (c.first_from.ensures.none none);
     }
