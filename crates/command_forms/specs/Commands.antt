@@ -4,6 +4,8 @@ use Rattle.clap.specs.Words.{App, Rule, Text, new_app, new_rule, with_rule, with
 use Rattle.clap.specs.Simple.{Shape, on_top}
 use Rattle.clap.specs.declared.builder.action.ArgAction.TheVariants.{SetTrue}
 use Rattle.clap.specs.declared.builder.value_parser.ValueParser.TheVariants as vp
+use Rattle.command_forms.specs.declared.forms.TraceCommand.{TraceCommand}
+use Rattle.command_forms.specs.declared.forms.TraceCommand.TheVariants as trace
 
 -- ---- the options with a number
 
@@ -129,8 +131,14 @@ run_command =
 abbrev pub replaying : Text → App
 replaying name = with_number shared_words (with_file (with_rule (new_app name) (path (codes "TRACE"))))
 
-unfoldable pub replay_command : App
-replay_command = replaying (codes "replay")
+-- the name of a command that takes these and no option of its own
+abbrev pub trace_name : TraceCommand → Text
+trace_name trace.Replay = codes "replay"
+trace_name trace.Story = codes "story"
+trace_name trace.Stats = codes "stats"
+
+unfoldable pub trace_command : TraceCommand → App
+trace_command command = replaying (trace_name command)
 
 unfoldable pub explain_command : App
 explain_command = with_rule (new_app (codes "explain")) (new_rule (codes "CODE"))
@@ -141,12 +149,6 @@ order_command = with_rule (with_rule (replaying (codes "order")) (number process
 unfoldable pub debug_command : App
 debug_command = with_number port (with_number steps (with_sizes
     (with_rule (with_file (new_app (codes "debug"))) (option (codes "trace")))))
-
-unfoldable pub story_command : App
-story_command = replaying (codes "story")
-
-unfoldable pub stats_command : App
-stats_command = replaying (codes "stats")
 
 unfoldable pub picture_command : App
 picture_command = with_rule (replaying (codes "picture")) (number step)
@@ -182,10 +184,10 @@ ultra_command = with_subcommands (
     ∷ run_command.top
     ∷ hunt_command.top
     ∷ explore_command.top
-    ∷ replay_command.top
+    ∷ (trace_command trace.Replay).top
     ∷ order_command.top
-    ∷ story_command.top
-    ∷ stats_command.top
+    ∷ (trace_command trace.Story).top
+    ∷ (trace_command trace.Stats).top
     ∷ picture_command.top
     ∷ debug_command.top
     ∷ explain_command.top

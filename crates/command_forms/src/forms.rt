@@ -1,11 +1,11 @@
 //! The commands of the program, each with its arguments and its help.
 
-ghost use Rattle.std.specs.Prelude.{◌≡◌};
+ghost use Rattle.std.specs.Prelude.{◌≡◌, ◌≢◌, IfSome, None};
 ghost use Rattle.command_forms.specs.Forms.{app_of_form, with_forms};
 ghost use Rattle.command_forms.specs.Commands.{asm_command, check_command, debug_command, dis_command};
 ghost use Rattle.command_forms.specs.Commands.{explain_command, explore_command, hunt_command, order_command};
-ghost use Rattle.command_forms.specs.Commands.{picture_command, program, replay_command, run_command, stats_command};
-ghost use Rattle.command_forms.specs.Commands.{story_command, ultra_command, words_command};
+ghost use Rattle.command_forms.specs.Commands.{picture_command, program, run_command, trace_command, trace_name};
+ghost use Rattle.command_forms.specs.Commands.{ultra_command, words_command};
 
 use crate::help::{
     ASM_ENDS, CHECK_ENDS, DEBUG_ENDS, DIS_ENDS, EXPLAIN_ENDS, EXPLORE_ENDS, HUNT_ENDS, ORDER_ENDS,
@@ -55,6 +55,14 @@ pub(crate) enum Argument {
     Number(NumberOption),
     /// `--NAME NUMBER`, with no default.
     Choice(ChoiceOption),
+}
+
+/// A command that takes a trace, the image of its run and how many shared words the machine has, and nothing else.
+#[derive(Clone, Copy, Debug, PartialEq, Eq, Drop)]
+pub enum TraceCommand {
+    Replay,
+    Story,
+    Stats,
 }
 
 /// An image to read.
@@ -341,32 +349,11 @@ fn explore() -> CommandForm
     EXPLORE
 }
 
-#[tactic(auto, unfolding(crate::specs::Commands::replay_command))]
-fn replay() -> CommandForm
-    ensures { app_of_form result ≡ replay_command }
-{
-    REPLAY
-}
-
 #[tactic(auto, unfolding(crate::specs::Commands::order_command))]
 fn order() -> CommandForm
     ensures { app_of_form result ≡ order_command }
 {
     ORDER
-}
-
-#[tactic(auto, unfolding(crate::specs::Commands::story_command))]
-fn story() -> CommandForm
-    ensures { app_of_form result ≡ story_command }
-{
-    STORY
-}
-
-#[tactic(auto, unfolding(crate::specs::Commands::stats_command))]
-fn stats() -> CommandForm
-    ensures { app_of_form result ≡ stats_command }
-{
-    STATS
 }
 
 #[tactic(auto, unfolding(crate::specs::Commands::picture_command))]
@@ -390,7 +377,35 @@ fn explain() -> CommandForm
     EXPLAIN
 }
 
+impl TraceCommand {
+    /// The command of this name.
+    pub fn named(name: &str) -> Option<Self>
+        ensures some { IfSome result (λ command. name.now ≡ trace_name command) }
+        ensures none { result ≡ None → (command : TraceCommand) → name.now ≢ trace_name command }
+    {
+        match name {
+            "replay" => Some(TraceCommand::Replay),
+            "story" => Some(TraceCommand::Story),
+            "stats" => Some(TraceCommand::Stats),
+            _ => None,
+        }
+    }
+
+    /// Its form.
+    #[tactic(auto, unfolding(crate::specs::Commands::trace_command))]
+    pub(crate) fn form(self) -> CommandForm
+        ensures { app_of_form result ≡ trace_command self }
+    {
+        match self {
+            TraceCommand::Replay => REPLAY,
+            TraceCommand::Story => STORY,
+            TraceCommand::Stats => STATS,
+        }
+    }
+}
+
 /// All commands, in the order in which the help lists them.
+#[tactic(auto, unfolding(crate::specs::Commands::ultra_command))]
 pub(crate) fn commands() -> [CommandForm; 14]
     ensures { with_forms result program ≡ ultra_command }
 {
@@ -402,10 +417,10 @@ pub(crate) fn commands() -> [CommandForm; 14]
         run(),
         hunt(),
         explore(),
-        replay(),
+        TraceCommand::Replay.form(),
         order(),
-        story(),
-        stats(),
+        TraceCommand::Story.form(),
+        TraceCommand::Stats.form(),
         picture(),
         debug(),
         explain(),

@@ -8,6 +8,7 @@ mod help;
 mod matching;
 mod ranges;
 
+pub use forms::TraceCommand;
 pub use matching::matches_of;
 pub use ranges::{
     BUDGET, COMBINATIONS, ChoiceOption, FIRST_START, NumberOption, PORT, PROCESSOR, QUEUE, RECORDS,

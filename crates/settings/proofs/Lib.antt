@@ -5,3 +5,4 @@ pub mod Numbers
 pub mod Plain
 pub mod Rows
 pub mod Walks
+pub mod TraceNames

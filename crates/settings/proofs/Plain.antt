@@ -22,9 +22,12 @@ use Rattle.settings.specs.declared.choice.Replay.{Replay}
 use Rattle.settings.specs.Lines.{IsAsked, IsChosen, GivesAsm, GivesCheck, GivesDis, GivesExplain, GivesExplore}
 use Rattle.settings.specs.Lines.{GivesHunt, GivesOrder, GivesPicture, GivesReplay, GivesRun, GivesSession, GivesWords}
 use Rattle.settings.specs.Lines.{Named}
-use Rattle.command_forms.specs.Commands.{ultra_command}
+use Rattle.command_forms.specs.Commands.{trace_name, ultra_command}
+use Rattle.command_forms.specs.declared.forms.TraceCommand.{TraceCommand}
+use Rattle.command_forms.specs.declared.forms.TraceCommand.TheVariants as trace
 use Rattle.settings.specs.Plain.{HasCode, HasFile, HasFiles, HasTrace, IsNoOption, IsPlain}
 use Rattle.command_forms.proofs.Lemmas.{commands}
+use Rattle.settings.proofs.TraceNames.{no_trace}
 
 no_hyphen : (file : Text) → IsNoOption file → strip_byte 45 file ≡ None
 no_hyphen [] h = refl
@@ -57,10 +60,8 @@ name_of (asked.Dis d) = codes "dis"
 name_of (asked.Run r) = codes "run"
 name_of (asked.Hunt h) = codes "hunt"
 name_of (asked.Explore x) = codes "explore"
-name_of (asked.Replay r) = codes "replay"
+name_of (asked.Trace c r) = trace_name c
 name_of (asked.Order o) = codes "order"
-name_of (asked.Story r) = codes "story"
-name_of (asked.Stats r) = codes "stats"
 name_of (asked.Picture p) = codes "picture"
 name_of (asked.Debug d) = codes "debug"
 name_of (asked.Explain e) = codes "explain"
@@ -74,10 +75,8 @@ AreOf rows (asked.Dis d) = GivesDis rows d
 AreOf rows (asked.Run r) = GivesRun rows r
 AreOf rows (asked.Hunt h) = GivesHunt rows h
 AreOf rows (asked.Explore x) = GivesExplore rows x
-AreOf rows (asked.Replay r) = GivesReplay rows r
+AreOf rows (asked.Trace c r) = GivesReplay rows r
 AreOf rows (asked.Order o) = GivesOrder rows o
-AreOf rows (asked.Story r) = GivesReplay rows r
-AreOf rows (asked.Stats r) = GivesReplay rows r
 AreOf rows (asked.Picture p) = GivesPicture rows p
 AreOf rows (asked.Debug d) = GivesSession rows d
 AreOf rows (asked.Explain e) = GivesExplain rows e
@@ -102,10 +101,8 @@ chosen_as stop name rows (asked.Dis d) is chosen = named_as stop name (codes "di
 chosen_as stop name rows (asked.Run r) is chosen = named_as stop name (codes "run") rows (λ them. GivesRun them r) is chosen
 chosen_as stop name rows (asked.Hunt h) is chosen = named_as stop name (codes "hunt") rows (λ them. GivesHunt them h) is chosen
 chosen_as stop name rows (asked.Explore x) is chosen = named_as stop name (codes "explore") rows (λ them. GivesExplore them x) is chosen
-chosen_as stop name rows (asked.Replay r) is chosen = named_as stop name (codes "replay") rows (λ them. GivesReplay them r) is chosen
+chosen_as stop name rows (asked.Trace c r) is chosen = named_as stop name (trace_name c) rows (λ them. GivesReplay them r) is chosen
 chosen_as stop name rows (asked.Order o) is chosen = named_as stop name (codes "order") rows (λ them. GivesOrder them o) is chosen
-chosen_as stop name rows (asked.Story r) is chosen = named_as stop name (codes "story") rows (λ them. GivesReplay them r) is chosen
-chosen_as stop name rows (asked.Stats r) is chosen = named_as stop name (codes "stats") rows (λ them. GivesReplay them r) is chosen
 chosen_as stop name rows (asked.Picture p) is chosen = named_as stop name (codes "picture") rows (λ them. GivesPicture them p) is chosen
 chosen_as stop name rows (asked.Debug d) is chosen = named_as stop name (codes "debug") rows (λ them. GivesSession them d) is chosen
 chosen_as stop name rows (asked.Explain e) is chosen = named_as stop name (codes "explain") rows (λ them. GivesExplain them e) is chosen
@@ -196,70 +193,69 @@ file_are : (c : FileCommand) (file : Text) (words : List Text) → HasFile (file
     → (name_of s ≡ file_command c) × AreOf (file_rows file) s → IsPlain s words
 unfolding name_of row file_rows
 file_are OfWords file words named (asked.Words w) said = file_read file w.file.now words named said.1
+file_are OfWords file words named (asked.Trace d r) said = no_trace d (codes "words") refl said.0
 file_are OfWords file words named other said = apart (name_of other) (codes "words") refl said.0
 file_are OfCheck file words named (asked.Check c) said = file_read file c.file.now words named said.1
+file_are OfCheck file words named (asked.Trace d r) said = no_trace d (codes "check") refl said.0
 file_are OfCheck file words named other said = apart (name_of other) (codes "check") refl said.0
 file_are OfDis file words named (asked.Dis d) said = (file_read file d.file.now words named said.1.0, said.1.1.0)
+file_are OfDis file words named (asked.Trace d r) said = no_trace d (codes "dis") refl said.0
 file_are OfDis file words named other said = apart (name_of other) (codes "dis") refl said.0
 file_are OfDebug file words named (asked.Debug d) said =
     let sizes = said.1.2 in
     let budget = said.1.3 in
     let port = said.1.4 in
     (file_read file d.file.now words named said.1.0, no_text d.trace said.1.1, (sizes.0.0, sizes.1.0, sizes.2.0, sizes.3.0, sizes.4.0), budget.0, port.0)
+file_are OfDebug file words named (asked.Trace d r) said = no_trace d (codes "debug") refl said.0
 file_are OfDebug file words named other said = apart (name_of other) (codes "debug") refl said.0
 
 -- the command gives the file, no trace, and each number its default
 file_given : (c : FileCommand) (file : Text) (words : List Text) → HasFile (file_command c) file words → GivePlain words
 file_given c file words named = give _ words (file_command c) (file_rows file) (rw named.1 (file_met c named.0 file named.2)) (file_are c file words named)
 
--- ---- the commands with a trace and an image: `replay TRACE FILE`, `order TRACE FILE`, `picture TRACE FILE`, `story TRACE FILE` and `stats TRACE FILE`
+-- ---- the commands with a trace and an image: those of `TraceCommand`, `order TRACE FILE` and `picture TRACE FILE`
 
-data TraceCommand : Type 0 where
-  OfReplay : TraceCommand
-  OfOrder : TraceCommand
-  OfPicture : TraceCommand
-  OfStory : TraceCommand
-  OfStats : TraceCommand
+data OnTrace : Type 0 where
+  Alone : TraceCommand → OnTrace
+  OfOrder : OnTrace
+  OfPicture : OnTrace
 
-abbrev trace_command : TraceCommand → Text
-trace_command OfReplay = codes "replay"
-trace_command OfOrder = codes "order"
-trace_command OfPicture = codes "picture"
-trace_command OfStory = codes "story"
-trace_command OfStats = codes "stats"
+abbrev name_on_trace : OnTrace → Text
+name_on_trace (Alone c) = trace_name c
+name_on_trace OfOrder = codes "order"
+name_on_trace OfPicture = codes "picture"
 
-trace_met : (c : TraceCommand) (program trace file : Text) → IsNoOption trace → IsNoOption file →
-    Meets (program ∷ trace_command c ∷ trace ∷ file ∷ []) (trace_command c) (trace_rows trace file)
+trace_met : (c : OnTrace) (program one file : Text) → IsNoOption one → IsNoOption file →
+    Meets (program ∷ name_on_trace c ∷ one ∷ file ∷ []) (name_on_trace c) (trace_rows one file)
 unfolding row trace_rows clap_on_literals commands
-trace_met OfReplay program trace file h k =
-    rw (no_hyphens trace h, no_hyphen trace h, no_hyphen trace h, no_hyphens file k, no_hyphen file k, no_hyphen file k) (refl, refl)
-trace_met OfOrder program trace file h k =
-    rw (no_hyphens trace h, no_hyphen trace h, no_hyphen trace h, no_hyphens file k, no_hyphen file k, no_hyphen file k) (refl, refl)
-trace_met OfPicture program trace file h k =
-    rw (no_hyphens trace h, no_hyphen trace h, no_hyphen trace h, no_hyphens file k, no_hyphen file k, no_hyphen file k) (refl, refl)
-trace_met OfStory program trace file h k =
-    rw (no_hyphens trace h, no_hyphen trace h, no_hyphen trace h, no_hyphens file k, no_hyphen file k, no_hyphen file k) (refl, refl)
-trace_met OfStats program trace file h k =
-    rw (no_hyphens trace h, no_hyphen trace h, no_hyphen trace h, no_hyphens file k, no_hyphen file k, no_hyphen file k) (refl, refl)
+trace_met (Alone trace.Replay) program one file h k =
+    rw (no_hyphens one h, no_hyphen one h, no_hyphen one h, no_hyphens file k, no_hyphen file k, no_hyphen file k) (refl, refl)
+trace_met (Alone trace.Story) program one file h k =
+    rw (no_hyphens one h, no_hyphen one h, no_hyphen one h, no_hyphens file k, no_hyphen file k, no_hyphen file k) (refl, refl)
+trace_met (Alone trace.Stats) program one file h k =
+    rw (no_hyphens one h, no_hyphen one h, no_hyphen one h, no_hyphens file k, no_hyphen file k, no_hyphen file k) (refl, refl)
+trace_met OfOrder program one file h k =
+    rw (no_hyphens one h, no_hyphen one h, no_hyphen one h, no_hyphens file k, no_hyphen file k, no_hyphen file k) (refl, refl)
+trace_met OfPicture program one file h k =
+    rw (no_hyphens one h, no_hyphen one h, no_hyphen one h, no_hyphens file k, no_hyphen file k, no_hyphen file k) (refl, refl)
 
-trace_are : (c : TraceCommand) (trace file : Text) (words : List Text) → HasFiles (trace_command c) trace file words → (s : Settings)
-    → (name_of s ≡ trace_command c) × AreOf (trace_rows trace file) s → IsPlain s words
+trace_are : (c : OnTrace) (one file : Text) (words : List Text) → HasFiles (name_on_trace c) one file words → (s : Settings)
+    → (name_of s ≡ name_on_trace c) × AreOf (trace_rows one file) s → IsPlain s words
 unfolding name_of row trace_rows
-trace_are OfReplay trace file words named (asked.Replay r) said = replay_is trace file r words named said.1
-trace_are OfReplay trace file words named other said = apart (name_of other) (codes "replay") refl said.0
-trace_are OfOrder trace file words named (asked.Order o) said = (replay_is trace file o.replay words named said.1.0, said.1.1, said.1.2)
-trace_are OfOrder trace file words named other said = apart (name_of other) (codes "order") refl said.0
-trace_are OfPicture trace file words named (asked.Picture p) said = (replay_is trace file p.replay words named said.1.0, said.1.1)
-trace_are OfPicture trace file words named other said = apart (name_of other) (codes "picture") refl said.0
-trace_are OfStory trace file words named (asked.Story r) said = replay_is trace file r words named said.1
-trace_are OfStory trace file words named other said = apart (name_of other) (codes "story") refl said.0
-trace_are OfStats trace file words named (asked.Stats r) said = replay_is trace file r words named said.1
-trace_are OfStats trace file words named other said = apart (name_of other) (codes "stats") refl said.0
+trace_are (Alone c) one file words named (asked.Trace d r) said =
+    subst (λ name. HasTrace name r words) (sym said.0) (replay_is one file r words named said.1)
+trace_are (Alone c) one file words named other said = no_trace c (name_of other) refl (sym said.0)
+trace_are OfOrder one file words named (asked.Order o) said = (replay_is one file o.replay words named said.1.0, said.1.1, said.1.2)
+trace_are OfOrder one file words named (asked.Trace d r) said = no_trace d (codes "order") refl said.0
+trace_are OfOrder one file words named other said = apart (name_of other) (codes "order") refl said.0
+trace_are OfPicture one file words named (asked.Picture p) said = (replay_is one file p.replay words named said.1.0, said.1.1)
+trace_are OfPicture one file words named (asked.Trace d r) said = no_trace d (codes "picture") refl said.0
+trace_are OfPicture one file words named other said = apart (name_of other) (codes "picture") refl said.0
 
 -- the command gives both files, for 1,024 words, and chooses nothing
-trace_given : (c : TraceCommand) (trace file : Text) (words : List Text) → HasFiles (trace_command c) trace file words → GivePlain words
-trace_given c trace file words named =
-    give _ words (trace_command c) (trace_rows trace file) (rw named.1 (trace_met c named.0 trace file named.2 named.3)) (trace_are c trace file words named)
+trace_given : (c : OnTrace) (one file : Text) (words : List Text) → HasFiles (name_on_trace c) one file words → GivePlain words
+trace_given c one file words named =
+    give _ words (name_on_trace c) (trace_rows one file) (rw named.1 (trace_met c named.0 one file named.2 named.3)) (trace_are c one file words named)
 
 -- ---- `asm FILE OUT`
 
@@ -275,6 +271,7 @@ asm_are : (file out : Text) (words : List Text) → HasFiles (codes "asm") file 
     → (name_of s ≡ codes "asm") × AreOf (asm_rows file out) s → IsPlain s words
 unfolding name_of row asm_rows
 asm_are file out words named (asked.Asm a) said = files_read file a.file.now out a.out.now words named said.1.0 said.1.1
+asm_are file out words named (asked.Trace d r) said = no_trace d (codes "asm") refl said.0
 asm_are file out words named other said = apart (name_of other) (codes "asm") refl said.0
 
 -- `asm FILE OUT` gives both files
@@ -307,6 +304,7 @@ run_are file words named (asked.Run r) said =
       budget.0,
       start.0,
     )
+run_are file words named (asked.Trace d r) said = no_trace d (codes "run") refl said.0
 run_are file words named other said = apart (name_of other) (codes "run") refl said.0
 
 -- `run FILE` gives the file, no trace, no flag, and each number its default
@@ -340,6 +338,7 @@ hunt_are file words named (asked.Hunt h) said =
       runs.0,
       start.0,
     )
+hunt_are file words named (asked.Trace d r) said = no_trace d (codes "hunt") refl said.0
 hunt_are file words named other said = apart (name_of other) (codes "hunt") refl said.0
 
 -- `hunt FILE` gives the file, no trace, no flag, and each number its default
@@ -366,6 +365,7 @@ explain_are : (code : Option Text) (words : List Text) → HasCode (codes "expla
     → (name_of s ≡ codes "explain") × AreOf (explain_rows code) s → IsPlain s words
 unfolding name_of
 explain_are code words named (asked.Explain x) said = subst (λ c. HasCode (codes "explain") c words) (explain_code code x said.1) named
+explain_are code words named (asked.Trace d r) said = no_trace d (codes "explain") refl said.0
 explain_are code words named other said = apart (name_of other) (codes "explain") refl said.0
 
 -- `explain CODE` gives the code, and `explain` none
@@ -398,6 +398,7 @@ explore_are file words named (asked.Explore x) said =
       states.0,
       said.1.7,
     )
+explore_are file words named (asked.Trace d r) said = no_trace d (codes "explore") refl said.0
 explore_are file words named other said = apart (name_of other) (codes "explore") refl said.0
 
 -- `explore FILE` gives the file, no trace, no flag, no witness, and each number its default
@@ -416,10 +417,8 @@ plain_given (asked.Dis d) words said = file_given OfDis d.file.now words said.0
 plain_given (asked.Run r) words said = run_given r.file.now words said.0
 plain_given (asked.Hunt h) words said = hunt_given h.file.now words said.0
 plain_given (asked.Explore x) words said = explore_given x.file.now words said.0
-plain_given (asked.Replay r) words said = trace_given OfReplay r.trace.now r.file.now words said.0
+plain_given (asked.Trace c r) words said = trace_given (Alone c) r.trace.now r.file.now words said.0
 plain_given (asked.Order o) words said = trace_given OfOrder o.replay.trace.now o.replay.file.now words said.0.0
-plain_given (asked.Story r) words said = trace_given OfStory r.trace.now r.file.now words said.0
-plain_given (asked.Stats r) words said = trace_given OfStats r.trace.now r.file.now words said.0
 plain_given (asked.Picture p) words said = trace_given OfPicture p.replay.trace.now p.replay.file.now words said.0.0
 plain_given (asked.Debug d) words said = file_given OfDebug d.file.now words said.0
 plain_given (asked.Explain e) words said = explain_given (option_map (λ c. c.now) e.code) words said

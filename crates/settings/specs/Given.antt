@@ -2,7 +2,9 @@
 use Rattle.std.specs.Prelude.{◌≡◌, ◌⊎◌, pos, true, List, [], ◌∷◌, codes, Option, is_some, option_map, IfSome, IsSomeAnd}
 use Rattle.clap.specs.Words.{IsSignedIn, Row, Text, first_of, one_of, without_minus}
 use Rattle.command_forms.specs.Commands.{Bounds, budget, combinations, port, processor, queue, records, runs}
-use Rattle.command_forms.specs.Commands.{shared_word, shared_words, stages, start, states, step, steps, witness}
+use Rattle.command_forms.specs.Commands.{shared_word, shared_words, stages, start, states, step, steps, trace_name}
+use Rattle.command_forms.specs.Commands.{witness}
+use Rattle.command_forms.specs.declared.forms.TraceCommand.{TraceCommand}
 
 abbrev pub HasPath : Text → List Row → Type 0
 HasPath id rows = is_some (first_of id rows) ≡ true
@@ -47,12 +49,15 @@ HasHunt rows =
     HasPath (codes "FILE") rows × HasSizes rows × HasNumber steps.bounds rows × HasNumber runs.bounds rows
     × HasNumber start.bounds rows
 
--- the subcommands of the program
+-- the subcommands of the program but those that `TraceCommand` has
 abbrev pub command_names : List Text
 command_names =
     codes "words" ∷ codes "check" ∷ codes "asm" ∷ codes "dis" ∷ codes "run" ∷ codes "hunt" ∷ codes "explore"
-    ∷ codes "replay" ∷ codes "order" ∷ codes "story" ∷ codes "stats" ∷ codes "picture" ∷ codes "debug" ∷ codes
-    "explain" ∷ []
+    ∷ codes "order" ∷ codes "picture" ∷ codes "debug" ∷ codes "explain" ∷ []
+
+-- the name is of a subcommand that `TraceCommand` has
+abbrev pub IsTraceName : Text → Type 0
+IsTraceName name = (command : TraceCommand) × (name ≡ trace_name command)
 
 abbrev pub IsOneOf : Text → List Text → Type 0
 IsOneOf name [] = ⊥
@@ -60,7 +65,7 @@ IsOneOf name (x ∷ xs) = (name ≡ x) ⊎ IsOneOf name xs
 
 -- the name and the rows are of a subcommand of the program's, with all that has to be given
 pub record IsWhole (name : Text) (rows : List Row) : Type 0 where
-  pub known : IsOneOf name command_names
+  pub known : IsTraceName name ⊎ IsOneOf name command_names
   pub words : name ≡ codes "words" → HasPath (codes "FILE") rows
   pub check : name ≡ codes "check" → HasPath (codes "FILE") rows
   pub asm : name ≡ codes "asm" → HasAsm rows
@@ -68,10 +73,8 @@ pub record IsWhole (name : Text) (rows : List Row) : Type 0 where
   pub run : name ≡ codes "run" → HasRun rows
   pub hunt : name ≡ codes "hunt" → HasHunt rows
   pub explore : name ≡ codes "explore" → HasExplore rows
-  pub replay : name ≡ codes "replay" → HasReplay rows
+  pub trace : (command : TraceCommand) → name ≡ trace_name command → HasReplay rows
   pub order : name ≡ codes "order" → HasOrder rows
-  pub story : name ≡ codes "story" → HasReplay rows
-  pub stats : name ≡ codes "stats" → HasReplay rows
   pub picture : name ≡ codes "picture" → HasPicture rows
   pub debug : name ≡ codes "debug" → HasDebug rows
 

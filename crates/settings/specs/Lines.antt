@@ -20,7 +20,7 @@ use Rattle.settings.specs.declared.choice.Explain.{Explain}
 use Rattle.settings.specs.declared.choice.Sizes.{Sizes}
 use Rattle.command_forms.specs.Commands.{Bounds, Ranged, stages, queue, records, combinations, shared_words}
 use Rattle.command_forms.specs.Commands.{budget, steps, port, states, runs, start, processor, shared_word}
-use Rattle.command_forms.specs.Commands.{witness, step, ultra_command}
+use Rattle.command_forms.specs.Commands.{witness, step, trace_name, ultra_command}
 
 abbrev pub IsPath : Text → List Row → Text → Type 0
 IsPath id rows file = first_of id rows ≡ Some file
@@ -111,10 +111,8 @@ IsChosen stop (asked.Dis d) = Named stop (codes "dis") (λ rows. GivesDis rows d
 IsChosen stop (asked.Run r) = Named stop (codes "run") (λ rows. GivesRun rows r)
 IsChosen stop (asked.Hunt h) = Named stop (codes "hunt") (λ rows. GivesHunt rows h)
 IsChosen stop (asked.Explore x) = Named stop (codes "explore") (λ rows. GivesExplore rows x)
-IsChosen stop (asked.Replay r) = Named stop (codes "replay") (λ rows. GivesReplay rows r)
+IsChosen stop (asked.Trace c r) = Named stop (trace_name c) (λ rows. GivesReplay rows r)
 IsChosen stop (asked.Order o) = Named stop (codes "order") (λ rows. GivesOrder rows o)
-IsChosen stop (asked.Story r) = Named stop (codes "story") (λ rows. GivesReplay rows r)
-IsChosen stop (asked.Stats r) = Named stop (codes "stats") (λ rows. GivesReplay rows r)
 IsChosen stop (asked.Picture p) = Named stop (codes "picture") (λ rows. GivesPicture rows p)
 IsChosen stop (asked.Debug d) = Named stop (codes "debug") (λ rows. GivesSession rows d)
 IsChosen stop (asked.Explain e) = Named stop (codes "explain") (λ rows. GivesExplain rows e)

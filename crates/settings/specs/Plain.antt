@@ -3,6 +3,7 @@ use Rattle.std.specs.Prelude.{◌≡◌, ◌≢◌, false, List, [], ◌∷◌, 
 use Rattle.std.specs.Prelude.{IfSome}
 use Rattle.std.specs.Borrow.{Bor}
 use Rattle.clap.specs.Words.{Text}
+use Rattle.command_forms.specs.Commands.{trace_name}
 use Rattle.settings.specs.declared.choice.Settings.{Settings}
 use Rattle.settings.specs.declared.choice.Settings.TheVariants as asked
 use Rattle.settings.specs.declared.choice.Replay.{Replay}
@@ -58,10 +59,8 @@ IsPlain (asked.Hunt h) words = HasFile (codes "hunt") h.file.now words
 IsPlain (asked.Explore x) words = HasFile (codes "explore") x.file.now words
     × (x.trace ≡ None) × (x.each ≡ false) × (x.every ≡ false) × (x.quiet ≡ false)
     × AreUsual x.sizes × (x.states ≡ 1000000) × (x.witness ≡ None)
-IsPlain (asked.Replay r) words = HasTrace (codes "replay") r words
+IsPlain (asked.Trace c r) words = HasTrace (trace_name c) r words
 IsPlain (asked.Order o) words = HasTrace (codes "order") o.replay words × (o.processor ≡ None) × (o.word ≡ None)
-IsPlain (asked.Story r) words = HasTrace (codes "story") r words
-IsPlain (asked.Stats r) words = HasTrace (codes "stats") r words
 IsPlain (asked.Picture p) words = HasTrace (codes "picture") p.replay words × (p.step ≡ None)
 IsPlain (asked.Debug d) words = HasFile (codes "debug") d.file.now words
     × (d.trace ≡ None) × AreUsual d.sizes × (d.budget ≡ 100000) × (d.port ≡ 3333)

@@ -1,5 +1,7 @@
 //! What a run of the program is asked for.
 
+use command_forms::TraceCommand;
+
 /// What to do, and with which files and numbers.
 #[derive(Debug, PartialEq, Eq, Drop)]
 pub enum Settings<'a> {
@@ -10,10 +12,8 @@ pub enum Settings<'a> {
     Run(Run<'a>),
     Hunt(Hunt<'a>),
     Explore(Explore<'a>),
-    Replay(Replay<'a>),
+    Trace(TraceCommand, Replay<'a>),
     Order(Order<'a>),
-    Story(Replay<'a>),
-    Stats(Replay<'a>),
     Picture(Picture<'a>),
     Debug(Session<'a>),
     Explain(Explain<'a>),

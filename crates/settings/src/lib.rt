@@ -10,3 +10,4 @@ pub use choice::{
     Asm, Check, Dis, Explain, Explore, Hunt, Order, Picture, Replay, Run, Session, Settings, Sizes,
     Words,
 };
+pub use command_forms::TraceCommand;

@@ -15,7 +15,8 @@ use crate::choice::{
 use clap::ArgMatches;
 use command_forms::{
     BUDGET, COMBINATIONS, ChoiceOption, FIRST_START, NumberOption, PORT, PROCESSOR, QUEUE, RECORDS,
-    RUN_STEPS, RUNS, SHARED_WORD, SHARED_WORDS, STAGES, START, STATES, STEP, STEPS, WITNESS,
+    RUN_STEPS, RUNS, SHARED_WORD, SHARED_WORDS, STAGES, START, STATES, STEP, STEPS, TraceCommand,
+    WITNESS,
 };
 
 /// A file that has to be given.
@@ -277,6 +278,9 @@ pub(crate) fn chosen<'a>(matches: &ArgMatches<'a>) -> Settings<'a>
     ensures { IsChosen (subcommand_rows_of matches.now) result }
 {
     let (name, inner) = matches.subcommand().unwrap();
+    if let Some(command) = TraceCommand::named(name) {
+        return Settings::Trace(command, replay(inner));
+    }
     match name {
         "words" => Settings::Words(words(inner)),
         "check" => Settings::Check(check(inner)),
@@ -285,10 +289,7 @@ pub(crate) fn chosen<'a>(matches: &ArgMatches<'a>) -> Settings<'a>
         "run" => Settings::Run(run(inner)),
         "hunt" => Settings::Hunt(hunt(inner)),
         "explore" => Settings::Explore(explore(inner)),
-        "replay" => Settings::Replay(replay(inner)),
         "order" => Settings::Order(order(inner)),
-        "story" => Settings::Story(replay(inner)),
-        "stats" => Settings::Stats(replay(inner)),
         "picture" => Settings::Picture(picture(inner)),
         "debug" => Settings::Debug(session(inner)),
         "explain" => Settings::Explain(explain(inner)),

@@ -29,7 +29,9 @@ use link::{LinkWrite, Meter};
 use machine_picture::Svg;
 use processor_threads::Open;
 use run_command::{Progress, run_command, threaded_run_command};
-use settings::{Explore, Hunt, Replay, Run, Session, Settings, Sizes, settings, status_of};
+use settings::{
+    Explore, Hunt, Replay, Run, Session, Settings, Sizes, TraceCommand, settings, status_of,
+};
 use std::alloc::{AllocError, Global};
 use std::env;
 use std::io::{self, ErrorKind, IsTerminal, Read, Write};
@@ -168,7 +170,11 @@ fn execute<
         Settings::Run(run) => run_file(rt, run, terminal, reason, out, err),
         Settings::Hunt(hunt) => hunt_file(rt, hunt, terminal, reason, out, err),
         Settings::Explore(explore) => explore_file(rt, explore, terminal, reason, out, err),
-        Settings::Replay(replay) => tell_steps(rt, replay, &Report, reason, out, err),
+        Settings::Trace(command, replay) => match command {
+            TraceCommand::Replay => tell_steps(rt, replay, &Report, reason, out, err),
+            TraceCommand::Story => tell_steps(rt, replay, &Story, reason, out, err),
+            TraceCommand::Stats => tell_steps(rt, replay, &Stats, reason, out, err),
+        },
         Settings::Order(order) => {
             let choice = Choice {
                 processor: order.processor,
@@ -179,8 +185,6 @@ fn execute<
             let words = order.replay.words;
             Ok(order_command(alloc, trace, file, words, &Order { choice }, out, err))
         }
-        Settings::Story(replay) => tell_steps(rt, replay, &Story, reason, out, err),
-        Settings::Stats(replay) => tell_steps(rt, replay, &Stats, reason, out, err),
         Settings::Picture(asked) => {
             let picture = Picture {
                 step: asked.step,

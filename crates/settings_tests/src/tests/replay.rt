@@ -2,25 +2,25 @@
 
 /// Ways to ask for `replay`, `story` and `stats`.
 pub const TAKEN: &str = r#"$ ultra replay a.trace a.elf
-Replay(Replay { trace: "a.trace", file: "a.elf", words: 1024 })
+Trace(Replay, Replay { trace: "a.trace", file: "a.elf", words: 1024 })
 $ ultra replay --words 1 a.trace a.elf
-Replay(Replay { trace: "a.trace", file: "a.elf", words: 1 })
+Trace(Replay, Replay { trace: "a.trace", file: "a.elf", words: 1 })
 $ ultra replay a.trace --words=262144 a.elf
-Replay(Replay { trace: "a.trace", file: "a.elf", words: 262144 })
+Trace(Replay, Replay { trace: "a.trace", file: "a.elf", words: 262144 })
 $ ultra replay a.trace a.elf --words 64
-Replay(Replay { trace: "a.trace", file: "a.elf", words: 64 })
+Trace(Replay, Replay { trace: "a.trace", file: "a.elf", words: 64 })
 $ ultra replay a.elf a.trace
-Replay(Replay { trace: "a.elf", file: "a.trace", words: 1024 })
+Trace(Replay, Replay { trace: "a.elf", file: "a.trace", words: 1024 })
 $ ultra replay -- --words 1
-Replay(Replay { trace: "--words", file: "1", words: 1024 })
+Trace(Replay, Replay { trace: "--words", file: "1", words: 1024 })
 $ ultra story a.trace a.elf
-Story(Replay { trace: "a.trace", file: "a.elf", words: 1024 })
+Trace(Story, Replay { trace: "a.trace", file: "a.elf", words: 1024 })
 $ ultra story a.trace a.elf --words 7
-Story(Replay { trace: "a.trace", file: "a.elf", words: 7 })
+Trace(Story, Replay { trace: "a.trace", file: "a.elf", words: 7 })
 $ ultra stats a.trace a.elf
-Stats(Replay { trace: "a.trace", file: "a.elf", words: 1024 })
+Trace(Stats, Replay { trace: "a.trace", file: "a.elf", words: 1024 })
 $ ultra stats --words=8 a.trace a.elf
-Stats(Replay { trace: "a.trace", file: "a.elf", words: 8 })
+Trace(Stats, Replay { trace: "a.trace", file: "a.elf", words: 8 })
 "#;
 
 /// Parts of the help.
