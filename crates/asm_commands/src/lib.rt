@@ -23,7 +23,7 @@ mod dis;
 mod fault_lines;
 mod faults;
 mod input;
-mod laws;
+pub mod laws;
 mod text_fault;
 mod words;
 
@@ -33,5 +33,4 @@ pub use code_lines::listing;
 pub use dis::dis_command;
 pub use faults::text_faults;
 pub use input::{MAX_TEXT_BYTES, read_text, text_of};
-pub use laws::{listed_where_present, none_where_there_is_a_meaning};
 pub use text_fault::TextFault;

@@ -9,7 +9,7 @@
 mod directive;
 mod fault;
 mod instruction;
-mod laws;
+pub mod laws;
 mod line;
 mod mnemonic;
 mod number;
@@ -20,10 +20,6 @@ mod text;
 
 pub use directive::Directive;
 pub use fault::{LineError, LineFault};
-pub use laws::{
-    blanks_change_nothing, comments_change_nothing, fields_again, numerals_are_read_alike,
-    written_again,
-};
 pub use line::read_line;
 pub use mnemonic::{Mnemonic, Order};
 pub use number::{low_bits, number_within};

@@ -5,7 +5,7 @@ ghost use Rattle.asm_lines.specs.Written.{text_of};
 ghost use Rattle.assembler.specs.Meaning.{IsMeaning, word_bytes};
 ghost use Rattle.rv_table.specs.Rows.{Spells};
 
-use asm_lines::{fields_again, written_again};
+use asm_lines::laws;
 use decode::encode;
 use flat_machine::CODE_START;
 use rv_table::Insn;
@@ -17,7 +17,7 @@ pub fn disassembled_again(insn: &Insn) -> u32
         (record { entry = CODE_START; code = word_bytes result; local = []; shared = [] }) }
 {
     // Laws of lines, for the proof alone.
-    fields_again();
-    written_again();
+    laws::fields_again();
+    laws::written_again();
     encode(insn)
 }

@@ -11,10 +11,7 @@ ghost use Rattle.assembler.specs.Meaning.{Labels, labels_of, lines_of, IsMeaning
 ghost use Rattle.assembler.specs.Openings.{IsReadAsText};
 ghost use Rattle.assembler.specs.Parts.{MakeValue};
 
-use elf_image::{
-    input_means_one_layout, machine_opens_on_the_layout, not_refused_is_accepted,
-    spelling_is_headers_and_bytes, spelling_means_its_layout,
-};
+use elf_image::laws;
 
 /// A text with a fault has no meaning.
 pub fn fault_or_meaning()
@@ -51,9 +48,9 @@ pub fn image_opens_on_the_text()
         → IsReadAsText text config (spelling layout) }
 {
     // Laws of images, for the proof alone.
-    input_means_one_layout();
-    machine_opens_on_the_layout();
-    not_refused_is_accepted();
-    spelling_is_headers_and_bytes();
-    spelling_means_its_layout();
+    laws::input_means_one_layout();
+    laws::machine_opens_on_the_layout();
+    laws::not_refused_is_accepted();
+    laws::spelling_is_headers_and_bytes();
+    laws::spelling_means_its_layout();
 }

@@ -54,7 +54,7 @@ mod disassembly;
 mod disassembly_laws;
 mod emit;
 mod fault;
-mod laws;
+pub mod laws;
 mod passes;
 mod place;
 mod program;
@@ -65,10 +65,6 @@ mod values;
 pub use disassembly::disassemble;
 pub use disassembly_laws::disassembled_again;
 pub use fault::{AsmError, AsmFault};
-pub use laws::{
-    fault_or_meaning, high_and_low_make_the_value, image_opens_on_the_text, meaning_fits,
-    one_meaning,
-};
 pub use passes::assemble;
 pub use program::Program;
 pub use sections::{base_of, misplacement, room_of, size_of};

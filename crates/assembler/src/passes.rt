@@ -7,7 +7,7 @@ ghost use Rattle.assembler.specs.Passes.{label_values};
 
 use crate::emit::emit_lines;
 use crate::fault::{AsmError, AsmFault};
-use crate::laws::meaning_fits;
+use crate::laws;
 use crate::place::place_lines;
 use crate::program::Program;
 use crate::symbol::Symbol;
@@ -55,6 +55,6 @@ pub fn assemble(alloc: Global, text: &str) -> Result<Program, AsmError>
     let entry = entry_of(&cursor.labels);
     let layout = emit_lines(alloc, &cursor.labels, &placed, entry)?;
     // A law of texts, for the proof alone.
-    meaning_fits();
+    laws::meaning_fits();
     Ok(Program::new(layout))
 }

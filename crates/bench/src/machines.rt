@@ -11,7 +11,7 @@ use assembler::assemble;
 use elf_image::{Image, read_image, write_image};
 use flat_machine::{Config, Status};
 use link::Meter;
-use machine_steps::{Machine, machine_is_well_formed};
+use machine_steps::{Machine, laws};
 use schedules::{Downs, Row, Services, Turns, Ups};
 use std::alloc::Global;
 use std::time::{Duration, Instant};
@@ -48,7 +48,7 @@ fn take_row<R: Row>(machine: &mut Machine, counts: &mut Counts, row: &R)
     requires there { R.is_there row.now machine.old.config.k }
     ensures config { machine.new.config ≡ machine.old.config }
 {
-    machine_is_well_formed(machine);
+    laws::machine_is_well_formed(machine);
     let mut wire = 0;
     while let Some(next) = row.first(machine, wire) {
         counts.add(&machine.apply(row.step(next)));

@@ -20,14 +20,13 @@
 #![tactic(auto)]
 
 mod answers;
-mod laws;
+pub mod laws;
 mod links;
 mod output;
 mod pool;
 mod switch;
 
 pub use answers::{Accepted, Answered};
-pub use laws::accepting_is_combining_queueing_or_refusing;
 pub use messages::{Record, Reply, Request, Seconds};
 pub use pool::{MAX_CELLS, Pool};
 pub use switch::{MAX_QUEUE, Switch};

@@ -6,13 +6,12 @@
 #![tactic(auto)]
 
 mod command;
-mod laws;
+pub mod laws;
 mod number;
 mod reader;
 mod word;
 mod written;
 
 pub use command::Command;
-pub use laws::{commands_are_spelled, one_reading};
 pub use reader::{Event, Line, LineReader, MAX_LINE, pack};
 pub use written::Written;

@@ -14,7 +14,7 @@ use crate::fields::{
 use crate::operations::{
     amo_op, branch_op, immediate_op, load_op, register_op, shift_op, store_op,
 };
-use rv_table::{Insn, UpperOp, spelled_is_read};
+use rv_table::{Insn, UpperOp, laws};
 
 // The masks of the table's rows. They select the opcode, and with it funct3, funct5 or funct7.
 const OPCODE: u32 = 0x0000_007F;
@@ -56,7 +56,7 @@ pub fn decode(word: u32) -> Option<Insn>
     ensures exact { (i : Insn) → (result ≡ Some i) ↔ Spells word i }
 {
     // The proof alone needs this law of the table.
-    spelled_is_read();
+    laws::spelled_is_read();
     decode_by_opcode(word)
 }
 

@@ -10,7 +10,7 @@ ghost use Rattle.elf_image.specs.Spellings.{spelling};
 ghost use Rattle.elf_image.specs.Openings.{opening};
 ghost use Rattle.elf_image.specs.Laws.{HasCause, IsFileOpening, IsLayoutOpening, IsOpenable};
 
-use crate::laws::loading_gives_the_meaning;
+use crate::laws;
 
 /// Input is accepted exactly if it is not refused. In accepted input the addresses of each segment are in one region,
 /// and no two segments set the same address.
@@ -19,7 +19,7 @@ pub fn not_refused_is_accepted()
         ↔ IsAccepted shared_words file }
 {
     // The proof alone needs this law of reading.
-    loading_gives_the_meaning();
+    laws::loading_gives_the_meaning();
 }
 
 /// Input that is refused has the cause that is reported.
@@ -62,5 +62,5 @@ pub fn spelling_means_its_layout()
         → IsAccepted shared_words (spelling layout) × IsMeant shared_words (spelling layout) layout }
 {
     // The proof alone needs this law of reading.
-    loading_gives_the_meaning();
+    laws::loading_gives_the_meaning();
 }

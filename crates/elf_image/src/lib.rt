@@ -19,7 +19,7 @@ mod error;
 mod header;
 mod image;
 mod image_laws;
-mod laws;
+pub mod laws;
 mod layout;
 mod load;
 mod read;
@@ -31,12 +31,6 @@ pub use bytes::Bytes;
 pub use error::ImageError;
 pub use flat_machine::Config;
 pub use image::Image;
-pub use image_laws::{
-    input_means_one_layout, machine_opens_on_the_file, machine_opens_on_the_layout,
-    not_refused_is_accepted, refusals_have_their_causes, spelling_is_headers_and_bytes,
-    spelling_means_its_layout,
-};
-pub use laws::loading_gives_the_meaning;
 pub use layout::Layout;
 pub use link::{Link, LinkRead, LinkWrite, Meter};
 pub use read::{MAX_IMAGE_BYTES, read_image};

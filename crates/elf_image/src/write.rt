@@ -17,7 +17,7 @@ use crate::layout::Layout;
 use crate::region::{READ_EXECUTE, READ_WRITE, Region};
 use crate::segment::PT_LOAD;
 use arrayvec::ArrayVec;
-use link::{LinkWrite, parts_make_a_beginning, write_whole};
+use link::{LinkWrite, laws, write_whole};
 
 /// The most bytes that the headers have: the ELF header and three program headers.
 const MAX_HEAD_BYTES: usize = 148;
@@ -40,7 +40,7 @@ pub fn write_image<W: LinkWrite>(writer: &mut W, layout: &Layout) -> Result<(), 
     ensures err { OnErr result (AppendsPart (W.contents writer.old) (W.contents writer.new) (spelling layout.now)) }
 {
     // The proof alone needs this law of writing in parts.
-    parts_make_a_beginning();
+    laws::parts_make_a_beginning();
     let head = head_of(layout);
     write_whole(writer, head.as_slice())?;
     write_whole(writer, layout.code.as_slice())?;

@@ -2,6 +2,8 @@
 
 ghost use Rattle.exploration.specs.Laws.{ExploringEitherWayStandsForTheSame, ResultsAreClosedUnderExchange};
 
+pub use crate::result_laws::results_are_those_of_the_flat_machine;
+
 /// If results stand for those of a machine, each exchange of a result of the machine is one.
 pub fn results_are_closed_under_exchange()
     ensures closed { ResultsAreClosedUnderExchange }

@@ -11,7 +11,7 @@
 #![tactic(auto)]
 
 mod ending;
-mod laws;
+pub mod laws;
 mod opening;
 mod order;
 mod outcome;
@@ -20,11 +20,9 @@ mod result_laws;
 mod run;
 mod way;
 
-pub use laws::{exploring_either_way_stands_for_the_same, results_are_closed_under_exchange};
 pub use opening::words_of;
 pub use outcome::{Explored, FinalResult, ProcessorResult};
 pub use refusal::Refusal;
-pub use result_laws::results_are_those_of_the_flat_machine;
 pub use run::{Search, explore};
 pub use state_graph::Termination;
 pub use state_search::{NoProgress, NonzeroWord, SearchObserver, SparseWords};

@@ -21,16 +21,12 @@ use crate::ending::results_of;
 use crate::opening::{cores_of, words_of};
 use crate::outcome::Explored;
 use crate::refusal::Refusal;
-use crate::result_laws::results_are_those_of_the_flat_machine;
 use crate::way::{place_of, way_of};
 use hart::Core;
 use local_memory::Code;
-use local_reduction::{LiveTable, dead_registers_can_be_forgotten};
-use machine_steps::{Machine, machine_is_well_formed};
-use state_graph::{
-    all_stood_for_are_results, each_result_is_stood_for, successors_decide_termination,
-    termination_of,
-};
+use local_reduction::LiveTable;
+use machine_steps::Machine;
+use state_graph::termination_of;
 use state_search::{
     Extent, MoveRefusal, Refusal as SearchRefusal, SearchObserver, SparseWords, StateSpace,
     StateTables, TransitionCaches, classes_of, search,
@@ -116,8 +112,8 @@ fn explore_as<G: SearchObserver>(
     ensures few { IfOk result (λ e. e.states < wish.limit) }
     ensures given_up { IfErr result (IsGivenUpFor (HasManyStates (flat_state machine.now) wish.limit)) }
 {
-    machine_is_well_formed(machine);
-    results_are_those_of_the_flat_machine();
+    machine_steps::laws::machine_is_well_formed(machine);
+    crate::laws::results_are_those_of_the_flat_machine();
     let extent = extent_of(machine, exchanged);
     let Ok(cores) = cores_of(alloc, machine) else {
         return Err(SearchRefusal::Memory);
@@ -212,10 +208,10 @@ fn explored<const N: usize, G: SearchObserver>(
     ensures few { IfOk result (λ e. e.states < wish.limit) }
     ensures given_up { IfErr result (IsGivenUpFor (HasManyStates (flat_of code.now cores.now words) wish.limit)) }
 {
-    all_stood_for_are_results();
-    each_result_is_stood_for();
-    successors_decide_termination();
-    dead_registers_can_be_forgotten();
+    state_graph::laws::all_stood_for_are_results();
+    state_graph::laws::each_result_is_stood_for();
+    state_graph::laws::successors_decide_termination();
+    local_reduction::laws::dead_registers_can_be_forgotten();
     let Ok(live) = LiveTable::new(alloc, code) else {
         return Err(SearchRefusal::Memory);
     };

@@ -15,7 +15,7 @@ mod config;
 mod effect;
 mod event;
 mod fault;
-mod laws;
+pub mod laws;
 mod poke;
 mod setting;
 mod size;
@@ -27,11 +27,6 @@ pub use config::{
 pub use effect::{Effect, Region};
 pub use event::{Cause, Event, Retired, Status};
 pub use fault::Fault;
-pub use laws::{
-    local_turns_commute, one_shared_word_changes, others_are_left_alone, pc_stays_aligned,
-    products_and_quotients, register_zero_is_zero, runs_join, stop_changes_the_status_alone,
-    stopped_processor_stays, words_stay_words,
-};
 pub use poke::{Entry, PC, Poke};
 pub use setting::Setting;
 pub use size::Size;

@@ -28,6 +28,7 @@ mod context;
 mod decision;
 mod function_laws;
 mod instructions;
+pub mod laws;
 mod processor;
 mod retirements;
 mod run;
@@ -36,13 +37,11 @@ mod saved;
 
 pub use decision::{Decision, Shape, Taken};
 pub use flat_machine::{Cause, Fault, Retired, Setting, Status};
-pub use function_laws::parts_are_bytes;
 pub use instructions::{
     amo, amo_add, amo_and, amo_max, amo_maxu, amo_min, amo_minu, amo_or, amo_swap, amo_xor, load,
     store, store_byte, store_half, store_word,
 };
-pub use processor::{Core, core_has_registers};
-pub use retirements::{Retirements, retirements_are_few};
+pub use processor::Core;
+pub use retirements::Retirements;
 pub use run::{LocalEnd, run_local};
-pub use run_laws::local_runs_are_turns;
 pub use saved::SavedCore;

@@ -12,7 +12,7 @@
 
 mod command;
 mod findings;
-mod laws;
+pub mod laws;
 mod lines;
 mod observer;
 mod refused;
@@ -23,7 +23,6 @@ mod schedule;
 
 pub use command::{Hunt, hunt_command};
 pub use findings::{Findings, findings_text};
-pub use laws::random_runs_have_one_log;
 pub use lines::result_text;
 pub use observer::{HuntObserver, HuntProgress, NoHuntProgress};
 pub use refused::Refused;

@@ -12,11 +12,10 @@
 #![tactic(auto)]
 
 mod device;
-mod laws;
+pub mod laws;
 mod meter;
 mod transfer;
 
 pub use device::{Failed, Link, LinkRead, LinkWrite};
-pub use laws::parts_make_a_beginning;
 pub use meter::Meter;
 pub use transfer::{PIECE_BYTES, ReadError, fill, read_within, write_whole};

@@ -4,6 +4,13 @@ ghost use Rattle.local_reduction.specs.Laws.{ClosedSetsAreNotLeft, ClosedSetsCon
 ghost use Rattle.local_reduction.specs.Laws.{MovesOfWhatIsKept, ShortSchedulesEnd, StoppedAreForgotten};
 ghost use Rattle.local_reduction.specs.Laws.{WhatComesBackNeverAsks, WhatComesBackSpins};
 
+pub use crate::exchanges::{
+    each_exchange_is_reached, moves_are_of_any, moves_up_to_are_turns, numbers_are_not_asked_for,
+    sets_closed_up_to_are_not_left, sets_closed_up_to_contain_all_final_states,
+    short_up_to_schedules_end,
+};
+pub use crate::live_laws::{dead_registers_are_not_kept, dead_registers_can_be_forgotten};
+
 /// A closed set of states that has the state to which a flat machine settles has each end of that machine: what is kept
 /// of each state in which all processors have stopped, and of what they have printed. A set is closed if it has with
 /// each state those after a reference of each of its processors, or a processor of that state spins.

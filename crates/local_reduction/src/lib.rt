@@ -15,20 +15,9 @@
 #![tactic(auto)]
 
 mod exchanges;
-mod laws;
+pub mod laws;
 mod live_laws;
 mod needs;
 mod table;
 
-pub use exchanges::{
-    each_exchange_is_reached, moves_are_of_any, moves_up_to_are_turns, numbers_are_not_asked_for,
-    sets_closed_up_to_are_not_left, sets_closed_up_to_contain_all_final_states,
-    short_up_to_schedules_end,
-};
-pub use laws::{
-    closed_sets_are_not_left, closed_sets_contain_all_final_states, moves_are_of_what_is_kept,
-    moves_are_turns, short_schedules_end, stopped_processors_can_be_forgotten,
-    what_comes_back_spins,
-};
-pub use live_laws::{dead_registers_are_not_kept, dead_registers_can_be_forgotten};
 pub use table::LiveTable;

@@ -2,7 +2,7 @@
 
 ghost use Rattle.local_reduction.specs.Forgetting.{DeadAreForgotten, DeadAreNotKept};
 
-use crate::laws::stopped_processors_can_be_forgotten;
+use crate::laws;
 
 /// What is written to a register that is not live is not kept.
 pub fn dead_registers_are_not_kept()
@@ -14,5 +14,5 @@ pub fn dead_registers_are_not_kept()
 pub fn dead_registers_can_be_forgotten()
     ensures forgotten { DeadAreForgotten }
 {
-    stopped_processors_can_be_forgotten();
+    laws::stopped_processors_can_be_forgotten();
 }

@@ -7,7 +7,7 @@
 #![tactic(auto)]
 
 mod kinds;
-mod laws;
+pub mod laws;
 mod loan;
 mod locked_state;
 mod pass;
@@ -21,7 +21,6 @@ pub use flat_machine::Event;
 pub use ghost_map::NewTable;
 pub use hart::LocalEnd;
 pub use kinds::{is_stop, is_waiting};
-pub use laws::{events_are_listed, lists_are_joined, places_rise, stopped_are_shut};
 pub use loan::Loan;
 pub use locked_state::{LockedState, Round, Rounds};
 pub use machine_log::{LockRefusal, Logged, ReservedLog};

@@ -6,7 +6,7 @@ ghost use Rattle.machine_lock.specs.Passes.{HasGoneOn};
 
 use crate::run::Run;
 use flat_machine::Retired;
-use hart::{Core, LocalEnd, Retirements, retirements_are_few, run_local};
+use hart::{Core, LocalEnd, Retirements, laws, run_local};
 use local_memory::Code;
 use machine_log::Lent;
 use std::alloc::Global;
@@ -50,7 +50,7 @@ impl<N: Run> Loan<N> {
         ensures { HasGoneOn N.opening.code self.old self.new result }
     {
         let end = run_local(&mut self.core, &self.code, &mut self.retired);
-        retirements_are_few(&self.retired);
+        laws::retirements_are_few(&self.retired);
         end
     }
 

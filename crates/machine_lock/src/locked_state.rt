@@ -22,7 +22,7 @@ use crate::stored::PassStateVec;
 use ghost_map::{Authority, Fragment, Next};
 use hart::Retirements;
 use local_memory::Code;
-use machine_log::{Lending, LockRefusal, Logged, lending_is_well_formed};
+use machine_log::{Lending, LockRefusal, Logged, laws};
 use std::alloc::Global;
 use std::marker::{Brand, Model, PhantomData};
 use std::sync::Arc;
@@ -118,7 +118,7 @@ fn take(
     ensures unnamed { result ≡ Err LockRefusal.Unnamed → ⊥ }
     ensures not_free { result ≡ Err LockRefusal.NotFree → ⊥ }
 {
-    lending_is_well_formed(lending);
+    laws::lending_is_well_formed(lending);
     if would_stall(lending.machine(), step) {
         stored.store_answer(processor, step, &Outcome::Stalled, place);
         return Ok(());
@@ -179,7 +179,7 @@ fn means(
     ensures room { (m : _) → result ≡ Some m →
         vec_len stored.now.pass_events + most ≤ vec_capacity stored.now.pass_events }
 {
-    lending_is_well_formed(lending);
+    laws::lending_is_well_formed(lending);
     if !stored.has_room_for(most as usize) {
         return None;
     }
@@ -217,7 +217,7 @@ impl<N: Run> LockedState<N> {
             stored,
             fragment,
         } = pass;
-        lending_is_well_formed(lending);
+        laws::lending_is_well_formed(lending);
         if lending.is_full() {
             return Err(LockRefusal::Full);
         }
@@ -362,7 +362,7 @@ impl<N: Run> LockedState<N> {
             return 0;
         }
         self.sync_row(pass);
-        lending_is_well_formed(&self.lending);
+        laws::lending_is_well_formed(&self.lending);
         let skipped = idle_rounds(self.lending.machine(), pass.processor, steps);
         if skipped == 0 {
             return 0;
@@ -425,7 +425,7 @@ impl<N: Run> LockedState<N> {
             stored,
             fragment,
         } = pass;
-        lending_is_well_formed(lending);
+        laws::lending_is_well_formed(lending);
         let means = means(lending, stored, most, list);
         let (core, record) = lending.lend(*processor, most)?;
         let Some((retired, code)) = means else {
@@ -465,7 +465,7 @@ impl<N: Run> LockedState<N> {
             stored,
             fragment,
         } = pass;
-        lending_is_well_formed(lending);
+        laws::lending_is_well_formed(lending);
         let place = lending.steps().len();
         let Loan {
             processor: _,
@@ -490,7 +490,7 @@ impl<N: Run> LockedState<N> {
                 of,
             });
         }
-        lending_is_well_formed(lending);
+        laws::lending_is_well_formed(lending);
         stored.store_retirements(*processor, retired.as_slice(), place as u32);
         stored.lent = None;
         write_row(authority, fragment, stored);

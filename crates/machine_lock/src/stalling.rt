@@ -8,7 +8,7 @@ ghost use Rattle.machine_lock.specs.Lists.{IsIdleMove, Stalls};
 
 use crate::kinds::is_of_network;
 use machine_log::names;
-use machine_steps::{Machine, machine_is_well_formed};
+use machine_steps::{Machine, laws};
 use steps::Step;
 
 /// Whether a step has no message, and so stalls: no request to move or to serve, no reply to move, or none for which
@@ -18,7 +18,7 @@ pub(crate) fn would_stall(machine: &Machine, step: Step) -> bool
     requires { is_named machine.now.config step ≡ true }
     ensures { result ≡ true → Stalls machine.now step }
 {
-    machine_is_well_formed(machine);
+    laws::machine_is_well_formed(machine);
     match step {
         Step::Turn(p) => is_open(machine, p) && has_no_reply(machine, 0, p),
         Step::Up { stage, wire } => has_no_request(machine, stage, wire),
@@ -56,7 +56,7 @@ pub(crate) fn idle_rounds(machine: &Machine, processor: u8, steps: &[Step]) -> u
 fn is_idle_move(machine: &Machine, step: Step) -> bool
     ensures { result ≡ true → IsIdleMove machine.now step }
 {
-    machine_is_well_formed(machine);
+    laws::machine_is_well_formed(machine);
     is_of_network(step) && names(machine.config(), &step) && would_stall(machine, step)
 }
 
@@ -76,7 +76,7 @@ fn has_no_request(machine: &Machine, stage: u8, wire: u8) -> bool
     requires wire { wire < 2 ^ machine.now.config.k }
     ensures { result ≡ true → (net_of machine.now.network).requests stage wire ≡ [] }
 {
-    machine_is_well_formed(machine);
+    laws::machine_is_well_formed(machine);
     !machine.network().has_request(stage, wire)
 }
 
@@ -87,6 +87,6 @@ fn has_no_reply(machine: &Machine, stage: u8, wire: u8) -> bool
     requires wire { wire < 2 ^ machine.now.config.k }
     ensures { result ≡ true → (net_of machine.now.network).replies stage wire ≡ [] }
 {
-    machine_is_well_formed(machine);
+    laws::machine_is_well_formed(machine);
     !machine.network().has_reply(stage, wire)
 }

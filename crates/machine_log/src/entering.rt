@@ -10,7 +10,7 @@ ghost use Rattle.machine_steps.specs.Whole.{one_steps, IsOne, IsPoked};
 ghost use Rattle.machine_log.specs.Logs.{entered, AreLawful, ArePoked, IsEntered};
 
 use flat_machine::Poke;
-use machine_steps::{Machine, machine_is_well_formed};
+use machine_steps::{Machine, laws};
 use steps::{Outcome, Step};
 
 /// Takes a step, and enters it in a list unless it stalls. The list has room for it.
@@ -45,7 +45,7 @@ pub(crate) fn one(machine: &mut Machine, steps: &mut Vec<Step>, p: u8) -> Outcom
     ensures capacity { vec_capacity steps.new ≡ vec_capacity steps.old }
 {
     let Ok(outcome) = machine.one_observed(p, steps);
-    machine_is_well_formed(machine);
+    laws::machine_is_well_formed(machine);
     outcome
 }
 
@@ -59,7 +59,7 @@ pub(crate) fn drain(machine: &mut Machine, steps: &mut Vec<Step>) -> u32
     ensures capacity { vec_capacity steps.new ≡ vec_capacity steps.old }
 {
     let Ok(moves) = machine.drain_observed(steps);
-    machine_is_well_formed(machine);
+    laws::machine_is_well_formed(machine);
     moves
 }
 
@@ -73,7 +73,7 @@ pub(crate) fn pokes(machine: &mut Machine, steps: &mut Vec<Step>, pokes: &[Poke]
     ensures poked { ArePoked machine.old steps.old.items pokes.now machine.new steps.new.items }
     ensures capacity { vec_capacity steps.new ≡ vec_capacity steps.old }
 {
-    machine_is_well_formed(machine);
+    laws::machine_is_well_formed(machine);
     for poke in pokes {
         enter(machine, steps, Step::Poke(*poke));
     }

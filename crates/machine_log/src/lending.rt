@@ -19,10 +19,9 @@ use crate::lent::Lent;
 use crate::log::{Logged, names};
 use crate::refusal::LockRefusal;
 use flat_machine::{Retired, Status};
-use hart::{Core, core_has_registers};
+use hart::Core;
 use local_memory::Code;
-use machine_steps::{Machine, machine_is_well_formed, runs_are_joined};
-use machine_theory::{local_turns_catch_up, others_do_not_notice};
+use machine_steps::Machine;
 use std::alloc::{AllocError, Global};
 use std::marker::Model;
 use std::snapshot::Snapshot;
@@ -97,7 +96,7 @@ impl Lending {
             ≡ outcome_of self.now.log.machine.config self.now.log.machine.code
             (machine_of self.now.log.machine (λ p. [])) s }
     {
-        others_do_not_notice();
+        machine_theory::laws::others_do_not_notice();
         &self.machine
     }
 
@@ -154,7 +153,7 @@ impl Lending {
         ensures not_free { result ≡ Err LockRefusal.NotFree → ⊥ }
         ensures refused { OnErr result (self.new ≡ self.old) }
     {
-        others_do_not_notice();
+        machine_theory::laws::others_do_not_notice();
         if self.steps.len() + self.promises >= MAX_STEPS {
             return Err(LockRefusal::Full);
         }
@@ -216,7 +215,7 @@ impl Lending {
             return Err(LockRefusal::Memory);
         };
         let core = taken_out(&mut self.machine, p);
-        machine_is_well_formed(&self.machine);
+        machine_steps::laws::machine_is_well_formed(&self.machine);
         self.lent[usize::from(p)] = Some(kept);
         self.promises = promises;
         Ok((core, given))
@@ -248,11 +247,11 @@ impl Lending {
         if !self.is_record(p, &lent) {
             return Err((core, lent));
         }
-        local_turns_catch_up();
-        runs_are_joined();
-        core_has_registers(&core);
+        machine_theory::laws::local_turns_catch_up();
+        machine_steps::laws::runs_are_joined();
+        hart::laws::core_has_registers(&core);
         self.machine.put_core(p, core);
-        machine_is_well_formed(&self.machine);
+        machine_steps::laws::machine_is_well_formed(&self.machine);
         self.promises -= lent.most as usize;
         let kept = self.lent[usize::from(p)].take();
         put_by(&mut self.spares, p, kept, lent);
@@ -296,7 +295,7 @@ impl Lending {
             return;
         };
         self.machine.put_core(p, core);
-        machine_is_well_formed(&self.machine);
+        machine_steps::laws::machine_is_well_formed(&self.machine);
         self.promises -= most as usize;
     }
 }

@@ -14,6 +14,7 @@
 #![tactic(auto)]
 
 mod entering;
+pub mod laws;
 mod lending;
 mod lent;
 mod log;
@@ -22,9 +23,9 @@ mod replaying;
 mod reserved;
 
 pub use entering::enter;
-pub use lending::{Lending, lending_is_well_formed};
+pub use lending::Lending;
 pub use lent::Lent;
-pub use log::{Logged, log_is_well_formed, names};
+pub use log::{Logged, names};
 pub use refusal::LockRefusal;
 pub use replaying::{StalledStep, replay, replay_observed};
-pub use reserved::{ReservedLog, reserved_log_is_well_formed};
+pub use reserved::ReservedLog;

@@ -11,8 +11,9 @@ ghost use Rattle.machine_steps.specs.Whole.{one_steps, IsOne, IsPoked};
 ghost use Rattle.machine_log.specs.Logs.{is_named, opened, AreLawful, HasPoked, HasTaken, IsWellFormed, IsLonger};
 ghost use Rattle.machine_log.specs.Lending.{LendsRoom};
 
+use crate::laws;
 use crate::refusal::LockRefusal;
-use crate::reserved::{ReservedLog, reserved_log_is_well_formed};
+use crate::reserved::ReservedLog;
 use flat_machine::{Config, Poke};
 use machine_steps::Machine;
 use std::alloc::Global;
@@ -238,5 +239,5 @@ pub fn log_is_well_formed(log: &Logged)
     ensures home { AreHome log.now.machine }
     ensures replay { IsReplay log.now.opening log.now.steps log.now.machine }
 {
-    reserved_log_is_well_formed(&log.log);
+    laws::reserved_log_is_well_formed(&log.log);
 }

@@ -6,7 +6,7 @@ ghost use Rattle.machine_steps.specs.Noting.{AreNoted};
 ghost use Rattle.machine_steps.specs.Runs.{IsReplay, IsSerialized};
 ghost use Rattle.machine_log.specs.Replays.{StallsAt};
 
-use machine_steps::{Machine, machine_is_well_formed};
+use machine_steps::{Machine, laws};
 use steps::{NoObserver, Step, StepObserver};
 use thiserror::Error;
 
@@ -51,7 +51,7 @@ pub fn replay_observed<N: StepObserver>(
     ensures observed { IfOk result (λ replayed. OnOk replayed
         (AreNoted N.observed machine.old steps.now observer.old observer.new)) }
 {
-    machine_is_well_formed(machine);
+    laws::machine_is_well_formed(machine);
     for (place, step) in steps.iter().enumerate() {
         let outcome = machine.apply(*step);
         if outcome.is_stalled() {

@@ -10,7 +10,7 @@ ghost use Rattle.machine_log.specs.Logs.{opened, AreLawful, HasPoked, HasTaken, 
 use crate::entering;
 use crate::refusal::LockRefusal;
 use flat_machine::Poke;
-use machine_steps::{Machine, machine_is_well_formed};
+use machine_steps::{Machine, laws};
 use std::alloc::Global;
 use std::marker::Model;
 use std::snapshot::Snapshot;
@@ -50,7 +50,7 @@ impl ReservedLog {
         requires home { AreHome machine }
         ensures { result.log ≡ opened machine }
     {
-        machine_is_well_formed(&machine);
+        laws::machine_is_well_formed(&machine);
         let opening = Snapshot::of(&machine);
         ReservedLog {
             machine,

@@ -14,7 +14,7 @@ use crate::view::{MachineView, ProcessorView, SharedWord};
 use flat_machine::Status;
 use hart::Core;
 use local_memory::Code;
-use machine_steps::{Machine, machine_is_well_formed};
+use machine_steps::{Machine, laws};
 use std::alloc::{AllocError, Global};
 use trace_lines::word_of_instruction;
 
@@ -26,7 +26,7 @@ use trace_lines::word_of_instruction;
 pub fn view_of(alloc: Global, machine: &Machine, steps: usize) -> Result<MachineView, AllocError>
     ensures { IfOk result (λ view. view ≡ view_of machine.now steps) }
 {
-    machine_is_well_formed(machine);
+    laws::machine_is_well_formed(machine);
     let processors = processor_views(alloc, machine)?;
     let places = place_views(alloc, machine.network().as_network())?;
     Ok(MachineView {
@@ -83,7 +83,7 @@ fn word_referred(machine: &Machine, processor: u8) -> Option<SharedWord>
 fn shared_word(machine: &Machine, number: u32) -> SharedWord
     ensures { result ≡ shared_word machine.now number }
 {
-    machine_is_well_formed(machine);
+    laws::machine_is_well_formed(machine);
     SharedWord {
         number,
         value: machine.word(number).unwrap_or(0),

@@ -10,9 +10,8 @@
 #![tactic(auto)]
 
 mod begun;
-mod laws;
+pub mod laws;
 mod port;
 
 pub use begun::Begun;
-pub use laws::references_mean_their_changes;
 pub use port::Port;

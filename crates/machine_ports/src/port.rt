@@ -13,7 +13,7 @@ ghost use Rattle.machine_ports.specs.declared.begun.Begun.TheVariants as begins;
 
 use crate::begun::Begun;
 use flat_machine::{Cause, LOCAL_START, PC, REGION_BYTES, Retired, Setting, Status};
-use hart::{Core, Taken, core_has_registers};
+use hart::{Core, Taken, laws};
 use local_memory::Code;
 use rv_table::Register;
 use std::alloc::{AllocError, Global};
@@ -82,7 +82,7 @@ impl Port {
     {
         match &self.core {
             Some(core) => {
-                core_has_registers(core);
+                laws::core_has_registers(core);
                 false
             }
             None => true,
@@ -95,7 +95,7 @@ impl Port {
     {
         match &self.core {
             Some(core) => {
-                core_has_registers(core);
+                laws::core_has_registers(core);
                 Some(core)
             }
             None => None,
@@ -108,7 +108,7 @@ impl Port {
         ensures away { self.new ≡ with_state self.old no_processor }
     {
         let core = self.core.take()?;
-        core_has_registers(&core);
+        laws::core_has_registers(&core);
         Some(core)
     }
 

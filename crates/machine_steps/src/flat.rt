@@ -6,8 +6,8 @@ ghost use Rattle.machine_steps.specs.Machines.{AreHome};
 ghost use Rattle.machine_steps.specs.Openings.{flat_state};
 ghost use Rattle.machine_steps.specs.Seeing.{byte_seen};
 
-use crate::laws::flat_states_are_read;
-use crate::machine::{Machine, machine_is_well_formed};
+use crate::laws;
+use crate::machine::Machine;
 use flat_machine::Status;
 
 /// The number of processors.
@@ -15,8 +15,8 @@ pub fn flat_processors(machine: &Machine) -> u32
     ensures count { result ≡ length (flat_state machine.now).processors }
     ensures few { result ≤ 64 }
 {
-    machine_is_well_formed(machine);
-    flat_states_are_read();
+    laws::machine_is_well_formed(machine);
+    laws::flat_states_are_read();
     u32::from(machine.config().processors())
 }
 
@@ -25,8 +25,8 @@ pub fn flat_shared_words(machine: &Machine) -> u32
     ensures count { result ≡ length (flat_state machine.now).shared }
     ensures few { result ≤ 262144 }
 {
-    machine_is_well_formed(machine);
-    flat_states_are_read();
+    laws::machine_is_well_formed(machine);
+    laws::flat_states_are_read();
     machine.config().shared_words
 }
 
@@ -35,8 +35,8 @@ pub fn flat_status(machine: &Machine, processor: u32) -> Option<Status>
     requires home { AreHome machine.now }
     ensures { result ≡ option_map (λ p. p.status) (slice_get (flat_state machine.now).processors processor) }
 {
-    machine_is_well_formed(machine);
-    flat_states_are_read();
+    laws::machine_is_well_formed(machine);
+    laws::flat_states_are_read();
     machine.status(number(machine, processor)?)
 }
 
@@ -45,8 +45,8 @@ pub fn flat_pc(machine: &Machine, processor: u32) -> Option<u32>
     requires home { AreHome machine.now }
     ensures { result ≡ option_map (λ p. p.pc) (slice_get (flat_state machine.now).processors processor) }
 {
-    machine_is_well_formed(machine);
-    flat_states_are_read();
+    laws::machine_is_well_formed(machine);
+    laws::flat_states_are_read();
     machine.pc(number(machine, processor)?)
 }
 
@@ -56,8 +56,8 @@ pub fn flat_registers(machine: &Machine, processor: u32) -> Option<&[u32; 32]>
     ensures { option_copied result
         ≡ option_map (λ p. p.registers) (slice_get (flat_state machine.now).processors processor) }
 {
-    machine_is_well_formed(machine);
-    flat_states_are_read();
+    laws::machine_is_well_formed(machine);
+    laws::flat_states_are_read();
     machine.registers(number(machine, processor)?)
 }
 
@@ -65,8 +65,8 @@ pub fn flat_registers(machine: &Machine, processor: u32) -> Option<&[u32; 32]>
 pub fn flat_word(machine: &Machine, word: u32) -> u32
     ensures { result ≡ slice_index (flat_state machine.now).shared word }
 {
-    machine_is_well_formed(machine);
-    flat_states_are_read();
+    laws::machine_is_well_formed(machine);
+    laws::flat_states_are_read();
     machine.word(word).unwrap_or(0)
 }
 
@@ -75,8 +75,8 @@ pub fn flat_byte(machine: &Machine, processor: u32, address: u32) -> Option<u8>
     requires home { AreHome machine.now }
     ensures { result ≡ byte_seen (flat_state machine.now) processor address }
 {
-    machine_is_well_formed(machine);
-    flat_states_are_read();
+    laws::machine_is_well_formed(machine);
+    laws::flat_states_are_read();
     machine.seen(number(machine, processor)?, address)
 }
 

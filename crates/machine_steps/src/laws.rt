@@ -5,6 +5,10 @@ ghost use Rattle.machine_steps.specs.Laws.{EventsAreShown, FlatProcessorsAreRead
 ghost use Rattle.machine_steps.specs.Laws.{ReplaysAreJoined, ReplaysBegin, RunsAreJoined, RunsAreSerialized};
 ghost use Rattle.machine_steps.specs.Laws.{StallsAreNotEntered, StepsAreEntered};
 
+pub use crate::answer_laws::answers_go_on;
+pub use crate::machine::machine_is_well_formed;
+pub use crate::opening_laws::parts_are_the_opening;
+
 /// A replay begins with no step, and a step that is taken next comes last in it, unless it stalls.
 pub fn replays_go_on()
     ensures begins { ReplaysBegin }

@@ -24,7 +24,7 @@ mod answer_laws;
 mod entering;
 mod error;
 mod flat;
-mod laws;
+pub mod laws;
 mod listing;
 mod machine;
 mod modules;
@@ -36,20 +36,14 @@ mod service;
 mod states;
 mod turns;
 
-pub use answer_laws::answers_go_on;
 pub use error::NewError;
 pub use flat::{
     flat_byte, flat_pc, flat_processors, flat_registers, flat_shared_words, flat_status, flat_word,
 };
 pub use flat_machine::{Cause, Config, Entry, Fault, Poke, Retired, Status};
-pub use laws::{
-    answers_are_of_the_steps, cores_stay_home, flat_states_are_read, replays_are_cut,
-    replays_go_on, runs_are_joined, runs_are_serialized,
-};
-pub use machine::{Machine, machine_is_well_formed};
+pub use machine::Machine;
 pub use messages::Seconds;
 pub use modules::new_modules;
-pub use opening_laws::parts_are_the_opening;
 pub use ports::new_ports;
 pub use states::{any_is_faulted, any_runs};
 pub use steps::{Outcome, Step};

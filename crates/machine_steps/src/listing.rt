@@ -7,7 +7,8 @@ ghost use Rattle.machine_steps.specs.Ordering.{is_open_at};
 
 use crate::entering::SerialOrder;
 use crate::error::NewError;
-use crate::machine::{Machine, machine_is_well_formed};
+use crate::laws;
+use crate::machine::Machine;
 use flat_machine::Entry;
 use std::alloc::Global;
 use steps::Step;
@@ -29,13 +30,13 @@ impl Machine {
         ensures refused { OnErr result (self.new ≡ self.old) }
     {
         let mut order = SerialOrder::new(alloc, steps.len())?;
-        machine_is_well_formed(self);
+        laws::machine_is_well_formed(self);
         for &step in steps {
             let was_open = is_open_at(self, step);
             let outcome = self.apply(step);
             order.enter(step, was_open, outcome);
         }
-        machine_is_well_formed(self);
+        laws::machine_is_well_formed(self);
         Ok(order.into_entries())
     }
 }
@@ -44,7 +45,7 @@ impl Machine {
 fn is_open_at(machine: &Machine, step: Step) -> bool
     ensures { result ≡ is_open_at machine.now step }
 {
-    machine_is_well_formed(machine);
+    laws::machine_is_well_formed(machine);
     match step {
         Step::Turn(p) => match machine.is_open(p) {
             Some(is_open) => is_open,

@@ -38,11 +38,11 @@ use elf_image::Image;
 use flat_machine::{
     CODE_START, Config, LOCAL_START, PC, Poke, REGION_BYTES, SHARED_START, Size, Status,
 };
-use hart::{Core, core_has_registers};
+use hart::Core;
 use local_memory::Code;
 use machine_ports::Port;
 use memory_module::Module;
-use messages::{DownMove, UpMove, seconds_are_answered};
+use messages::{DownMove, UpMove};
 use omega_network::IndexedNetwork;
 use omega_wires::{WireSet, module_of};
 use std::alloc::{AllocError, Global};
@@ -208,7 +208,7 @@ impl Machine {
         ensures { result
             ≡ (if is_there self.now processor then byte_seen (flat_state self.now) processor address else None) }
     {
-        machine_is_well_formed(self);
+        crate::laws::machine_is_well_formed(self);
         if !self.is_there(processor) {
             return None;
         }
@@ -356,7 +356,7 @@ impl Machine {
             ≡ with_core (machine_of self.old shown) processor
             (record { state = core.state; events = shown processor }) }
     {
-        core_has_registers(&core);
+        hart::laws::core_has_registers(&core);
         self.ports[usize::from(processor)].put_core(core);
     }
 
@@ -383,10 +383,10 @@ impl Machine {
         ensures answered { AnswersAllSeconds self.old step result }
         ensures sound { IsMachine self.new }
     {
-        machine_is_well_formed(self);
-        seconds_are_answered();
+        crate::laws::machine_is_well_formed(self);
+        messages::laws::seconds_are_answered();
         let outcome = self.take(step);
-        machine_is_well_formed(self);
+        crate::laws::machine_is_well_formed(self);
         outcome
     }
 
@@ -549,7 +549,7 @@ impl Machine {
         requires home { AreHome self.old }
         ensures { IsStep self.old (Step.Poke (pokes.Shared address value)) result self.new }
     {
-        machine_is_well_formed(self);
+        crate::laws::machine_is_well_formed(self);
         if address < SHARED_START {
             return Outcome::Stalled;
         }

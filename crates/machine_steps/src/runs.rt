@@ -7,7 +7,8 @@ ghost use Rattle.machine_steps.specs.Noting.{AreNoted};
 ghost use Rattle.machine_steps.specs.Runs.{IsReplay, IsRun, IsSerialized};
 ghost use Rattle.machine_steps.specs.Whole.{one_steps, IsOne, IsSent};
 
-use crate::machine::{Machine, machine_is_well_formed};
+use crate::laws;
+use crate::machine::Machine;
 use crate::searching::next_step;
 use steps::{NoObserver, Outcome, Step, StepObserver};
 
@@ -17,11 +18,11 @@ impl Machine {
         ensures run { IsRun self.old steps.now self.new }
         ensures serialized { IsIdle self.old → IsSerialized self.old steps.now self.new }
     {
-        machine_is_well_formed(self);
+        laws::machine_is_well_formed(self);
         for step in steps {
             self.apply(*step);
         }
-        machine_is_well_formed(self);
+        laws::machine_is_well_formed(self);
     }
 
     /// The step that a drain takes next. `None` if no reference is open.
@@ -30,7 +31,7 @@ impl Machine {
         ensures goes_on { IfSome result (BringsNearer self.now) }
         ensures none { (result ≡ None) ↔ IsIdle self.now }
     {
-        machine_is_well_formed(self);
+        laws::machine_is_well_formed(self);
         next_step(self.network())
     }
 
@@ -97,7 +98,7 @@ impl Machine {
         ensures busy { IfOk result (λ o. (IsIdle self.old → ⊥) →
             (o ≡ Outcome.Stalled) × (self.new ≡ self.old) × (observer.new ≡ observer.old)) }
     {
-        machine_is_well_formed(self);
+        laws::machine_is_well_formed(self);
         if !self.is_idle() {
             return Ok(Outcome::Stalled);
         }
@@ -132,7 +133,7 @@ fn drain_within<N: StepObserver>(
     ensures observed { OnOk result (AreNoted N.observed machine.old
         (drain_steps machine.old) observer.old observer.new) }
 {
-    machine_is_well_formed(machine);
+    laws::machine_is_well_formed(machine);
     let mut last = Outcome::Issued;
     for moves in 0..bound {
         let Some(step) = machine.drain_step() else {

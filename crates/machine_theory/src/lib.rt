@@ -12,11 +12,5 @@
 //! The crate has no code that runs. Its laws are the contracts of functions that do nothing.
 #![tactic(auto)]
 
-mod laws;
+pub mod laws;
 mod loan_laws;
-
-pub use laws::one_order_explains_all;
-pub use loan_laws::{
-    cores_are_put, cores_that_are_away_rest, loans_are_runs, local_turns_catch_up,
-    others_do_not_notice,
-};

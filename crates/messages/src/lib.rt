@@ -12,12 +12,11 @@
 //! C-32(2), 1983. The wiring, the records and the moves are this project's own.
 #![tactic(auto)]
 
-mod laws;
+pub mod laws;
 mod message;
 mod moves;
 mod seconds;
 
-pub use laws::{moves_of_nothing_stall, seconds_are_answered};
 pub use message::{Record, Reply, Request};
 pub use moves::{DownMove, UpMove};
 pub use seconds::Seconds;

@@ -3,6 +3,8 @@
 ghost use Rattle.network_theory.specs.Changes.{AnsweringGivesEachItsOwn, AnsweringKeepsPlaces, CombiningJoinsGroups};
 ghost use Rattle.network_theory.specs.Changes.{CombiningKeepsPlaces, ServingEndsTheGroup, ServingExecutesTheGroup};
 
+pub use crate::path_laws::messages_keep_to_paths;
+
 /// A request is combined with an entry of a queue: each message and record is where its role says, and the entry stands
 /// for both groups.
 pub fn combining()

@@ -10,8 +10,5 @@
 //! The crate has no code that runs. Its theorems are the contracts of functions that do nothing.
 #![tactic(auto)]
 
-mod laws;
+pub mod laws;
 mod path_laws;
-
-pub use laws::{answering, combining, serving};
-pub use path_laws::messages_keep_to_paths;

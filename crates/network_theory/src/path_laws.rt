@@ -5,7 +5,7 @@ ghost use Rattle.network_theory.specs.Paths.{EmptyNetworksKeepToPaths, Injecting
 ghost use Rattle.network_theory.specs.Paths.{MovingUpKeepsToPaths, OthersDoNotCount, RepliesArrive, RequestsArrive};
 ghost use Rattle.network_theory.specs.Paths.{ServingKeepsToPaths, TakingKeepsToPaths};
 
-use omega_wires::{path_ends_at_the_module, replies_go_back_the_same_way};
+use omega_wires::laws;
 
 /// Messages keep to their paths: a message to or from a module is always on its leader's path to that module. This
 /// holds of an empty network, and each move of a message keeps it. So a request arrives at the module that has its
@@ -21,6 +21,6 @@ pub fn messages_keep_to_paths()
     ensures requests { RequestsArrive }
     ensures replies { RepliesArrive }
 {
-    path_ends_at_the_module();
-    replies_go_back_the_same_way();
+    laws::path_ends_at_the_module();
+    laws::replies_go_back_the_same_way();
 }

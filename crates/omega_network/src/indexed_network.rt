@@ -10,8 +10,8 @@ ghost use Rattle.omega_network.specs.Networks.{net_of, sizes_of};
 ghost use Rattle.omega_network.specs.Index.{IsLookedAt};
 
 use crate::network::Network;
-use messages::{DownMove, Reply, Request, UpMove, moves_of_nothing_stall};
-use omega_wires::{WireSet, no_bits_no_wires, rotate_right, rotations_are_inverse, switch_of};
+use messages::{DownMove, Reply, Request, UpMove};
+use omega_wires::{WireSet, rotate_right, switch_of};
 use std::alloc::{AllocError, Global};
 use std::marker::Model;
 
@@ -52,7 +52,7 @@ impl IndexedNetwork {
         ensures empty { IfOk result (λ n. IsEmptyNet (net_of n)) }
         ensures sizes { IfOk result (λ n. sizes_of n ≡ record { k = k; c = c; b = b; r = r }) }
     {
-        no_bits_no_wires();
+        omega_wires::laws::no_bits_no_wires();
         Ok(IndexedNetwork {
             network: Network::new(alloc, k, c, b, r)?,
             requests: [WireSet::new(); DEPTHS],
@@ -109,7 +109,7 @@ impl IndexedNetwork {
         if self.has_request(stage, wire) {
             self.move_up(stage, wire)
         } else {
-            moves_of_nothing_stall();
+            messages::laws::moves_of_nothing_stall();
             UpMove::Stalled
         }
     }
@@ -123,7 +123,7 @@ impl IndexedNetwork {
         ensures after { net_of self.new ≡ (moved_up (sizes_of self.old) (net_of self.old) stage wire).1 }
         ensures sizes { sizes_of self.new ≡ sizes_of self.old }
     {
-        rotations_are_inverse();
+        omega_wires::laws::rotations_are_inverse();
         let out = 2 * switch_of(self.stages(), wire);
         let moved = self.network.up(stage, wire);
         look_for_request(&self.network, &mut self.requests, stage, wire);
@@ -146,7 +146,7 @@ impl IndexedNetwork {
         if self.has_reply(stage + 1, wire) {
             self.move_down(stage, wire)
         } else {
-            moves_of_nothing_stall();
+            messages::laws::moves_of_nothing_stall();
             DownMove::Stalled
         }
     }

@@ -16,7 +16,7 @@ ghost use Rattle.omega_network.specs.Networks.{AreNew, HasNoMessage, HasNoRecord
 ghost use Rattle.omega_network.specs.Networks.{net_of, place, sizes_of, the_switch};
 
 use combining_switch::{Accepted, Answered, Pool, Switch};
-use messages::{DownMove, Record, Reply, Request, UpMove, moves_of_nothing_stall};
+use messages::{DownMove, Record, Reply, Request, UpMove, laws};
 use omega_wires::{module_of, wire_after};
 use phi_algebra::Phi;
 use std::alloc::{AllocError, Global};
@@ -152,7 +152,7 @@ impl Network {
         ensures sizes { sizes_of self.new ≡ sizes_of self.old }
     {
         let Some(request) = self.request_before(stage, wire) else {
-            moves_of_nothing_stall();
+            laws::moves_of_nothing_stall();
             return UpMove::Stalled;
         };
         self.move_up(stage, wire, request)
@@ -189,7 +189,7 @@ impl Network {
         // For the proof: a network has at most six stages.
         let _ = &self.k;
         let Some(reply) = self.reply_before(stage + 1, wire) else {
-            moves_of_nothing_stall();
+            laws::moves_of_nothing_stall();
             return DownMove::Stalled;
         };
         self.move_down(stage, wire, reply)

@@ -4,6 +4,8 @@ ghost use Rattle.omega_wires.specs.Laws.{PathEndsAtTheModule, PathsStayOnWires, 
 ghost use Rattle.omega_wires.specs.Laws.{RepliesEndAtTheirLeader, RepliesGoBackTheSameWay, RotationsAreInverse};
 ghost use Rattle.omega_wires.specs.Laws.{RotationsStayOnWires};
 
+pub use crate::set_laws::no_bits_no_wires;
+
 /// Each rotation undoes the other, and both take wires to wires.
 pub fn rotations_are_inverse()
     ensures inverse { RotationsAreInverse }

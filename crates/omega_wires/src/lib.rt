@@ -15,16 +15,11 @@
 //! replies undo the shuffle.
 #![tactic(auto)]
 
-mod laws;
+pub mod laws;
 mod set_laws;
 mod wire_set;
 mod wires;
 
-pub use laws::{
-    path_ends_at_the_module, paths_stay_on_wires, paths_that_meet_stay_together,
-    replies_go_back_the_same_way, rotations_are_inverse,
-};
-pub use set_laws::no_bits_no_wires;
 pub use wire_set::WireSet;
 pub use wires::{
     bit, input_port, module_of, path, rotate_left, rotate_right, switch_of, wire_after, wire_before,

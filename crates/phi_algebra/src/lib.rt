@@ -10,13 +10,11 @@
 #![tactic(auto)]
 
 mod composition;
-mod laws;
+pub mod laws;
 mod phi;
 mod range;
 
 pub use composition::compose;
-pub use laws::{
-    composition_is_associative, identity_is_neutral, keeps_its_range, one_kind_composes,
-};
+pub use laws::keeps_its_range;
 pub use phi::Phi;
 pub use range::{SignedRange, UnsignedRange};

@@ -14,8 +14,8 @@ ghost use Rattle.ring_network.specs.Offers.{accepted_on, answered_on, first_repl
 
 use crate::switch::Switch;
 use combining_switch::{Accepted, Answered};
-use messages::{DownMove, Record, Reply, Request, UpMove, moves_of_nothing_stall};
-use omega_wires::{input_port, module_of, rotate_left, rotations_are_inverse, wire_after};
+use messages::{DownMove, Record, Reply, Request, UpMove};
+use omega_wires::{input_port, module_of, rotate_left, wire_after};
 use phi_algebra::Phi;
 use std::alloc::{AllocError, Global};
 use std::marker::Model;
@@ -107,7 +107,7 @@ impl Network {
     pub fn is_empty(&self) -> bool
         ensures { IsTrue result ↔ IsEmptyNet (net_of self.now) }
     {
-        rotations_are_inverse();
+        omega_wires::laws::rotations_are_inverse();
         are_free(&self.slots) && are_empty(&self.switches) && are_free(&self.module_slots)
     }
 
@@ -142,7 +142,7 @@ impl Network {
         ensures sizes { sizes_of self.new ≡ sizes_of self.old }
     {
         let Some(request) = self.request_before(stage, wire) else {
-            moves_of_nothing_stall();
+            messages::laws::moves_of_nothing_stall();
             return UpMove::Stalled;
         };
         self.move_up(stage, wire, request)
@@ -186,7 +186,7 @@ impl Network {
         // For the proof: a network has at most six stages.
         let _ = &self.k;
         let Some(reply) = self.reply_before(stage + 1, wire) else {
-            moves_of_nothing_stall();
+            messages::laws::moves_of_nothing_stall();
             return DownMove::Stalled;
         };
         self.move_down(stage, wire, reply)
@@ -302,7 +302,7 @@ impl Network {
         requires wire { wire < 2 ^ self.now.k }
         ensures { result ≡ length ((net_of self.now).requests (suc stage) wire) }
     {
-        rotations_are_inverse();
+        omega_wires::laws::rotations_are_inverse();
         let switch = self.place_behind(stage, wire);
         self.switches[switch].request_count(wire % 2)
     }
@@ -313,7 +313,7 @@ impl Network {
         requires wire { wire < 2 ^ self.now.k }
         ensures { result ≡ length ((net_of self.now).replies stage wire) }
     {
-        rotations_are_inverse();
+        omega_wires::laws::rotations_are_inverse();
         let switch = self.place_before(stage, wire);
         self.switches[switch].reply_count(input_port(self.k, wire))
     }
@@ -324,7 +324,7 @@ impl Network {
         requires wire { wire < 2 ^ self.now.k }
         ensures { result.now ≡ (net_of self.now).records stage wire }
     {
-        rotations_are_inverse();
+        omega_wires::laws::rotations_are_inverse();
         let switch = self.place_behind(stage, wire);
         self.switches[switch].records(wire % 2)
     }
@@ -338,7 +338,7 @@ impl Network {
         if stage == 0 {
             self.slots[usize::from(wire)]
         } else {
-            rotations_are_inverse();
+            omega_wires::laws::rotations_are_inverse();
             let place = self.place_behind(stage - 1, wire);
             self.switches[place].front(wire % 2)
         }
@@ -365,7 +365,7 @@ impl Network {
         ensures taken { net_of self.new ≡ first_request_taken (net_of self.old) (suc stage) wire }
         ensures sizes { sizes_of self.new ≡ sizes_of self.old }
     {
-        rotations_are_inverse();
+        omega_wires::laws::rotations_are_inverse();
         let place = self.place_behind(stage, wire);
         self.switches[place].take(wire % 2);
     }
@@ -380,7 +380,7 @@ impl Network {
     {
         // The proof needs this field's type to be named.
         let _phi = request.phi;
-        rotations_are_inverse();
+        omega_wires::laws::rotations_are_inverse();
         let place = self.place_behind(stage, wire);
         self.switches[place].accept(wire % 2, request)
     }
@@ -394,7 +394,7 @@ impl Network {
         if stage == self.k {
             self.module_slots[usize::from(wire)]
         } else {
-            rotations_are_inverse();
+            omega_wires::laws::rotations_are_inverse();
             let place = self.place_before(stage, wire);
             self.switches[place].reply_front(input_port(self.k, wire))
         }
@@ -421,7 +421,7 @@ impl Network {
         ensures taken { net_of self.new ≡ first_reply_taken (net_of self.old) stage wire }
         ensures sizes { sizes_of self.new ≡ sizes_of self.old }
     {
-        rotations_are_inverse();
+        omega_wires::laws::rotations_are_inverse();
         let input = input_port(self.k, wire);
         let place = self.place_before(stage, wire);
         self.switches[place].reply_take(input);
@@ -435,7 +435,7 @@ impl Network {
         ensures after { net_of self.new ≡ (answered_on (sizes_of self.old) (net_of self.old) stage wire reply).1 }
         ensures sizes { sizes_of self.new ≡ sizes_of self.old }
     {
-        rotations_are_inverse();
+        omega_wires::laws::rotations_are_inverse();
         let place = self.place_behind(stage, wire);
         self.switches[place].answer(wire % 2, reply)
     }

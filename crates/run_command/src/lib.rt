@@ -8,13 +8,12 @@
 //! threads have sent.
 #![tactic(auto)]
 
-mod laws;
+pub mod laws;
 mod progress;
 mod run;
 mod sweep;
 mod threads;
 
-pub use laws::runs_have_one_report;
 pub use progress::Progress;
 pub use sweep::run_command;
 pub use threads::threaded_run_command;

@@ -7,13 +7,12 @@
 mod counters;
 mod counts;
 mod keys;
-mod laws;
+pub mod laws;
 mod lines;
 mod longest;
 mod rounds;
 
 pub use counts::Counts;
-pub use laws::counts_go_on;
 pub use lines::counts_text;
 pub use longest::{Held, Longest};
 pub use rounds::rounds_of;

@@ -6,16 +6,12 @@
 #![tactic(auto)]
 
 mod insn;
-mod laws;
+pub mod laws;
 mod operand;
 mod operation;
 mod table;
 
 pub use insn::Insn;
-pub use laws::{
-    operands_are_the_fields, operands_fit_their_fields, row_of_insn_is_listed,
-    row_spells_an_instruction, rows_are_the_table, spelled_is_read, spelled_once,
-};
 pub use operand::{Immediate, Register};
 pub use operation::{AmoOp, BranchOp, ImmediateOp, LoadOp, RegisterOp, ShiftOp, StoreOp, UpperOp};
 pub use table::{Format, Row, TABLE, row_of};

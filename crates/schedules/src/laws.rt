@@ -14,6 +14,8 @@ ghost use Rattle.machine_steps.specs.Standing.{HasRunning};
 ghost use Rattle.schedules.specs.Sweeps.{IsWholeRun};
 ghost use Rattle.schedules.specs.declared.sweeping.SweepEnd.{SweepEnd};
 
+pub use crate::choice_laws::choices_are_of_the_network;
+
 /// The steps that a run enters are a function of the machine's size, the image and how many steps it
 /// enters at most: the same run comes out each time.
 pub fn runs_have_one_log()

@@ -14,7 +14,7 @@ mod arbiter;
 mod choice;
 mod choice_laws;
 mod generator;
-mod laws;
+pub mod laws;
 mod round;
 mod row;
 mod schedule;
@@ -23,9 +23,7 @@ mod sweeping;
 
 pub use arbiter::Arbiter;
 pub use choice::choice_at;
-pub use choice_laws::choices_are_of_the_network;
 pub use generator::{first_state, next_state};
-pub use laws::{rounds_go_on, runs_have_one_log, sweeps_write_nothing};
 pub use round::Round;
 pub use row::{Downs, Row, Services, Turns, Ups};
 pub use schedule::step_at;

@@ -4,7 +4,7 @@ ghost use Rattle.std.specs.Prelude.{◌≡◌, ◌≤◌, ◌<◌, ◌+◌, ◌*
 ghost use Rattle.schedules.specs.Rounds.{place_of, round};
 ghost use Rattle.schedules.specs.Skips.{AreQuietInRow, IsRestQuiet};
 
-use machine_steps::{Machine, machine_is_well_formed};
+use machine_steps::{Machine, laws};
 use omega_wires::WireSet;
 use steps::Step;
 
@@ -95,7 +95,7 @@ impl Row for Ups {
 
     #[inline(always)]
     fn first(&self, machine: &Machine, wire: u8) -> Option<u8> {
-        machine_is_well_formed(machine);
+        laws::machine_is_well_formed(machine);
         WireSet::first_from(machine.request_wires(self.stage), wire)
     }
 
@@ -141,7 +141,7 @@ impl Row for Downs {
 
     #[inline(always)]
     fn first(&self, machine: &Machine, wire: u8) -> Option<u8> {
-        machine_is_well_formed(machine);
+        laws::machine_is_well_formed(machine);
         WireSet::first_from(machine.reply_wires(self.stage + 1), wire)
     }
 

@@ -11,8 +11,8 @@ ghost use Rattle.schedules.specs.Sweeps.{WasAskedRound, most_of};
 
 use crate::row::{Downs, Row, Services, Turns, Ups};
 use flat_machine::Cause;
-use machine_log::{LockRefusal, Logged, ReservedLog, reserved_log_is_well_formed};
-use machine_steps::{Machine, any_runs, machine_is_well_formed};
+use machine_log::{LockRefusal, Logged, ReservedLog};
+use machine_steps::{Machine, any_runs};
 use steps::Outcome;
 
 /// The largest budget: a sweep enters this many steps at most. The log of a new machine has room for them, and
@@ -56,7 +56,7 @@ pub fn most_steps(machine: &Machine, most: u32) -> u32
     requires { most ≤ 4000000 }
     ensures { result ≡ most + drain_bound machine.now.config }
 {
-    machine_is_well_formed(machine);
+    machine_steps::laws::machine_is_well_formed(machine);
     most + machine.drain_bound()
 }
 
@@ -68,11 +68,11 @@ fn sweep(log: &mut ReservedLog, most: u32) -> SweepEnd
     ensures records { HaveRecords log.old.log.machine.config.k log.old.log.steps →
         HaveRecords log.new.log.machine.config.k log.new.log.steps }
 {
-    reserved_log_is_well_formed(log);
+    machine_log::laws::reserved_log_is_well_formed(log);
     let limit = log.steps().len() + most as usize;
     let end = follow(log, limit);
     log.drain();
-    reserved_log_is_well_formed(log);
+    machine_log::laws::reserved_log_is_well_formed(log);
     end
 }
 
@@ -106,7 +106,7 @@ fn take_round(log: &mut ReservedLog, limit: usize) -> bool
     ensures config { log.new.log.machine.config ≡ log.old.log.machine.config }
     ensures room { length log.new.log.steps + log.new.capacity_left ≡ length log.old.log.steps + log.old.capacity_left }
 {
-    reserved_log_is_well_formed(log);
+    machine_log::laws::reserved_log_is_well_formed(log);
     match take_rows(log, limit) {
         Some(is_over) => is_over,
         None => false,
@@ -119,7 +119,7 @@ fn take_rows(log: &mut ReservedLog, limit: usize) -> Option<bool>
     ensures gone { HasGone limit 0 (length (round log.old.log.machine.config.k)) log.old.log result log.new.log }
     ensures room { length log.new.log.steps + log.new.capacity_left ≡ length log.old.log.steps + log.old.capacity_left }
 {
-    reserved_log_is_well_formed(log);
+    machine_log::laws::reserved_log_is_well_formed(log);
     if let Some(is_over) = take_row(log, limit, &Turns) {
         return Some(is_over);
     }
@@ -138,7 +138,7 @@ fn take_ups(log: &mut ReservedLog, limit: usize) -> Option<bool>
     ensures gone { HasGoneRows limit 1 (log.old.log.machine.config.k + 1) log.old.log result log.new.log }
     ensures room { length log.new.log.steps + log.new.capacity_left ≡ length log.old.log.steps + log.old.capacity_left }
 {
-    reserved_log_is_well_formed(log);
+    machine_log::laws::reserved_log_is_well_formed(log);
     let stages = log.machine().config().k;
     for passed in 0..stages {
         let row = Ups {
@@ -158,7 +158,7 @@ fn take_downs(log: &mut ReservedLog, limit: usize) -> Option<bool>
         log.old.log result log.new.log }
     ensures room { length log.new.log.steps + log.new.capacity_left ≡ length log.old.log.steps + log.old.capacity_left }
 {
-    reserved_log_is_well_formed(log);
+    machine_log::laws::reserved_log_is_well_formed(log);
     for stage in 0..log.machine().config().k {
         if let Some(is_over) = take_row(log, limit, &Downs { stage }) {
             return Some(is_over);
@@ -177,7 +177,7 @@ fn take_row<R: Row>(log: &mut ReservedLog, limit: usize, row: &R) -> Option<bool
     ensures gone { HasGoneRow limit (R.number row.now log.old.log.machine.config.k) log.old.log result log.new.log }
     ensures room { length log.new.log.steps + log.new.capacity_left ≡ length log.old.log.steps + log.old.capacity_left }
 {
-    reserved_log_is_well_formed(log);
+    machine_log::laws::reserved_log_is_well_formed(log);
     let mut wire = 0;
     while log.steps().len() < limit {
         let next = row.first(log.machine(), wire)?;

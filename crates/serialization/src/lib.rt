@@ -13,8 +13,5 @@
 //! The crate has no code that runs. Its theorems are the contracts of functions that do nothing.
 #![tactic(auto)]
 
-mod laws;
+pub mod laws;
 mod machine_laws;
-
-pub use laws::serialization;
-pub use machine_laws::{drain, steadiness};

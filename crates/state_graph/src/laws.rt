@@ -2,31 +2,28 @@
 
 ghost use Rattle.state_graph.specs.Laws.{AllStoodForAreResults, EachResultIsStoodFor, SuccessorsDecideTermination};
 
-use local_reduction::{
-    each_exchange_is_reached, moves_up_to_are_turns, sets_closed_up_to_are_not_left,
-    sets_closed_up_to_contain_all_final_states, short_up_to_schedules_end,
-};
+use local_reduction::laws;
 
 /// What the successors of states say about schedules is true.
 pub fn successors_decide_termination()
     ensures termination_claim { SuccessorsDecideTermination }
 {
-    sets_closed_up_to_contain_all_final_states();
-    sets_closed_up_to_are_not_left();
-    moves_up_to_are_turns();
-    short_up_to_schedules_end();
+    laws::sets_closed_up_to_contain_all_final_states();
+    laws::sets_closed_up_to_are_not_left();
+    laws::moves_up_to_are_turns();
+    laws::short_up_to_schedules_end();
 }
 
 /// For each result of the flat machine there is a state whose result stands for it.
 pub fn each_result_is_stood_for()
     ensures complete { EachResultIsStoodFor }
 {
-    sets_closed_up_to_contain_all_final_states();
+    laws::sets_closed_up_to_contain_all_final_states();
 }
 
 /// All results for which the result of a state stands are results of the flat machine.
 pub fn all_stood_for_are_results()
     ensures sound { AllStoodForAreResults }
 {
-    each_exchange_is_reached();
+    laws::each_exchange_is_reached();
 }

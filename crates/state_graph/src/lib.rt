@@ -9,15 +9,12 @@
 //! function that does nothing.
 #![tactic(auto)]
 
-mod laws;
+pub mod laws;
 mod paths;
 mod ranks;
 mod successors;
 mod termination;
 
-pub use laws::{
-    all_stood_for_are_results, each_result_is_stood_for, successors_decide_termination,
-};
 pub use paths::path_to;
 pub use successors::Successors;
 pub use termination::{Termination, termination_of};

@@ -13,7 +13,7 @@ use crate::refusal::MoveRefusal;
 use flat_machine::{Cause, Retired, Status};
 use hart::{Core, Taken};
 use local_memory::Code;
-use local_reduction::{LiveTable, dead_registers_are_not_kept};
+use local_reduction::{LiveTable, laws};
 use rv_table::{Insn, Register};
 use std::alloc::{AllocError, Global};
 use std::marker::Model;
@@ -111,7 +111,7 @@ impl LocalState {
         ensures same { IsSame live.now self.new self.old }
         ensures bare { IsBare live.now self.new }
     {
-        dead_registers_are_not_kept();
+        laws::dead_registers_are_not_kept();
         let pc = self.core.pc();
         for number in 1..32 {
             let register = Register::new(number);

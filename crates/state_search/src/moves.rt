@@ -14,9 +14,7 @@ use crate::state_tables::{Extent, StateTables, StateVector};
 use crate::transition_cache::{TransitionCache, TransitionCaches};
 use hart::Decision;
 use local_memory::Code;
-use local_reduction::{
-    dead_registers_can_be_forgotten, moves_are_of_any, moves_are_of_what_is_kept,
-};
+use local_reduction::laws;
 
 impl StateTables {
     /// Where a reference of a processor leads, and what it does alone after it. None where it has
@@ -48,10 +46,10 @@ impl StateTables {
         ensures lists { OnOk result (KnowsLists self.new transition_caches.new.lists) }
         ensures next { IfOk result (IsNext extent code.now classes.now self.new (means extent self.old row.entry) p) }
     {
-        moves_are_of_any();
-        moves_are_of_what_is_kept();
+        laws::moves_are_of_any();
+        laws::moves_are_of_what_is_kept();
         let _ = classes;
-        dead_registers_can_be_forgotten();
+        laws::dead_registers_can_be_forgotten();
         let place = usize::from(p);
         let words_place = usize::from(extent.processors);
         let number = row[place];

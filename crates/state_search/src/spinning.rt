@@ -12,7 +12,7 @@ use crate::saved::SavedLocalState;
 use crate::state_tables::{Extent, StateTables, StateVector};
 use hart::Decision;
 use local_memory::Code;
-use local_reduction::{dead_registers_can_be_forgotten, what_comes_back_spins};
+use local_reduction::laws;
 
 /// For how many turns a processor is watched, one stretch after another, each from where it then stands: with those
 /// before, 1,000,000. It is found to spin if it comes back within a stretch to where that begins.
@@ -46,7 +46,7 @@ impl LocalState {
         ensures still { IfOk result (λ settles. IsTrue settles → IsStill code.now self.new) }
         ensures quiet { IfOk result (λ settles. IsTrue settles → IsQuiet quietly code.now self.new) }
     {
-        what_comes_back_spins();
+        laws::what_comes_back_spins();
         let Ok(start) = self.copy() else {
             return Err(MoveRefusal::Memory);
         };
@@ -91,7 +91,7 @@ impl StateTables {
         requires narrow { N ≤ 65 }
         ensures { IsTrue result ↔ Spinning extent code.now (means extent self.now row.now) }
     {
-        dead_registers_can_be_forgotten();
+        laws::dead_registers_can_be_forgotten();
         for p in 0..extent.processors {
             let number = row[usize::from(p)];
             if !is_repeated(row, p) && self.local_state(number).goes_on(code) {

@@ -11,11 +11,10 @@
 
 mod group;
 mod groups;
-mod laws;
+pub mod laws;
 mod observer;
 mod step;
 
 pub use groups::Groups;
-pub use laws::groups_go_on;
 pub use observer::{NoObserver, StepObserver};
 pub use step::{MAX_STEPS, Outcome, Step};

@@ -12,13 +12,12 @@
 mod error;
 mod fields;
 mod header;
-mod laws;
+pub mod laws;
 mod read;
 mod trace;
 mod write;
 
 pub use error::TraceError;
-pub use laws::{bytes_spell_one_trace, faults_stay, one_fault_at_most, spelled_or_faulty};
 pub use read::read_trace;
 pub use trace::Trace;
 pub use write::{is_trace, write_trace};

@@ -12,7 +12,7 @@ use crate::fields::{Fields, RECORD_BYTES, has_record};
 use crate::header::Header;
 use arrayvec::ArrayVec;
 use flat_machine::Config;
-use link::{Failed, LinkWrite, parts_make_a_beginning, write_whole};
+use link::{Failed, LinkWrite, laws, write_whole};
 use steps::{MAX_STEPS, Step};
 
 /// The number of records written at once.
@@ -48,7 +48,7 @@ pub fn write_trace<W: LinkWrite>(
         (trace_bytes (trace_of config.now steps.now))) }
 {
     // A law about what is written in parts, for the proof alone.
-    parts_make_a_beginning();
+    laws::parts_make_a_beginning();
     write_whole(writer, Header::new(config, steps).bytes().as_slice())?;
     write_records(writer, steps)?;
     Ok(())
@@ -81,7 +81,7 @@ fn write_records<W: LinkWrite>(writer: &mut W, steps: &[Step]) -> Result<(), Fai
     ensures err { OnErr result (AppendsPart (W.contents writer.old) (W.contents writer.new) (records_bytes steps.now)) }
 {
     // The same law.
-    parts_make_a_beginning();
+    laws::parts_make_a_beginning();
     let mut rest = steps;
     while !rest.is_empty() {
         let (piece, behind) = rest.split_at(rest.len().min(RECORDS_IN_PIECE));

@@ -9,6 +9,7 @@
 #![tactic(auto)]
 
 mod choice;
+pub mod laws;
 mod lines;
 mod order_laws;
 mod reference;
@@ -19,9 +20,7 @@ mod words;
 
 pub use choice::Choice;
 pub use lines::push_line;
-pub use order_laws::{lines_go_on, turns_have_lines};
 pub use reference::Reference;
-pub use story_laws::stories_go_on;
 pub use texts::{push_event, push_owner, push_poke, push_turn, push_written};
 pub use unknown::Unknown;
 pub use words::{processor_of_poke, word_of_instruction, word_of_poke};

@@ -7,10 +7,7 @@ ghost use Rattle.machine_steps.specs.Machines.{AreHome, IsIdle};
 ghost use Rattle.machine_steps.specs.Runs.{flat_state};
 ghost use Rattle.words_command.specs.Loading.{bytes_of_words, layout_of_words, flat_of_words, IsWantOfMemory};
 
-use elf_image::{
-    Bytes, Image, ImageError, Layout, input_means_one_layout, not_refused_is_accepted, read_image,
-    spelling_means_its_layout, write_image,
-};
+use elf_image::{Bytes, Image, ImageError, Layout, laws, read_image, write_image};
 use flat_machine::{CODE_START, Config};
 use link::Meter;
 use machine_steps::{Machine, NewError};
@@ -78,9 +75,9 @@ fn image_of(alloc: Global, layout: &Layout) -> Result<Image, ImageError>
     ensures ok { IfOk result (λ image. image ≡ record { layout = layout.now; shared_words = 1024 }) }
     ensures memory { IfErr result IsWantOfMemory }
 {
-    spelling_means_its_layout();
-    input_means_one_layout();
-    not_refused_is_accepted();
+    laws::spelling_means_its_layout();
+    laws::input_means_one_layout();
+    laws::not_refused_is_accepted();
     let mut file = Meter::new(Vec::new(alloc));
     write_image(&mut file, layout)?;
     let mut reader = Meter::new(file.device.as_slice());

@@ -9,7 +9,7 @@ ghost use Rattle.words_command.specs.Command.{HasProcessor};
 ghost use Rattle.words_command.specs.Running.{HasRunAlone, is_retired, processor_of};
 
 use flat_machine::Status;
-use machine_log::{LockRefusal, Logged, log_is_well_formed};
+use machine_log::{LockRefusal, Logged, laws};
 use std::alloc::AllocError;
 use steps::Outcome;
 use thiserror::Error;
@@ -77,7 +77,7 @@ fn runs(log: &Logged) -> bool
     ensures sound { IsMachine log.now.machine }
     ensures alone { HasProcessor (flat_state log.now.machine) (processor_of log.now.machine) }
 {
-    log_is_well_formed(log);
+    laws::log_is_well_formed(log);
     log.machine().status(0) == Some(Status::Running)
 }
 
@@ -100,7 +100,7 @@ fn take_instruction(log: &mut Logged) -> Result<Outcome, AllocError>
     ensures refused { IfErr result (λ e. log.new ≡ log.old) }
 {
     let outcome = log.one(0);
-    log_is_well_formed(log);
+    laws::log_is_well_formed(log);
     match outcome {
         Ok(outcome) => Ok(outcome),
         Err(LockRefusal::Memory) => Err(AllocError),
