@@ -12,7 +12,7 @@ use itoa::Buffer;
 use rv_table::{Immediate, Insn, Register};
 
 /// The number of a field in two's complement, whose sign bit has this weight.
-fn signed(sign: u32, field: u32) -> i32
+fn sign_extend(sign: u32, field: u32) -> i32
     requires field { field < 2 * sign }
     requires sign { sign < 2 ^ 30 }
     ensures { result ≡ signed sign field }
@@ -28,21 +28,21 @@ fn signed(sign: u32, field: u32) -> i32
 fn immediate(imm: Immediate<12>) -> i32
     ensures { result ≡ signed (2 ^ 11) imm }
 {
-    signed(0x800, imm.field())
+    sign_extend(0x800, imm.field())
 }
 
 /// The way that a branch takes, in bytes.
 fn branch_offset(steps: Immediate<12>) -> i32
     ensures { result ≡ offset (2 ^ 11) steps }
 {
-    signed(0x1000, 2 * steps.field())
+    sign_extend(0x1000, 2 * steps.field())
 }
 
 /// The way that a jump takes, in bytes.
 fn jump_offset(steps: Immediate<20>) -> i32
     ensures { result ≡ offset (2 ^ 19) steps }
 {
-    signed(0x10_0000, 2 * steps.field())
+    sign_extend(0x10_0000, 2 * steps.field())
 }
 
 /// Replaces the text by the mnemonic and its suffix.

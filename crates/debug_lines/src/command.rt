@@ -79,12 +79,12 @@ impl Command {
         if line.len() > MAX_LINE {
             return Command::Malformed;
         }
-        Command::listed(line).unwrap_or(Command::Malformed)
+        Command::parse(line).unwrap_or(Command::Malformed)
     }
 
     /// The command of a line, if it is one.
     #[tactic(auto, unfolding(crate::specs::Commands::listed_of))]
-    fn listed(line: &[u8]) -> Option<Command>
+    fn parse(line: &[u8]) -> Option<Command>
         requires { length line.now ≤ 1024 }
         ensures { result ≡ listed_of line.now }
     {

@@ -70,7 +70,7 @@ impl FileHeader {
     ///
     /// [`ImageError::Truncated`], [`ImageError::NotExecutable`] or
     /// [`ImageError::UnsupportedHeader`].
-    pub fn checked(file: &[u8]) -> Result<Self, ImageError>
+    pub fn parse(file: &[u8]) -> Result<Self, ImageError>
         ensures value { IfOk result (λ header. header ≡ file_header file.now) }
         ensures ok { IfOk result (λ header. header_refusal file.now ≡ None) }
         ensures refused { IfErr result (λ error. header_refusal file.now ≡ Some error) }

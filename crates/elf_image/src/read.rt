@@ -54,7 +54,7 @@ fn image_of(alloc: Global, file: &[u8], shared_words: u32) -> Result<Image, Imag
     ensures meant { IfOk result (λ image. IsMeant shared_words file.now image.layout) }
     ensures refused { IfErr result (IsCause shared_words file.now) }
 {
-    let header = FileHeader::checked(file)?;
+    let header = FileHeader::parse(file)?;
     let segments = segments_of(file, &header);
     check_each(segments.as_slice(), file.len(), shared_words)?;
     if have_overlap(segments.as_slice()) {

@@ -29,7 +29,7 @@ use machine_steps::Machine;
 use state_graph::termination_of;
 use state_search::{
     Extent, MoveRefusal, Refusal as SearchRefusal, SearchObserver, SparseWords, StateSpace,
-    StateTables, TransitionCaches, classes_of, search,
+    StateTables, TransitionCaches, classes_of, explore_states,
 };
 use std::alloc::Global;
 
@@ -171,18 +171,18 @@ fn explored_by_width<G: SearchObserver>(
     ensures given_up { IfErr result (IsGivenUpFor (HasManyStates (flat_of code.now cores.now words) wish.limit)) }
 {
     if extent.processors <= 8 {
-        explored::<9, G>(alloc, code, extent, cores, words, wish, observer)
+        explore_from::<9, G>(alloc, code, extent, cores, words, wish, observer)
     } else if extent.processors <= 16 {
-        explored::<17, G>(alloc, code, extent, cores, words, wish, observer)
+        explore_from::<17, G>(alloc, code, extent, cores, words, wish, observer)
     } else if extent.processors <= 32 {
-        explored::<33, G>(alloc, code, extent, cores, words, wish, observer)
+        explore_from::<33, G>(alloc, code, extent, cores, words, wish, observer)
     } else {
-        explored::<65, G>(alloc, code, extent, cores, words, wish, observer)
+        explore_from::<65, G>(alloc, code, extent, cores, words, wish, observer)
     }
 }
 
 /// All results of the flat machine of these cores and words.
-fn explored<const N: usize, G: SearchObserver>(
+fn explore_from<const N: usize, G: SearchObserver>(
     alloc: Global,
     code: &Code,
     extent: Extent,
@@ -221,7 +221,7 @@ fn explored<const N: usize, G: SearchObserver>(
         return Err(SearchRefusal::Memory);
     };
     let mut transition_caches = TransitionCaches::new(alloc);
-    let found = search(
+    let found = explore_states(
         alloc,
         &mut state_tables,
         &mut transition_caches,

@@ -32,7 +32,7 @@ impl<'a> Piece<'a> {
 
     /// The piece without the blanks at its ends.
     #[tactic(auto, using(crate::proofs::Cutting::trimmed_within))]
-    pub fn trimmed(self) -> Piece<'a>
+    pub fn trim(self) -> Piece<'a>
         ensures { span_of result ≡ trimmed_span (span_of self.entry) }
     {
         Piece {
@@ -98,7 +98,7 @@ impl<'a> Piece<'a> {
             start: self.start + front.len() + 1,
             bytes: inside,
         };
-        (before.trimmed(), within.trimmed())
+        (before.trim(), within.trim())
     }
 
     /// The pieces before and within the brackets at the end of this one.

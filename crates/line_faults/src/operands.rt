@@ -53,7 +53,7 @@ fn wrong_for<'a>(
         ≡ operands_advice (shape_wants shape.now) (span_of parts.now.rest)) }
 {
     if shape.operands.is_empty() {
-        let rest = parts.rest.trimmed();
+        let rest = parts.rest.trim();
         return Ok(Spot::unless(rest.bytes.is_empty(), rest, Hint::NoOperand));
     }
     let operands = parts.operands(alloc)?;
@@ -102,7 +102,7 @@ fn wrong_at<'a>(shape: &Shape, number: usize, operand: Piece<'a>) -> Option<Spot
         ≡ option_and_then (λ wanted. advice_within wanted (span_of operand.entry))
         (wanted_at (shape_wants shape.now) number) }
 {
-    match shape.wanted(number) {
+    match shape.operand_at(number) {
         Some(wanted) => wanted.look(operand),
         None => None,
     }
@@ -121,7 +121,7 @@ fn wrong_count<'a>(shape: &Shape, rest: Piece<'a>, operands: &[Piece<'a>]) -> Op
     Some(match extra_or_parted(shape, operands) {
         Some(spot) => spot,
         None => Spot {
-            piece: rest.trimmed().end(),
+            piece: rest.trim().end(),
             hint: Hint::Operands(shape.form),
         },
     })

@@ -28,7 +28,7 @@ impl<'a> Parts<'a> {
         ensures { line_spans result ≡ spans_of_line line.now }
     {
         let (label, statement) = cut_label(text_of(line));
-        let (word, rest) = statement.trimmed().cut_blank();
+        let (word, rest) = statement.trim().cut_blank();
         Parts { label, word, rest }
     }
 
@@ -39,10 +39,10 @@ impl<'a> Parts<'a> {
         let mut operands = Vec::new(alloc);
         let mut rest = self.rest;
         while let Some((operand, behind)) = rest.cut(b',') {
-            operands.push(operand.trimmed())?;
+            operands.push(operand.trim())?;
             rest = behind;
         }
-        operands.push(rest.trimmed())?;
+        operands.push(rest.trim())?;
         Ok(operands)
     }
 }
@@ -64,7 +64,7 @@ fn cut_label(text: Piece<'_>) -> (Option<Piece<'_>>, Piece<'_>)
         ≡ label_spans (span_of text.entry) (cut_span (λ b. b == 58) (span_of text.entry)) }
 {
     if let Some((front, behind)) = text.cut(b':') {
-        let name = front.trimmed();
+        let name = front.trim();
         if is_name(name.bytes) {
             return (Some(name), behind);
         }

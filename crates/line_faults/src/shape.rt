@@ -90,7 +90,7 @@ impl Shape {
     }
 
     /// What the operand with this number, from 0, has to be.
-    pub fn wanted(&self, number: usize) -> Option<Wanted>
+    pub fn operand_at(&self, number: usize) -> Option<Wanted>
         ensures { result ≡ wanted_at (shape_wants self.now) number }
     {
         let number = if self.is_list { 0 } else { number };

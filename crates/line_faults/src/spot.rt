@@ -298,7 +298,7 @@ fn missing_at<'a>(
         ≡ option_and_then (λ wanted. missing_within (label_values labels.now) wanted (span_of operand.entry))
         (wanted_at (shape_wants shape.now) number) }
 {
-    match shape.wanted(number) {
+    match shape.operand_at(number) {
         Some(wanted) => missing_in(labels, wanted, operand),
         None => None,
     }

@@ -25,7 +25,7 @@ pub fn unknown_word<'a>(alloc: Global, parts: &Parts<'a>) -> Result<Spot<'a>, Al
     ensures named { IfOk result (λ spot. spot_span spot ≡ span_of parts.now.word) }
     ensures advised { IfOk result (λ spot. spot_advice spot ≡ word_advice_in (line_spans parts.now)) }
 {
-    let rest = parts.rest.trimmed();
+    let rest = parts.rest.trim();
     let hint = hint_on(alloc, parts.word.bytes, rest.bytes)?;
     Ok(Spot {
         piece: parts.word,

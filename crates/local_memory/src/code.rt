@@ -43,7 +43,7 @@ impl Code {
         ensures { IfOk result (λ c. c ≡ region_of_bytes bytes.now) }
     {
         let bytes = RegionBytes::new(alloc, bytes)?;
-        let insns = decoded(alloc, &bytes)?;
+        let insns = decode_all(alloc, &bytes)?;
         Ok(Code { bytes, insns })
     }
 
@@ -97,7 +97,7 @@ impl Code {
 }
 
 /// What each word of code spells.
-fn decoded(alloc: Global, bytes: &RegionBytes) -> Result<Vec<Option<Insn>>, AllocError>
+fn decode_all(alloc: Global, bytes: &RegionBytes) -> Result<Vec<Option<Insn>>, AllocError>
     ensures { IfOk result (λ insns. AreDecoded bytes.now insns.items (2 ^ 14)) }
 {
     let mut insns = Vec::with_capacity(alloc, CODE_WORDS as usize)?;

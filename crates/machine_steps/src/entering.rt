@@ -147,7 +147,7 @@ impl SerialOrder {
         let (first, second) = (usize::from(first), usize::from(second));
         let front = self.groups[first].as_slice();
         let back = self.groups[second].as_slice();
-        let both = joined(front, back);
+        let both = join_groups(front, back);
         self.groups[first] = both;
         self.groups[second] = Group::new();
     }
@@ -178,7 +178,7 @@ fn one(p: u8) -> Group
 }
 
 /// One group followed by another. What has no room is left out.
-fn joined(front: &[u8], back: &[u8]) -> Group
+fn join_groups(front: &[u8], back: &[u8]) -> Group
     ensures { length front.now + length back.now ≤ 64 → result.items ≡ front.now ++ back.now }
 {
     let mut group = Group::new();

@@ -77,7 +77,7 @@ pub fn flat_byte(machine: &Machine, processor: u32, address: u32) -> Option<u8>
 {
     laws::machine_is_well_formed(machine);
     laws::flat_states_are_read();
-    machine.seen(number(machine, processor)?, address)
+    machine.visible_byte(number(machine, processor)?, address)
 }
 
 /// The number of a processor, if it is there.

@@ -96,7 +96,7 @@ impl Machine {
         if !config.is_within_limits() || image.shared_words() != config.shared_words {
             return Err(NewError::Config);
         }
-        match made(alloc, image, config) {
+        match open_machine(alloc, image, config) {
             Ok(machine) => Ok(machine),
             Err(_) => Err(NewError::Memory),
         }
@@ -204,7 +204,7 @@ impl Machine {
 
     /// The byte that a processor sees at an address: of its own local memory, of a shared word or of code. `None` if
     /// the machine has no processor of this number, its core is away, or there is no byte there.
-    pub fn seen(&self, processor: u8, address: u32) -> Option<u8>
+    pub fn visible_byte(&self, processor: u8, address: u32) -> Option<u8>
         ensures { result
             ≡ (if is_there self.now processor then byte_seen (flat_state self.now) processor address else None) }
     {
@@ -619,7 +619,7 @@ fn poke_outcome(is_written: bool) -> Outcome
 }
 
 /// Makes a machine, unless it is out of memory.
-fn made(alloc: Global, image: Image, config: Config) -> Result<Machine, AllocError>
+fn open_machine(alloc: Global, image: Image, config: Config) -> Result<Machine, AllocError>
     requires limits { IsWithinLimits config }
     requires words { image.shared_words ≡ config.shared_words }
     ensures { IfOk result (λ m. IsOpening config image m) }
@@ -654,7 +654,7 @@ pub fn machine_is_well_formed(machine: &Machine)
     let _ = &machine.config;
 }
 
-/// A byte is below 256. The proof of [`made`] needs this said.
+/// A byte is below 256. The proof of [`open_machine`] needs this said.
 fn bytes_are_below_256(bytes: &[u8])
     ensures { AreBelow 256 bytes.now }
 {}

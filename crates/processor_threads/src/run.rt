@@ -91,13 +91,13 @@ pub fn run_threads<
 {
     let config = size(&logged);
     let Ok((ends, listener)) = consoles(alloc, config.processors()) else {
-        return refused(alloc, logged, RunFault::Console);
+        return unstarted_run(alloc, logged, RunFault::Console);
     };
     let Ok(faults) = Vec::with_capacity(alloc, usize::from(config.processors())) else {
-        return refused(alloc, logged, RunFault::Memory);
+        return unstarted_run(alloc, logged, RunFault::Memory);
     };
     match Shared::<N>::new(alloc, room, logged) {
-        Err((logged, _)) => refused(alloc, logged, RunFault::Memory),
+        Err((logged, _)) => unstarted_run(alloc, logged, RunFault::Memory),
         Ok((shared, passes)) => {
             let workers = Workers {
                 passes,
@@ -120,7 +120,7 @@ fn size(logged: &Logged) -> Config
 }
 
 /// A run that did not begin.
-fn refused<N: Run>(alloc: Global, logged: Logged, fault: RunFault) -> Ended<N>
+fn unstarted_run<N: Run>(alloc: Global, logged: Logged, fault: RunFault) -> Ended<N>
     ensures logged { result.logged ≡ logged }
     ensures passes { result.passes.items ≡ [] }
     ensures consoles { result.consoles.items ≡ [] }

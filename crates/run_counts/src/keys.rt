@@ -62,7 +62,7 @@ fn return_of(step: &Step) -> Option<u16>
 }
 
 /// The processor whose instruction retired.
-pub(crate) fn retired(step: &Step, outcome: &Outcome) -> Option<u16>
+pub(crate) fn processor_of_retirement(step: &Step, outcome: &Outcome) -> Option<u16>
     ensures { result ≡ keys.retired step.now outcome.now }
 {
     match *outcome {
@@ -72,7 +72,7 @@ pub(crate) fn retired(step: &Step, outcome: &Outcome) -> Option<u16>
 }
 
 /// The stage through which a request moved without being combined.
-pub(crate) fn moved(step: &Step, outcome: &Outcome) -> Option<u16>
+pub(crate) fn stage_of_move(step: &Step, outcome: &Outcome) -> Option<u16>
     ensures { result ≡ keys.moved step.now outcome.now }
 {
     match *outcome {
@@ -82,7 +82,7 @@ pub(crate) fn moved(step: &Step, outcome: &Outcome) -> Option<u16>
 }
 
 /// The stage at which a request was combined into another.
-pub(crate) fn combined(step: &Step, outcome: &Outcome) -> Option<u16>
+pub(crate) fn stage_of_combination(step: &Step, outcome: &Outcome) -> Option<u16>
     ensures { result ≡ keys.combined step.now outcome.now }
 {
     match *outcome {
@@ -92,7 +92,7 @@ pub(crate) fn combined(step: &Step, outcome: &Outcome) -> Option<u16>
 }
 
 /// The stage through which a reply moved without being split.
-pub(crate) fn returned(step: &Step, outcome: &Outcome) -> Option<u16>
+pub(crate) fn stage_of_reply(step: &Step, outcome: &Outcome) -> Option<u16>
     ensures { result ≡ keys.returned step.now outcome.now }
 {
     match *outcome {
@@ -102,7 +102,7 @@ pub(crate) fn returned(step: &Step, outcome: &Outcome) -> Option<u16>
 }
 
 /// The stage at which a reply was split.
-pub(crate) fn split(step: &Step, outcome: &Outcome) -> Option<u16>
+pub(crate) fn stage_of_split(step: &Step, outcome: &Outcome) -> Option<u16>
     ensures { result ≡ keys.split step.now outcome.now }
 {
     match *outcome {

@@ -13,7 +13,7 @@ ghost use Rattle.state_search.specs.Search.{AreAllFound, AreClasses, AreManyRows
 ghost use Rattle.state_search.specs.StateTables.{HasGrown, IsRow, means};
 
 use crate::observer::SearchObserver;
-use crate::ordering::ordered;
+use crate::ordering::canonical;
 use crate::refusal::{MoveRefusal, Refusal};
 use crate::state_tables::{Extent, StateTables, StateVector};
 use crate::transition_cache::TransitionCaches;
@@ -36,7 +36,7 @@ pub struct StateSpace<const N: usize> {
 ///
 /// [`Refusal::States`] if there are as many as `limit`, or more, [`Refusal::Asks`] if a processor asks for its own
 /// number after a reference while processors are exchanged, [`Refusal::Alone`] and [`Refusal::Memory`].
-pub fn search<const N: usize, G: SearchObserver>(
+pub fn explore_states<const N: usize, G: SearchObserver>(
     alloc: Global,
     state_tables: &mut StateTables,
     transition_caches: &mut TransitionCaches,
@@ -72,7 +72,7 @@ pub fn search<const N: usize, G: SearchObserver>(
         moves: Successors::new(alloc),
     };
     let mut successors = Vec::new(alloc);
-    let followed = follow(
+    let followed = breadth_first(
         state_tables,
         transition_caches,
         code,
@@ -94,7 +94,7 @@ pub fn search<const N: usize, G: SearchObserver>(
 
 /// Finds rows, one after the other, until no new one comes. As yet there is none.
 // What is found is the caller's, which a function with this many ends need not drop at each.
-fn follow<const N: usize, G: SearchObserver>(
+fn breadth_first<const N: usize, G: SearchObserver>(
     state_tables: &mut StateTables,
     transition_caches: &mut TransitionCaches,
     code: &Code,
@@ -304,7 +304,7 @@ fn ordered_from<const N: usize>(
     ensures { IsRowExchanged classes.now row.now result }
 {
     if extent.exchanged {
-        ordered(row, classes, usize::from(p), &mut [])
+        canonical(row, classes, usize::from(p), &mut [])
     } else {
         *row
     }

@@ -3,7 +3,7 @@
 //! A state has each processor at its next reference to a shared word, or stopped, with what it has
 //! printed, and the shared words: a `MacroState` of `local_reduction`. Processors and words stand in
 //! tables that only grow ([`StateTables`]), each found in them by its number, and a state is a [`StateVector`] of
-//! such numbers. [`search`] finds each row that references lead to, from a first one.
+//! such numbers. [`explore_states`] finds each row that references lead to, from a first one.
 #![tactic(auto)]
 
 mod classes;
@@ -22,7 +22,7 @@ mod transition_cache;
 mod walk;
 
 pub use classes::classes_of;
-pub use finding::{StateSpace, search};
+pub use finding::{StateSpace, explore_states};
 pub use observer::{NoProgress, SearchObserver};
 pub use ordering::trade;
 pub use refusal::{MoveRefusal, Refusal};

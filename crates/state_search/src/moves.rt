@@ -62,7 +62,7 @@ impl StateTables {
         };
         let list = row[words_place];
         let before = self.words(list).get(word);
-        let after = self.moved(
+        let after = self.state_after_reference(
             &mut transition_caches.local_states,
             code,
             extent.exchanged,
@@ -70,7 +70,7 @@ impl StateTables {
             word,
             before,
         )?;
-        let written = self.rewritten(&mut transition_caches.lists, list, word, phi.apply(before))?;
+        let written = self.list_after_write(&mut transition_caches.lists, list, word, phi.apply(before))?;
         let mut next = row;
         next[place] = after;
         next[words_place] = written;
@@ -78,7 +78,7 @@ impl StateTables {
     }
 
     /// The number of the local state after a reference to a word that had this value before.
-    fn moved(
+    fn state_after_reference(
         &mut self,
         transition_cache: &mut TransitionCache,
         code: &Code,
@@ -99,13 +99,13 @@ impl StateTables {
         if let Some(behind) = transition_cache.get([number, word, before]) {
             return Ok(behind);
         }
-        let behind = self.retired(code, quietly, number, before)?;
+        let behind = self.make_reference(code, quietly, number, before)?;
         transition_cache.remember([number, word, before], behind);
         Ok(behind)
     }
 
     /// Makes the reference, and gives the number of the local state after it.
-    fn retired(
+    fn make_reference(
         &mut self,
         code: &Code,
         quietly: bool,
@@ -131,7 +131,7 @@ impl StateTables {
     }
 
     /// The number of a list of words with one of them written.
-    fn rewritten(
+    fn list_after_write(
         &mut self,
         transition_cache: &mut TransitionCache,
         number: u32,
@@ -150,13 +150,13 @@ impl StateTables {
         if let Some(written) = transition_cache.get([number, word, value]) {
             return Ok(written);
         }
-        let written = self.written(number, word, value)?;
+        let written = self.write_word(number, word, value)?;
         transition_cache.remember([number, word, value], written);
         Ok(written)
     }
 
     /// Writes the word, and gives the number of the list that has it.
-    fn written(&mut self, number: u32, word: u32, value: u32) -> Result<u32, MoveRefusal>
+    fn write_word(&mut self, number: u32, word: u32, value: u32) -> Result<u32, MoveRefusal>
         requires there { number < length self.old.words }
         requires word { word < length (words_at self.old number) }
         ensures kept { OnOk result (HasGrown self.old self.new) }

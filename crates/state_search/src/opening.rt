@@ -42,14 +42,14 @@ impl StateTables {
     {
         let mut row = [0; N];
         for (p, core) in cores.iter().enumerate() {
-            row[p] = self.opened(alloc, code, extent.exchanged, core)?;
+            row[p] = self.open_local_state(alloc, code, extent.exchanged, core)?;
         }
         row[usize::from(extent.processors)] = self.words_number(words)?;
         Ok(row)
     }
 
     /// The number of the local state at which a processor settles that has printed nothing.
-    fn opened(
+    fn open_local_state(
         &mut self,
         alloc: Global,
         code: &Code,

@@ -9,7 +9,7 @@ use crate::state_tables::StateVector;
 /// they did but for the number of one processor. What holders stand at the places of the processors trade with them;
 /// there may be none.
 // The contract asks for no order: a row that is not in order costs states, and nothing else.
-pub fn ordered<const N: usize>(
+pub fn canonical<const N: usize>(
     row: &StateVector<N>,
     classes: &[u8],
     processor: usize,

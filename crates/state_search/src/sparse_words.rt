@@ -133,7 +133,7 @@ impl SparseWords {
     {
         let (before, after) = around(self.nonzero.as_slice(), place);
         let alloc = *self.nonzero.allocator();
-        let nonzero = joined(alloc, before, place, value, after)?;
+        let nonzero = join(alloc, before, place, value, after)?;
         Ok(SparseWords {
             len: self.len,
             nonzero,
@@ -163,7 +163,7 @@ fn first_from(nonzero: &[NonzeroWord], place: u32) -> usize
 }
 
 /// The words with one between them.
-fn joined(
+fn join(
     alloc: Global,
     before: &[NonzeroWord],
     place: u32,

@@ -7,7 +7,7 @@ ghost use Rattle.state_search.specs.TransitionCache.{KnowsLists, KnowsLocalState
 ghost use Rattle.state_search.specs.Search.{AreClasses};
 ghost use Rattle.state_search.specs.StateTables.{HasGrown, IsRow};
 
-use crate::ordering::ordered;
+use crate::ordering::canonical;
 use crate::refusal::MoveRefusal;
 use crate::state_tables::{Extent, StateTables, StateVector};
 use crate::transition_cache::TransitionCaches;
@@ -159,9 +159,9 @@ fn mover_between<const N: usize>(
 {
     for p in 0..extent.processors {
         if let Some(next) = state_tables.next(transition_caches, code, extent, classes, row, p)? {
-            if ordered(&next, classes, usize::from(p), &mut []) == to {
+            if canonical(&next, classes, usize::from(p), &mut []) == to {
                 let mover = holders.get(usize::from(p)).copied();
-                ordered(&next, classes, usize::from(p), holders);
+                canonical(&next, classes, usize::from(p), holders);
                 return Ok(mover);
             }
         }

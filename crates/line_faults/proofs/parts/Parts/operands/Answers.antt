@@ -9,11 +9,11 @@ loop-operand-smaller c =
 
 pub loop-operand-preserved : goal.loop-operand-preserved
 loop-operand-preserved c =
-    operands_more c.loop-operand.operands.items c.push.new.self.items c.trimmed.result (span_of c.loop-operand.rest)
+    operands_more c.loop-operand.operands.items c.push.new.self.items c.trim.result (span_of c.loop-operand.rest)
     (span_of c.in-Some.operand, span_of c.in-Some.behind) (operand_spans (span_of c.args.self.now.rest)) (search rules) c.in-Some.ensures.parts
-    c.in-Some.ensures.value c.trimmed.ensures c.loop-operand.invariant
+    c.in-Some.ensures.value c.trim.ensures c.loop-operand.invariant
 
 pub returns : goal.returns
 returns c =
-    operands_all c.loop-operand.operands.items c.push-2.new.self.items c.trimmed-2.result (span_of c.loop-operand.rest)
-    (operand_spans (span_of c.args.self.now.rest)) (search rules) c.in_default.ensures.parts c.trimmed-2.ensures c.loop-operand.invariant
+    operands_all c.loop-operand.operands.items c.push-2.new.self.items c.trim-2.result (span_of c.loop-operand.rest)
+    (operand_spans (span_of c.args.self.now.rest)) (search rules) c.in_default.ensures.parts c.trim-2.ensures c.loop-operand.invariant

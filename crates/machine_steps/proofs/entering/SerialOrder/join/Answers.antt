@@ -23,9 +23,9 @@ returns-clause-entered c =
     let few =
     subst (λ a. (p : ℕ) → length (joined (group_in groups) a j p) ≤ 64) (sym c.from-first.ensures)
     (subst (λ b. (p : ℕ) → length (joined (group_in groups) c.args.first b p) ≤ 64) (sym c.from-second.ensures) c.requires.few) in
-    subst (λ a. IsEntered groups entries (theory.Combined a c.args.second) (slice_set (slice_set groups i c.joined-both.result) j c.new.result) entries)
+    subst (λ a. IsEntered groups entries (theory.Combined a c.args.second) (slice_set (slice_set groups i c.join_groups-both.result) j c.new.result) entries)
     c.from-first.ensures
-    (subst (λ b. IsEntered groups entries (theory.Combined i b) (slice_set (slice_set groups i c.joined-both.result) j c.new.result) entries)
+    (subst (λ b. IsEntered groups entries (theory.Combined i b) (slice_set (slice_set groups i c.join_groups-both.result) j c.new.result) entries)
     c.from-second.ensures
-    (enters_combined groups entries i j c.joined-both.result c.new.result there_i there_j
-    (λ fits. c.joined-both.ensures (omega (arith, front_length, back_length, fits)) ∙ ap₂ (λ xs ys. xs ++ ys) front back) c.new.ensures few))
+    (enters_combined groups entries i j c.join_groups-both.result c.new.result there_i there_j
+    (λ fits. c.join_groups-both.ensures (omega (arith, front_length, back_length, fits)) ∙ ap₂ (λ xs ys. xs ++ ys) front back) c.new.ensures few))

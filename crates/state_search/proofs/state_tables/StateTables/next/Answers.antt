@@ -43,7 +43,7 @@ returns-clause-next g c =
     (placed_at c.args.self.now (slice_index c.args.row c.args.p)).local_state.processor) c.get-before.ensures.small
     (subst (λ (a : Placed). Decides (Refer c.in-Refer.word c.in-Refer.phi c.in-Refer.shape) (turn_of a.setting c.args.code.now a.local_state.processor)) is
     c.in-Refer.ensures.turn) in
-    looked c.args.extent c.args.code.now c.args.classes.now c.args.self.now c.moved.new.self c.rewritten.new.self c.args.row
+    looked c.args.extent c.args.code.now c.args.classes.now c.args.self.now c.state_after_reference.new.self c.list_after_write.new.self c.args.row
     (slice_set (slice_set c.args.row c.from-place.result c.in_ok-after.after) c.from-words_place.result c.in_ok-written.written)
     c.args.p c.in-Refer.word c.get-before.result
     c.apply.result c.in_ok-after.after c.in_ok-written.written
@@ -62,20 +62,20 @@ returns-clause-next g c =
       before_is = ap (λ i. slice_index (words_at c.args.self.now (slice_index c.args.row i)) c.in-Refer.word) (sym c.from-words_place.ensures)
           ∙ (ap (λ xs. slice_index xs c.in-Refer.word) (sym c.words.ensures) ∙ sym c.get-before.ensures.word);
       behind = subst (λ i. IsBehind c.args.extent.exchanged c.args.code.now c.get-before.result
-          (placed_at c.args.self.now (slice_index c.args.row i)) c.moved.new.self
+          (placed_at c.args.self.now (slice_index c.args.row i)) c.state_after_reference.new.self
           c.in_ok-after.after) c.from-place.ensures c.in_ok-after.ensures.behind;
       written_there = c.in_ok-written.ensures.there;
       written_is = c.in_ok-written.ensures.written
-          ∙ ap (λ i. slice_set (words_at c.moved.new.self (slice_index c.args.row i)) c.in-Refer.word c.apply.result) c.from-words_place.ensures;
+          ∙ ap (λ i. slice_set (words_at c.state_after_reference.new.self (slice_index c.args.row i)) c.in-Refer.word c.apply.result) c.from-words_place.ensures;
       next_is = λ i. slice_set (slice_set c.args.row (c.from-place.ensures i) c.in_ok-after.after) (c.from-words_place.ensures i) c.in_ok-written.written;
     })
     c.moves_are_of_any.ensures.any c.moves_are_of_what_is_kept.ensures.made c.dead_registers_can_be_forgotten.ensures.forgotten c.requires.live
 
 pub rewritten-requires-clause-known : goal.rewritten-requires-clause-known
 rewritten-requires-clause-known g c =
-    lists_kept c.args.self.now c.moved.new.self c.args.transition_caches.now.lists c.in_ok-after.ensures.kept c.requires.lists
+    lists_kept c.args.self.now c.state_after_reference.new.self c.args.transition_caches.now.lists c.in_ok-after.ensures.kept c.requires.lists
 
 pub returns-clause-local_states : goal.returns-clause-local_states
 returns-clause-local_states g c =
-    local_states_kept c.args.extent.exchanged c.args.code.now c.moved.new.self c.rewritten.new.self c.moved.new.transition_cache
+    local_states_kept c.args.extent.exchanged c.args.code.now c.state_after_reference.new.self c.list_after_write.new.self c.state_after_reference.new.transition_cache
     c.in_ok-written.ensures.kept c.in_ok-after.ensures.known

@@ -1,7 +1,7 @@
 use Rattle.std.proofs.Common.{◌∙◌, subst}
 use Rattle.state_search.specs.Placed.{HasRetired}
 use Rattle.state_search.proofs.Remembering.{behind_is}
-use Rattle.state_search.proofs.state_tables.StateTables.retired.Goals as goal
+use Rattle.state_search.proofs.state_tables.StateTables.make_reference.Goals as goal
 
 pub returns-clause-behind : goal.returns-clause-behind
 returns-clause-behind c =

@@ -6,7 +6,7 @@ use Rattle.elf_image.specs.Images.{ImageContents, IsPlaced}
 use Rattle.machine_steps.specs.Machines.{MachineLists, IsMachine}
 use Rattle.machine_steps.specs.Openings.{IsOpening}
 use Rattle.machine_steps.proofs.Opening.{new_is_machine, new_opens}
-use Rattle.machine_steps.proofs.machine.made.Goals as goal
+use Rattle.machine_steps.proofs.machine.open_machine.Goals as goal
 
 pub new_ports-requires-clause-placed : goal.new_ports-requires-clause-placed
 new_ports-requires-clause-placed c = subst (IsPlaced c.layout-layout.result.now) c.requires.words c.layout-layout.ensures.placed

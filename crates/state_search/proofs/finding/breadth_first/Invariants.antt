@@ -1,7 +1,7 @@
 use Rattle.state_search.specs.Search.{AreAllFound, Searched}
 use Rattle.state_search.specs.TransitionCache.{KnowsLists, KnowsLocalStates}
 use Rattle.state_search.specs.StateTables.{HasGrown, means}
-use Rattle.state_search.proofs.finding.follow.Given as goal
+use Rattle.state_search.proofs.finding.breadth_first.Given as goal
 
 abbrev pub invariant-loop-at : goal.invariant-loop-at
 invariant-loop-at g l = record {

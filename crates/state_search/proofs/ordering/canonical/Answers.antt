@@ -1,5 +1,5 @@
 use Rattle.state_search.proofs.Trading.{as_it_was, then_exchanged}
-use Rattle.state_search.proofs.ordering.ordered.Goals as goal
+use Rattle.state_search.proofs.ordering.canonical.Goals as goal
 
 pub loop-next-init : goal.loop-next-init
 loop-next-init g c = record { exchanged = as_it_was _ _; there = c.requires.there }

@@ -6,7 +6,7 @@ use Rattle.state_search.specs.StateTables.{IsRow, means}
 use Rattle.state_search.proofs.Lemmas.{found_at, past}
 use Rattle.state_search.proofs.Growing.{kept_all, kept_on}
 use Rattle.state_search.proofs.Searching.{all_begun, begun}
-use Rattle.state_search.proofs.finding.follow.Goals as goal
+use Rattle.state_search.proofs.finding.breadth_first.Goals as goal
 
 pub loop-at-init : goal.loop-at-init
 loop-at-init g c =

@@ -1,7 +1,7 @@
 use Rattle.std.proofs.Common.{sym, subst, ◌∙◌, arith}
 use Rattle.state_search.specs.StateTables.{IsBehind}
 use Rattle.state_search.proofs.Remembering.{local_states_kept, local_states_remembered}
-use Rattle.state_search.proofs.state_tables.StateTables.moved.Goals as goal
+use Rattle.state_search.proofs.state_tables.StateTables.state_after_reference.Goals as goal
 
 pub returns-in-Some-clause-behind : goal.returns-in-Some-clause-behind
 returns-in-Some-clause-behind c = (c.requires.known c.args.number c.args.word c.args.before c.in-Some.behind (sym c.get.ensures ∙ c.in-Some.is)).1
@@ -9,11 +9,11 @@ returns-in-Some-clause-behind c = (c.requires.known c.args.number c.args.word c.
 pub returns-clause-known : goal.returns-clause-known
 returns-clause-known c =
     let kept = c.in_ok-behind.ensures.kept in
-    local_states_remembered c.args.quietly c.args.code.now c.retired.new.self c.args.transition_cache.now c.remember.new.self c.args.number c.args.word
+    local_states_remembered c.args.quietly c.args.code.now c.make_reference.new.self c.args.transition_cache.now c.remember.new.self c.args.number c.args.word
     c.args.before
     c.in_ok-behind.behind
-    (local_states_kept c.args.quietly c.args.code.now c.args.self.now c.retired.new.self c.args.transition_cache.now kept c.requires.known) c.remember.ensures
+    (local_states_kept c.args.quietly c.args.code.now c.args.self.now c.make_reference.new.self c.args.transition_cache.now kept c.requires.known) c.remember.ensures
     (omega (arith, c.requires.there, kept.local_states))
-    (subst (λ a. IsBehind c.args.quietly c.args.code.now c.args.before a c.retired.new.self c.in_ok-behind.behind)
+    (subst (λ a. IsBehind c.args.quietly c.args.code.now c.args.before a c.make_reference.new.self c.in_ok-behind.behind)
     (sym (kept.same_local_state c.args.number c.requires.there))
     c.in_ok-behind.ensures.behind)

@@ -13,13 +13,13 @@ use Rattle.state_search.specs.Opening.{flat_of}
 use Rattle.exploration.specs.Endings.{IsStoodFor}
 use Rattle.exploration.specs.States.{AreAllStates, HasManyStates}
 use Rattle.exploration.proofs.Exploring.{all_states, many_states, flat_sound, flat_complete, flat_schedules, uniform}
-use Rattle.exploration.proofs.run.explored.Goals as goal
+use Rattle.exploration.proofs.run.explore_from.Goals as goal
 
 pub results_of_space-requires : goal.results_of_space-requires
 results_of_space-requires g c =
     let few = c.in_ok-found.ensures.found.successors.few in
     let all = c.in_ok-found.ensures.found.successors.all in
-    let is : c.search.new.state_tables.live ≡ c.in-Ok.live =
+    let is : c.explore_states.new.state_tables.live ≡ c.in-Ok.live =
     c.in_ok-found.ensures.kept.live ∙ (c.in_ok-first.ensures.kept.live ∙ ap (λ (t : TableLists). t.live) c.new-state_tables.ensures) in (
       omega arith,
       (
@@ -50,7 +50,7 @@ pub returns-clause-sound : goal.returns-clause-sound
 returns-clause-sound g c =
     let e = c.args.extent in
     let code = c.args.code.now in
-    let t = c.search.new.state_tables in
+    let t = c.explore_states.new.state_tables in
     let first = means e c.open.new.self c.in_ok-first.first in
     let m = flat_of code c.args.cores.now c.args.words in
     let settles = subst (λ live. ReachesMacroState (setting_at e) code (kept_by live) m (λ k. []) first)
@@ -70,7 +70,7 @@ pub returns-clause-complete : goal.returns-clause-complete
 returns-clause-complete g c =
     let e = c.args.extent in
     let code = c.args.code.now in
-    let t = c.search.new.state_tables in
+    let t = c.explore_states.new.state_tables in
     let first = means e c.open.new.self c.in_ok-first.first in
     let m = flat_of code c.args.cores.now c.args.words in
     let settles = subst (λ live. ReachesMacroState (setting_at e) code (kept_by live) m (λ k. []) first)
@@ -93,7 +93,7 @@ pub returns-clause-termination : goal.returns-clause-termination
 returns-clause-termination g c =
     let e = c.args.extent in
     let code = c.args.code.now in
-    let t = c.search.new.state_tables in
+    let t = c.explore_states.new.state_tables in
     let first = means e c.open.new.self c.in_ok-first.first in
     let m = flat_of code c.args.cores.now c.args.words in
     let settles = subst (λ live. ReachesMacroState (setting_at e) code (kept_by live) m (λ k. []) first)
@@ -110,7 +110,7 @@ pub returns-clause-states : goal.returns-clause-states
 returns-clause-states g c =
     let e = c.args.extent in
     let code = c.args.code.now in
-    let t = c.search.new.state_tables in
+    let t = c.explore_states.new.state_tables in
     let first = means e c.open.new.self c.in_ok-first.first in
     let m = flat_of code c.args.cores.now c.args.words in
     let settles = subst (λ live. ReachesMacroState (setting_at e) code (kept_by live) m (λ k. []) first)
@@ -142,7 +142,7 @@ pub returns-in_err-found-clause-given_up : goal.returns-in_err-found-clause-give
 returns-in_err-found-clause-given_up g c =
     let e = c.args.extent in
     let code = c.args.code.now in
-    let t = c.search.new.state_tables in
+    let t = c.explore_states.new.state_tables in
     let first = means e c.open.new.self c.in_ok-first.first in
     let m = flat_of code c.args.cores.now c.args.words in
     let p = err_from_is_err_and c.from_residual-in_err-found.result c.from_residual-in_err-found.ensures.1 in

@@ -1,6 +1,6 @@
 use Rattle.std.proofs.Common.{◌∙◌, Some, sym, ap}
 use Rattle.machine_steps.proofs.Seeing.{in_words, in_program, in_own, seen_there, there_within}
-use Rattle.machine_steps.proofs.machine.Machine.seen.Goals as goal
+use Rattle.machine_steps.proofs.machine.Machine.visible_byte.Goals as goal
 
 pub returns-then-address-ge-SHARED_START : goal.returns-then-address-ge-SHARED_START
 returns-then-address-ge-SHARED_START c =
