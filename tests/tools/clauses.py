@@ -104,14 +104,27 @@ def calls_of(file):
             comments = []
 
 
-def names_given_out(crate):
-    """The names that a library exports at its root."""
-    root = re.sub(r"//[^\n]*", "", (crate / "src/lib.rt").read_text())
-    for used in re.findall(r"^pub use ([^;]+);", root, re.M):
+def names_used(text):
+    """The names that a file exports from other modules."""
+    for used in re.findall(r"^pub use ([^;]+);", re.sub(r"//[^\n]*", "", text), re.M):
         if "{" in used:
             yield from re.findall(r"\w+(?=\s*[,}]|$)", used[used.index("{") :])
         else:
             yield used.rsplit("::", 1)[-1].strip()
+
+
+def names_given_out(crate):
+    """The names that a library exports at its root."""
+    return names_used((crate / "src/lib.rt").read_text())
+
+
+def laws_of(crate):
+    """The names in the module of a library's laws, if it exports one."""
+    if not re.search(r"^pub mod laws;", (crate / "src/lib.rt").read_text(), re.M):
+        return
+    text = (crate / "src/laws.rt").read_text()
+    yield from names_used(text)
+    yield from re.findall(r"^pub fn (\w+)", text, re.M)
 
 
 def rooms():
@@ -141,11 +154,11 @@ def page():
         crate = TOP / "crates" / name
         if not (crate / "src/lib.rt").exists() or room.startswith("Tests"):
             continue
-        given, rows = set(names_given_out(crate)), []
+        given, laws, rows = set(names_given_out(crate)), set(laws_of(crate)), []
         for file in sorted(crate.glob("src/**/*.rt")):
             for owner, call, refusal, clauses, sentence in calls_of(file):
-                if (owner or call) in given or file.name == "lib.rt":
-                    shown = f"`{owner}::{call}`" if owner else f"`{call}`"
+                if (owner or call) in given | laws or file.name == "lib.rt":
+                    shown = f"`{owner}::{call}`" if owner else f"`laws::{call}`" if call in laws else f"`{call}`"
                     shown += f" → `{refusal}`" if refusal else ""
                     rows.append(f"| {shown} | {', '.join(clauses) or '–'} | {sentence} |")
         if not rows:

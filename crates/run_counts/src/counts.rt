@@ -80,9 +80,11 @@ impl Counts {
     {
         self.kinds.observe(keys::kind(step));
         self.turns.observe(keys::turn(step));
-        self.retired.observe(keys::processor_of_retirement(step, outcome));
+        self.retired
+            .observe(keys::processor_of_retirement(step, outcome));
         self.moved.observe(keys::stage_of_move(step, outcome));
-        self.combined.observe(keys::stage_of_combination(step, outcome));
+        self.combined
+            .observe(keys::stage_of_combination(step, outcome));
         self.returned.observe(keys::stage_of_reply(step, outcome));
         self.split.observe(keys::stage_of_split(step, outcome));
         self.served.observe(keys::service(step));

@@ -70,7 +70,12 @@ impl StateTables {
             word,
             before,
         )?;
-        let written = self.list_after_write(&mut transition_caches.lists, list, word, phi.apply(before))?;
+        let written = self.list_after_write(
+            &mut transition_caches.lists,
+            list,
+            word,
+            phi.apply(before),
+        )?;
         let mut next = row;
         next[place] = after;
         next[words_place] = written;

@@ -179,7 +179,7 @@ static LAWFUL: [(Poke, bool); 14] = [
 
 fn expect_seen(rt: &impl Abort, machine: &Machine) {
     for (processor, address, byte) in SEEN.iter().copied() {
-        assert_same!(rt; machine.seen(processor, address), byte, address);
+        assert_same!(rt; machine.visible_byte(processor, address), byte, address);
     }
     assert_same!(rt; machine.reg(2, 5), Some(77));
     assert_same!(rt; machine.pc(3), Some(0x0001_0004));

@@ -66,7 +66,8 @@ returns-clause-next g c =
           c.in_ok-after.after) c.from-place.ensures c.in_ok-after.ensures.behind;
       written_there = c.in_ok-written.ensures.there;
       written_is = c.in_ok-written.ensures.written
-          ∙ ap (λ i. slice_set (words_at c.state_after_reference.new.self (slice_index c.args.row i)) c.in-Refer.word c.apply.result) c.from-words_place.ensures;
+          ∙ ap (λ i. slice_set (words_at c.state_after_reference.new.self (slice_index c.args.row i)) c.in-Refer.word c.apply.result)
+          c.from-words_place.ensures;
       next_is = λ i. slice_set (slice_set c.args.row (c.from-place.ensures i) c.in_ok-after.after) (c.from-words_place.ensures i) c.in_ok-written.written;
     })
     c.moves_are_of_any.ensures.any c.moves_are_of_what_is_kept.ensures.made c.dead_registers_can_be_forgotten.ensures.forgotten c.requires.live
@@ -77,5 +78,6 @@ rewritten-requires-clause-known g c =
 
 pub returns-clause-local_states : goal.returns-clause-local_states
 returns-clause-local_states g c =
-    local_states_kept c.args.extent.exchanged c.args.code.now c.state_after_reference.new.self c.list_after_write.new.self c.state_after_reference.new.transition_cache
+    local_states_kept c.args.extent.exchanged c.args.code.now c.state_after_reference.new.self c.list_after_write.new.self
+    c.state_after_reference.new.transition_cache
     c.in_ok-written.ensures.kept c.in_ok-after.ensures.known

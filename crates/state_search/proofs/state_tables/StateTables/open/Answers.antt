@@ -16,7 +16,8 @@ loop-p-preserved g c =
     there c.args.cores.now c.loop-p.p c.index-cores-p.result within ∙ ap Some (sym c.index-cores-p.is) in
     record {
       kept = kept_on _ _ _ c.loop-p.invariant.kept c.in_ok-row.ensures.kept;
-      opened = opened_on c.args.extent.exchanged c.args.code.now c.args.cores.now c.loop-p.self c.open_local_state.new.self c.loop-p.row c.loop-p.p c.in_ok-row.field-0
+      opened = opened_on c.args.extent.exchanged c.args.code.now c.args.cores.now c.loop-p.self c.open_local_state.new.self c.loop-p.row c.loop-p.p
+          c.in_ok-row.field-0
           c.index-cores-p.result within here c.in_ok-row.ensures.kept c.loop-p.invariant.opened c.in_ok-row.ensures.opened;
     }
 

@@ -12,7 +12,8 @@ returns-clause-known c =
     local_states_remembered c.args.quietly c.args.code.now c.make_reference.new.self c.args.transition_cache.now c.remember.new.self c.args.number c.args.word
     c.args.before
     c.in_ok-behind.behind
-    (local_states_kept c.args.quietly c.args.code.now c.args.self.now c.make_reference.new.self c.args.transition_cache.now kept c.requires.known) c.remember.ensures
+    (local_states_kept c.args.quietly c.args.code.now c.args.self.now c.make_reference.new.self c.args.transition_cache.now kept c.requires.known)
+    c.remember.ensures
     (omega (arith, c.requires.there, kept.local_states))
     (subst (λ a. IsBehind c.args.quietly c.args.code.now c.args.before a c.make_reference.new.self c.in_ok-behind.behind)
     (sym (kept.same_local_state c.args.number c.requires.there))
