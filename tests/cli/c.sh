@@ -178,6 +178,67 @@ for name in barrier ticket_lock readers_writers semaphore queue self_scheduled; 
     check "examples/c/explore/$name.c has the results that were worked out by hand, and no others" explores_c "$name"
 done
 
+# ---- programs of the kinds that people write
+
+# prints_as_worked_out NAME COUNT SIZE ..: in each report or result of $room/out, processor 0 prints what
+# tests/tools/c_examples.py works out in another way, and all processors halt with 0.
+prints_as_worked_out() {
+    local worked_out="$room/$*"
+    [ -s "$worked_out" ] || { python3 tests/tools/c_examples.py "$@" | od -An -v -tx1 | tr -d ' \n' && echo; } >"$worked_out"
+    diff "$worked_out" \
+        <(sed -n 's/^processor 0 .* halt 00 .*console //p' "$room/out" | sort -u) &&
+        ! grep '^processor [0-9]' "$room/out" | grep -v ' halt 00 '
+}
+
+# runs_in_c NAME WORD ..: a program that is made by `make` with these words prints what was worked out, by the sweep on 1
+# to 8 processors. At -O2 it does so too on 4 by threads, on 8 with room for two messages in a queue, and on 64.
+runs_in_c() {
+    local name=$1 run runs=('0 --sweep' '1 --sweep' '2 --sweep' '3 --sweep')
+    shift
+    [[ $* != *-O2* ]] || runs+=('2' '3 --sweep --c 2' '6 --sweep')
+    make_c clean && make_c "$@" "$name.elf" || return 1
+    for run in "${runs[@]}"; do
+        # shellcheck disable=SC2086
+        if ! ./ultra run --k $run "$room/c/$name.elf" >"$room/out" 2>&1 || ! prints_as_worked_out "$name" $((1 << ${run%% *})); then
+            echo "$* --k $run" && cat "$room/out" && return 1
+        fi
+    done
+}
+
+# prints_in_c NAME: it does so by each compiler at each level.
+prints_in_c() {
+    local compiler level
+    while read -r compiler; do
+        for level in -O0 -O2 -Os; do
+            runs_in_c "$1" "$compiler" "CFLAGS=$level -Wextra -Werror" || return 1
+        done
+    done < <(compilers_of_c)
+}
+
+# always_prints_in_c NAME STAGES SIZE ..: with small sizes, by each schedule a program prints what was worked out, and an
+# end can always be reached.
+always_prints_in_c() {
+    local name=$1 stages=$2
+    shift 2
+    make_c clean && make_c "CFLAGS=-O2 -Wextra -Werror ${*/#/-D}" "$name.elf" &&
+        ./ultra explore --k "$stages" "$room/c/$name.elf" >"$room/out" 2>&1 && prints_as_worked_out "$name" $((1 << stages)) "$@" &&
+        tail -n 1 "$room/out" | grep -x 'some schedule never ends; an end can always be reached' || { cat "$room/out" && return 1; }
+}
+
+for name in tasks bitonic_sort heat allocator sieve histogram nbody; do
+    check "examples/c/$name.c prints what was worked out, by each C compiler at -O0, -O2 and -Os" prints_in_c "$name"
+done
+check 'every schedule of examples/c/tasks.c, for a small board' always_prints_in_c tasks 1 QUEENS=2
+check 'every schedule of examples/c/tasks.c, with a queue that is full' always_prints_in_c tasks 1 QUEENS=3 CELLS=1
+check 'every schedule of examples/c/bitonic_sort.c, for 8 keys' always_prints_in_c bitonic_sort 1 KEYS=8
+check 'every schedule of examples/c/bitonic_sort.c, for 4 keys on 4 processors' always_prints_in_c bitonic_sort 2 KEYS=4
+check 'every schedule of examples/c/heat.c, for 3 steps' always_prints_in_c heat 1 STEPS=3
+check 'every schedule of examples/c/allocator.c, for 2 blocks' always_prints_in_c allocator 1 BLOCKS=2 ROUNDS=1
+check 'every schedule of examples/c/allocator.c, for 1 block' always_prints_in_c allocator 1 BLOCKS=1 ROUNDS=2 HELD=1
+check 'every schedule of examples/c/sieve.c, below 17' always_prints_in_c sieve 1 LIMIT=17
+check 'every schedule of examples/c/histogram.c, for 12 numbers' always_prints_in_c histogram 1 NUMBERS=12 CHUNK=4
+check 'every schedule of examples/c/nbody.c, for 3 bodies' always_prints_in_c nbody 1 BODIES=3 STEPS=1
+
 # ---- memory
 
 # A stack that overflows stops the processor with fault 6; a larger stack does not. The sum of 0 to 400 is 80,200, which
