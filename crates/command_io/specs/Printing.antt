@@ -17,6 +17,18 @@ pub record PrintsPrefix (is_to_be_printed : List ℕ → Type 0) (old new : Opti
   pub meant : is_to_be_printed text
   pub part : AppendsPart old new text
 
+-- The exit status says why the command fails: there is a cause, which is reported.
+pub record ReportsRefusal {F : Type 0} (status_of : F → ℕ) (is_cause is_reported : F → Type 0) (status : ℕ) : Type 0
+  where
+    pub refusal : F
+    pub tells : status ≡ status_of refusal
+    pub cause : is_cause refusal
+    pub reported : is_reported refusal
+
+-- the same of a command whose causes are all faults
+abbrev pub ReportsCause : (is_cause is_reported : Fault → Type 0) → (status : ℕ) → Type 0
+ReportsCause = ReportsRefusal status_of_fault
+
 -- The exit status says a fault, which has its cause and is reported. A failed write to the output is reported as the
 -- output's fault, which may have come from elsewhere too; where no write failed, the output is as it was.
 pub record ReportsFault {W : Type 0} (has_failed : W →

@@ -1,9 +1,10 @@
 //! Why a command does not print all that it was asked for, and how that is reported.
 
-ghost use Rattle.std.specs.Prelude.{◌≡◌, ◌≤◌};
+ghost use Rattle.std.specs.Prelude.{◌≡◌, ◌≤◌, Err, IfOk, Ok};
 ghost use Rattle.command_io.specs.declared.fault.Fault.TheVariants.{Link as LinkFailed, Memory as NoMemory};
 ghost use Rattle.command_io.specs.FaultTexts.{IsReported};
 ghost use Rattle.command_io.specs.Faults.{fault_of_image, fault_of_text, fault_of_trace, status_of_fault};
+ghost use Rattle.command_io.specs.Printing.{ReportsCause};
 
 use crate::exit::{LINK_FAILED, REFUSED, SPENT};
 use crate::printing::write_error;
@@ -129,4 +130,19 @@ pub fn report_fault<E: Write>(fault: Fault, err: &mut E) -> u8
     // Where standard error fails too, the exit status alone reports the fault.
     write_error(fault.line().as_str(), err);
     fault.status()
+}
+
+/// The exit status of a command: that of what it has printed, or else that of the fault for which it fails, which is
+/// reported on standard error.
+pub fn report_outcome<E: Write>(outcome: Result<u8, Fault>, err: &mut E) -> u8
+    requires low { IfOk outcome (λ status. status ≤ 1) }
+    ensures done { result ≤ 1 → outcome ≡ Ok result }
+    ensures fault { 2 ≤ result →
+        ReportsCause (λ fault. outcome ≡ Err fault) (IsReported (E.contents err.old) (E.contents err.new)) result }
+    ensures quiet { result ≤ 1 → err.new ≡ err.old }
+{
+    match outcome {
+        Ok(status) => status,
+        Err(fault) => report_fault(fault, err),
+    }
 }

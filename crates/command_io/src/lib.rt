@@ -1,8 +1,8 @@
 //! What the commands of `ultra` share.
 //!
 //! Faults with the exit statuses that say them, the image that they read and the machine that opens on it, digits, how
-//! a text is printed, and a writer that is opened by its first write. `specs/Printing.antt` says what a command leaves
-//! on its output, `specs/Files.antt` what is read of a file.
+//! a text is printed, and a writer that is opened by its first write. `specs/Links.antt` says what a command reads and
+//! writes, `specs/Printing.antt` what it leaves on its output, `specs/Files.antt` what is read of a file.
 //!
 //! A [`Tally`] counts what steps answer: for each processor the instructions that retired, and the bytes that it gave
 //! to the console. A report has a line for each processor and one for each shared word that is not zero; here are
@@ -22,7 +22,7 @@ mod tally;
 
 pub use digits::{push_bytes, push_status, push_word};
 pub use exit::{DONE, LINK_FAILED, REFUSED, SPENT, STOPPED_BY_FAULT};
-pub use fault::{Fault, report_fault};
+pub use fault::{Fault, report_fault, report_outcome};
 pub use input::{image_in, image_of, machine_of, opened};
 pub use lines::{push_console, push_processor, push_shared_word};
 pub use on_first_write::{CreateAt, OnFirstWrite, Open};
