@@ -22,9 +22,9 @@ module _ {T F : Type 0} {status_of : F → ℕ} {is_reported : F → Type 0} {st
   -- If each error that the result can be has this cause, the cause is reported.
   pub reports_with : (r : Result T F) (is_cause : F → Type 0) → ((f : F) → r ≡ Err f → is_cause f) →
       ReportsRefusal status_of (λ f. r ≡ Err f) is_reported status → ReportsRefusal status_of is_cause is_reported status
-  reports_with r is_cause causes told = record {
-    refusal = told.refusal;
-    tells = told.tells;
-    cause = causes told.refusal told.cause;
-    reported = told.reported;
+  reports_with r is_cause causes known = record {
+    refusal = known.refusal;
+    tells = known.tells;
+    cause = causes known.refusal known.cause;
+    reported = known.reported;
   }

@@ -1,5 +1,5 @@
 -- What the log of a run on threads says, and why there is none.
-use Rattle.std.proofs.Common.{◌≡◌, ℕ, List, Option, ◌∙◌, ap, sym, subst}
+use Rattle.std.proofs.Common.{◌≡◌, ℕ, List, ◌∙◌, ap, sym, subst}
 use Rattle.flat_machine.specs.declared.config.Config.{Config}
 use Rattle.flat_machine.specs.Limits.{IsWithinLimits}
 use Rattle.elf_image.specs.Files.{IsImageOf}
@@ -11,20 +11,21 @@ use Rattle.machine_log.specs.Logs.{Log}
 use Rattle.command_io.specs.declared.fault.Fault.{Fault}
 use Rattle.command_io.specs.declared.fault.Fault.TheVariants as fault
 use Rattle.trace_commands.proofs.Lemmas.{is_spelled}
+use Rattle.command_io.specs.Links.{Input}
 use Rattle.run_command.specs.Faults.{IsOfRun}
-use Rattle.run_command.specs.ThreadRuns.{HasBegun, HasEnded, IsNotThreaded, IsThreaded}
+use Rattle.run_command.specs.ThreadRuns.{HasBegun, HasEnded, IsNotThreaded, IsThreaded, ThreadedRun, threaded_run}
 use Rattle.run_command.proofs.Records.{have_records}
 
-module _ (c : Config) (known : Option (List ℕ)) (image : ImageContents) (log : Log) (consoles : List (List ℕ))
-    (is : IsThreaded c known image log consoles) where
+module _ (run : ThreadedRun) (image : ImageContents) (log : Log) (consoles : List (List ℕ)) (is : IsThreaded run image log consoles) where
   -- The opening of the log of a run on threads is a machine that opens on the image.
-  pub log_opens : IsOpening c image log.opening
-  log_opens = subst (IsOpening c image) (sym is.ended.opening_is) is.opens
+  pub log_opens : IsOpening run.config image log.opening
+  log_opens = subst (IsOpening run.config image) (sym is.ended.opening_is) is.opens
 
 -- a run of the machine that opens on the image
-pub threaded_is : (c : Config) (known : Option (List ℕ)) (image : ImageContents) (meant : IsImageOf c.shared_words known image) (opening : MachineLists)
-    (opens : IsOpening c image opening) (log : Log) (consoles : List (List ℕ)) → HasEnded opening log consoles → IsThreaded c known image log consoles
-threaded_is c known image meant opening opens log consoles ended =
+pub threaded_is : (c : Config) (file : Input) (image : ImageContents) (meant : IsImageOf c.shared_words file.bytes image) (opening : MachineLists)
+    (opens : IsOpening c image opening) (log : Log) (consoles : List (List ℕ)) → HasEnded opening log consoles →
+    IsThreaded (threaded_run c file) image log consoles
+threaded_is c file image meant opening opens log consoles ended =
     let opening_config : log.opening.config ≡ c = ap (λ (m : MachineLists). m.config) ended.opening_is ∙ opens.config in
     let limits : IsWithinLimits c = subst IsWithinLimits (ended.kept.replay.run.config ∙ opening_config) ended.kept.sound.limits in
     record {
@@ -39,19 +40,19 @@ threaded_is c known image meant opening opens log consoles ended =
     }
 
 -- a fault of the run
-pub not_threaded : (c : Config) (known : Option (List ℕ)) → HasBegun c known → (f : Fault) → IsOfRun f → IsNotThreaded c known f
-not_threaded c known begun fault.Memory is = tt
-not_threaded c known begun fault.Full is = begun
-not_threaded c known begun fault.Loan is = begun
-not_threaded c known begun fault.Budget is = begun
-not_threaded c known begun fault.Start is = begun
-not_threaded c known begun (fault.Image e) is = absurd is
-not_threaded c known begun (fault.Line n) is = absurd is
-not_threaded c known begun (fault.Text e) is = absurd is
-not_threaded c known begun fault.NotUtf8 is = absurd is
-not_threaded c known begun (fault.Trace e) is = absurd is
-not_threaded c known begun fault.Size is = absurd is
-not_threaded c known begun fault.States is = absurd is
-not_threaded c known begun fault.Alone is = absurd is
-not_threaded c known begun (fault.Stalled n) is = absurd is
-not_threaded c known begun fault.Link is = absurd is
+pub not_threaded : (run : ThreadedRun) → HasBegun run → (f : Fault) → IsOfRun f → IsNotThreaded run f
+not_threaded run begun fault.Memory is = tt
+not_threaded run begun fault.Full is = begun
+not_threaded run begun fault.Loan is = begun
+not_threaded run begun fault.Budget is = begun
+not_threaded run begun fault.Start is = begun
+not_threaded run begun (fault.Image e) is = absurd is
+not_threaded run begun (fault.Line n) is = absurd is
+not_threaded run begun (fault.Text e) is = absurd is
+not_threaded run begun fault.NotUtf8 is = absurd is
+not_threaded run begun (fault.Trace e) is = absurd is
+not_threaded run begun fault.Size is = absurd is
+not_threaded run begun fault.States is = absurd is
+not_threaded run begun fault.Alone is = absurd is
+not_threaded run begun (fault.Stalled n) is = absurd is
+not_threaded run begun fault.Link is = absurd is

@@ -10,7 +10,8 @@ use Rattle.schedules.specs.declared.sweeping.SweepEnd.{SweepEnd}
 use Rattle.schedules.specs.declared.sweeping.SweepEnd.TheVariants.{Over}
 use Rattle.elf_image.specs.Files.{IsImageOf}
 use Rattle.trace_commands.specs.TraceReports.{IsReportOf, IsReportedRun}
-use Rattle.run_command.specs.SweepRuns.{IsFinishedRun}
+use Rattle.command_io.specs.Links.{known_input}
+use Rattle.run_command.specs.SweepRuns.{by_sweep, sweep_run}
 
 abbrev OneLayout : Type 0
 OneLayout = (shared_words : ℕ) (file : List ℕ) (one other : Layout) → IsMeant shared_words file one → IsMeant shared_words file other → one ≡ other
@@ -32,18 +33,19 @@ one_image one_layout shared_words file one other a b =
     (λ i. record { layout = layout i; shared_words = words i })
 
 module _ (one_layout : OneLayout) (one_log : OneLog) (one_report : OneReport) (c : Config) (budget : ℕ) (file : List ℕ) (steps others : List Step)
-    (text other : List ℕ) (status another : ℕ) (a : IsReportedRun (IsFinishedRun c budget (Some file)) c steps text status)
-    (b : IsReportedRun (IsFinishedRun c budget (Some file)) c others other another) where
+    (text other : List ℕ) (status another : ℕ) (a : IsReportedRun (by_sweep (sweep_run c budget (known_input file))) steps text status)
+    (b : IsReportedRun (by_sweep (sweep_run c budget (known_input file))) others other another) where
   abbrev image : ImageContents
   image = a.image
 
   image_is : b.image ≡ image
-  image_is = one_image one_layout c.shared_words file image b.image a.run.over.meant b.run.over.meant
+  image_is = one_image one_layout c.shared_words file image b.image a.is.over.meant b.is.over.meant
 
   steps_are : steps ≡ others
   steps_are =
       sym a.entered
-      ∙ one_log c image (most_of budget) Over Over a.log b.log a.run.over.run (subst (λ i. IsWholeRun c i (most_of budget) Over b.log) image_is b.run.over.run)
+      ∙ one_log c image (most_of budget) Over Over a.log b.log a.is.over.whole
+      (subst (λ i. IsWholeRun c i (most_of budget) Over b.log) image_is b.is.over.whole)
       ∙ b.entered
 
   report_is : IsReportOf c image steps other another

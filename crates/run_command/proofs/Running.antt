@@ -1,5 +1,5 @@
 -- The log that has followed the sweep from a machine's opening on is that of a run, and has a spelling.
-use Rattle.std.proofs.Common.{◌≡◌, ℕ, List, Option, ◌∙◌, ap, sym, subst, arith}
+use Rattle.std.proofs.Common.{◌≡◌, ℕ, ◌∙◌, ap, sym, subst, arith}
 use Rattle.flat_machine.specs.declared.config.Config.{Config}
 use Rattle.flat_machine.specs.Limits.{IsWithinLimits}
 use Rattle.elf_image.specs.Files.{IsImageOf}
@@ -10,10 +10,14 @@ use Rattle.machine_steps.specs.Runs.{IsOpening}
 use Rattle.machine_log.specs.Logs.{Log, IsWellFormed}
 use Rattle.schedules.specs.Sweeps.{IsSwept, most_of, opened}
 use Rattle.schedules.specs.declared.sweeping.SweepEnd.{SweepEnd}
+use Rattle.schedules.specs.declared.sweeping.SweepEnd.TheVariants.{Budget}
+use Rattle.command_io.specs.declared.fault.Fault.{Fault}
+use Rattle.command_io.specs.declared.fault.Fault.TheVariants as fault
 use Rattle.trace_commands.proofs.Lemmas.{is_spelled}
-use Rattle.run_command.specs.SweepRuns.{IsRunOf}
+use Rattle.command_io.specs.Links.{Input}
+use Rattle.run_command.specs.SweepRuns.{IsNotOver, IsRunOf, RunItselfFails, SweepRun, sweep_run}
 
-module _ (c : Config) (budget : ℕ) (known : Option (List ℕ)) (image : ImageContents) (meant : IsImageOf c.shared_words known image) (m : MachineLists)
+module _ (c : Config) (budget : ℕ) (file : Input) (image : ImageContents) (meant : IsImageOf c.shared_words file.bytes image) (m : MachineLists)
     (opens : IsOpening c image m) (old log : Log) (starts : old ≡ opened m) (kept : IsWellFormed log) (end : SweepEnd)
     (swept : IsSwept (most_of budget) old end log) where
   opening_is : log.opening ≡ m
@@ -23,10 +27,10 @@ module _ (c : Config) (budget : ℕ) (known : Option (List ℕ)) (image : ImageC
   config_is = kept.replay.run.config ∙ ap (λ (n : MachineLists). n.config) opening_is ∙ opens.config
 
   -- A log that has followed the sweep from the machine's opening on is that of a run of the image.
-  pub run_of : IsRunOf c budget known end image log
+  pub run_of : IsRunOf (sweep_run c budget file) end image log
   run_of = record {
     meant = meant;
-    run = record {
+    whole = record {
       opens = subst (IsOpening c image) (sym opening_is) opens;
       replay = kept.replay;
       swept = subst (λ (l : Log). IsSwept (most_of budget) l end log) (starts ∙ ap opened (sym opening_is)) swept;
@@ -39,3 +43,22 @@ module _ (c : Config) (budget : ℕ) (known : Option (List ℕ)) (image : ImageC
       is_spelled c log.steps (subst IsWithinLimits config_is kept.sound.limits) kept.room
       (subst (λ (d : Config). HaveRecords d.k log.steps) config_is
       (records (subst (λ (l : Log). HaveRecords l.machine.config.k l.steps) (sym starts) (λ p d inside. absurd (omega (arith, inside))))))
+
+-- If the sweep has not ended on a log, there is no run, for the same fault.
+pub not_over : (run : SweepRun) (image : ImageContents) (old log : Log) → (IsSwept (most_of run.budget) old Budget log → IsRunOf run Budget image log) →
+    (f : Fault) → IsNotOver run.budget old log f → RunItselfFails run f
+not_over run image old log spent fault.Budget p = (image, log, spent p)
+not_over run image old log spent fault.Memory p = tt
+not_over run image old log spent (fault.Image e) p = absurd p
+not_over run image old log spent (fault.Line n) p = absurd p
+not_over run image old log spent (fault.Text e) p = absurd p
+not_over run image old log spent fault.NotUtf8 p = absurd p
+not_over run image old log spent (fault.Trace e) p = absurd p
+not_over run image old log spent fault.Size p = absurd p
+not_over run image old log spent (fault.Stalled n) p = absurd p
+not_over run image old log spent fault.Full p = absurd p
+not_over run image old log spent fault.Loan p = absurd p
+not_over run image old log spent fault.Start p = absurd p
+not_over run image old log spent fault.States p = absurd p
+not_over run image old log spent fault.Alone p = absurd p
+not_over run image old log spent fault.Link p = absurd p

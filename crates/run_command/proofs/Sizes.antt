@@ -1,17 +1,18 @@
 -- There is no run where there is no machine.
-use Rattle.std.proofs.Common.{ℕ, List, Option}
+use Rattle.std.proofs.Common.{ℕ}
 use Rattle.flat_machine.specs.declared.config.Config.{Config}
 use Rattle.elf_image.specs.Files.{IsImageOf}
 use Rattle.elf_image.specs.Images.{ImageContents}
 use Rattle.command_io.specs.declared.fault.Fault.{Fault}
 use Rattle.command_io.specs.declared.fault.Fault.TheVariants as fault
 use Rattle.command_io.specs.Files.{IsFaultOfSize}
-use Rattle.run_command.specs.SweepRuns.{RunItselfFails}
-use Rattle.run_command.specs.ThreadRuns.{IsNotThreaded}
+use Rattle.command_io.specs.Links.{Input}
+use Rattle.run_command.specs.SweepRuns.{RunItselfFails, sweep_run}
+use Rattle.run_command.specs.ThreadRuns.{IsNotThreaded, threaded_run}
 
-module _ (c : Config) (known : Option (List ℕ)) (image : ImageContents) (meant : IsImageOf c.shared_words known image) where
+module _ (c : Config) (file : Input) (image : ImageContents) (meant : IsImageOf c.shared_words file.bytes image) where
   -- by the sweep
-  pub not_run : (budget : ℕ) (f : Fault) → IsFaultOfSize c f → RunItselfFails c budget known f
+  pub not_run : (budget : ℕ) (f : Fault) → IsFaultOfSize c f → RunItselfFails (sweep_run c budget file) f
   not_run budget fault.Size p = ((image, meant), p)
   not_run budget fault.Memory p = tt
   not_run budget (fault.Image e) p = absurd p
@@ -29,7 +30,7 @@ module _ (c : Config) (known : Option (List ℕ)) (image : ImageContents) (meant
   not_run budget fault.Link p = absurd p
 
   -- on threads
-  pub not_on_threads : (f : Fault) → IsFaultOfSize c f → IsNotThreaded c known f
+  pub not_on_threads : (f : Fault) → IsFaultOfSize c f → IsNotThreaded (threaded_run c file) f
   not_on_threads fault.Size p = ((image, meant), p)
   not_on_threads fault.Memory p = tt
   not_on_threads (fault.Image e) p = absurd p

@@ -1,5 +1,5 @@
 -- What a run on threads leaves.
-use Rattle.std.specs.Prelude.{◌≡◌, ℕ, ◌^◌, ◌<◌, true, List, [], ◌∷◌, ◌++◌, Option}
+use Rattle.std.specs.Prelude.{◌≡◌, ℕ, ◌^◌, ◌<◌, true, List, [], ◌∷◌, ◌++◌}
 use Rattle.flat_machine.specs.declared.config.Config.{Config}
 use Rattle.flat_machine.specs.declared.event.Cause.{Cause}
 use Rattle.flat_machine.specs.declared.event.Event.{Event}
@@ -14,7 +14,9 @@ use Rattle.machine_log.specs.Logs.{Log, IsWellFormed}
 use Rattle.machine_lock.specs.Lists.{all_named, no_poke}
 use Rattle.command_io.specs.declared.fault.Fault.{Fault}
 use Rattle.command_io.specs.declared.fault.Fault.TheVariants as fault
+use Rattle.command_io.specs.Links.{Input}
 use Rattle.trace_commands.specs.CountedReplays.{AreConsoles, events_in}
+use Rattle.trace_commands.specs.TraceReports.{AskedRun}
 
 -- The last event is a stop.
 pub record EndInStop (events : List Event) : Type 0 where
@@ -34,40 +36,56 @@ pub record HasEnded (opening : MachineLists) (log : Log) (consoles : List (List 
   pub idle : IsIdle log.machine
   pub heard : AreConsoles log.opening log.steps consoles
 
+-- A run on threads that is asked for: the machine's size, and the image's file.
+pub record ThreadedRun : Type 0 where
+  pub config : Config
+  pub file : Input
+
+abbrev pub threaded_run : Config → Input → ThreadedRun
+threaded_run config file = record { config = config; file = file }
+
 -- So has a run of the image that a file means, on the machine of this size that opens on it, with a trace that has a
 -- spelling.
-pub record IsThreaded (c : Config) (known : Option (List ℕ)) (image : ImageContents) (log : Log)
-    (consoles : List (List ℕ)) : Type 0 where
-  pub meant : IsImageOf c.shared_words known image
+pub record IsThreaded (run : ThreadedRun) (image : ImageContents) (log : Log) (consoles : List (List ℕ)) : Type 0 where
+  pub meant : IsImageOf run.config.shared_words run.file.bytes image
   pub opening : MachineLists
-  pub opens : IsOpening c image opening
+  pub opens : IsOpening run.config image opening
   pub ended : HasEnded opening log consoles
-  pub trace : IsTrace (trace_of c log.steps)
+  pub trace : IsTrace (trace_of run.config log.steps)
 
 -- so has a run of whatever image
-abbrev pub IsSomeThreaded : (c : Config) → (known : Option (List ℕ)) → Log → (consoles : List (List ℕ)) → Type 0
-IsSomeThreaded c known log consoles = (image : ImageContents) × IsThreaded c known image log consoles
+abbrev pub IsSomeThreaded : ThreadedRun → Log → (consoles : List (List ℕ)) → Type 0
+IsSomeThreaded run log consoles = (image : ImageContents) × IsThreaded run image log consoles
 
 -- the log of such a run, whatever was sent to the consoles
-abbrev pub IsThreadedLog : (c : Config) → (known : Option (List ℕ)) → ImageContents → Log → Type 0
-IsThreadedLog c known image log = (consoles : List (List ℕ)) × IsThreaded c known image log consoles
+abbrev pub IsThreadedLog : ThreadedRun → ImageContents → Log → Type 0
+IsThreadedLog run image log = (consoles : List (List ℕ)) × IsThreaded run image log consoles
 
 -- A machine of this size opens on the image that a file means.
-pub record HasBegun (c : Config) (known : Option (List ℕ)) : Type 0 where
+pub record HasBegun (run : ThreadedRun) : Type 0 where
   pub image : ImageContents
-  pub meant : IsImageOf c.shared_words known image
+  pub meant : IsImageOf run.config.shared_words run.file.bytes image
   pub opening : MachineLists
-  pub opens : IsOpening c image opening
+  pub opens : IsOpening run.config image opening
 
 -- Why there is no such run: the image is refused; the machine's size is out of its limits; there is no memory, or else
 -- the machine was there, and the run ended with a fault of its own.
-abbrev pub IsNotThreaded : (c : Config) → (known : Option (List ℕ)) → Fault → Type 0
-IsNotThreaded c known (fault.Image e) = IsImageRefusal c.shared_words known e
-IsNotThreaded c known fault.Size = ((image : ImageContents) × IsImageOf c.shared_words known image)
-    × (IsWithinLimits c → ⊥)
-IsNotThreaded c known fault.Memory = Unit {0}
-IsNotThreaded c known fault.Full = HasBegun c known
-IsNotThreaded c known fault.Loan = HasBegun c known
-IsNotThreaded c known fault.Budget = HasBegun c known
-IsNotThreaded c known fault.Start = HasBegun c known
-IsNotThreaded c known other = ⊥
+abbrev pub IsNotThreaded : ThreadedRun → Fault → Type 0
+IsNotThreaded run (fault.Image e) = IsImageRefusal run.config.shared_words run.file.bytes e
+IsNotThreaded run fault.Size = ((image : ImageContents) × IsImageOf run.config.shared_words run.file.bytes image)
+    × (IsWithinLimits run.config → ⊥)
+IsNotThreaded run fault.Memory = Unit {0}
+IsNotThreaded run fault.Full = HasBegun run
+IsNotThreaded run fault.Loan = HasBegun run
+IsNotThreaded run fault.Budget = HasBegun run
+IsNotThreaded run fault.Start = HasBegun run
+IsNotThreaded run other = ⊥
+
+-- such a run, as one that a command reports
+abbrev pub on_threads : ThreadedRun → AskedRun
+on_threads run = record {
+  config = run.config;
+  file = run.file;
+  is_run = IsThreadedLog run;
+  is_not_run = IsNotThreaded run;
+}

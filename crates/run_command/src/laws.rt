@@ -1,10 +1,11 @@
 //! What a run is a function of: the contract of a function that does nothing.
 
-ghost use Rattle.std.specs.Prelude.{◌≡◌, ℕ, List, Some};
+ghost use Rattle.std.specs.Prelude.{◌≡◌, ℕ, List};
 ghost use Rattle.flat_machine.specs.declared.config.Config.{Config};
 ghost use Rattle.machine_steps.specs.steps.declared.step.Step.{Step};
 ghost use Rattle.trace_commands.specs.TraceReports.{IsReportedRun};
-ghost use Rattle.run_command.specs.SweepRuns.{IsFinishedRun};
+ghost use Rattle.command_io.specs.Links.{known_input};
+ghost use Rattle.run_command.specs.SweepRuns.{by_sweep, sweep_run};
 
 use elf_image::input_means_one_layout;
 use schedules::runs_have_one_log;
@@ -15,8 +16,8 @@ use trace_commands::steps_have_one_report;
 pub fn runs_have_one_report()
     ensures { (c : Config) (budget : ℕ) (file : List ℕ) (steps others : List Step) (text other : List ℕ)
         (status another : ℕ) →
-        IsReportedRun (IsFinishedRun c budget (Some file)) c steps text status →
-        IsReportedRun (IsFinishedRun c budget (Some file)) c others other another →
+        IsReportedRun (by_sweep (sweep_run c budget (known_input file))) steps text status →
+        IsReportedRun (by_sweep (sweep_run c budget (known_input file))) others other another →
         (steps ≡ others) × (text ≡ other) × (status ≡ another) }
 {
     input_means_one_layout();

@@ -1,22 +1,24 @@
 //! A run of an image on threads.
 
-ghost use Rattle.std.specs.Prelude.{◌≡◌, ◌^◌, [], IfErr, IfOk, map, vec_len};
+ghost use Rattle.std.specs.Prelude.{◌≡◌, ◌^◌, ◌↔◌, [], IfErr, IfOk, IsErrOf, false, map, true, vec_len};
 ghost use Rattle.std.specs.List.{range_with_len};
 ghost use Rattle.schedules.specs.Choices.{first_state};
 ghost use Rattle.processor_threads.specs.Consoles.{bytes_of};
+ghost use Rattle.command_io.specs.Links.{input};
 ghost use Rattle.run_command.specs.Faults.{IsOfRun, fault_of};
-ghost use Rattle.run_command.specs.ThreadRuns.{HasEnded, IsNotThreaded, IsSomeThreaded};
+ghost use Rattle.run_command.specs.ThreadRuns.{HasEnded, IsNotThreaded, IsSomeThreaded, threaded_run};
 
-use command_io::{Fault, image_in, machine_of};
+use command_io::{Fault, image_of, machine_of};
+use elf_image::ImageError;
 use flat_machine::Config;
 use ghost_map::NewTable;
+use link::LinkRead;
 use machine_lock::{PassState, Run, events_are_listed, stopped_are_shut};
 use machine_log::{Logged, log_is_well_formed};
 use machine_steps::runs_are_serialized;
 use processor_threads::{Gate, RunFault, run_threads};
 use schedules::Shuffled;
 use std::alloc::{AllocError, Global};
-use std::io::Read;
 use std::marker::Brand;
 use std::sync::Wait;
 use std::thread::Threads;
@@ -34,22 +36,26 @@ pub(crate) struct Finished {
 ///
 /// # Errors
 ///
-/// [`Fault::Image`] where the file is refused or cannot be read, [`Fault::Size`] where the size is out of its limits,
-/// what the run ends with, and [`Fault::Memory`].
-pub(crate) fn run_to_log<F: Read + Drop, G: Gate + Sync, R: Threads + Wait + Sync>(
+/// [`Fault::Image`] with [`ImageError::Link`] exactly if a read of the file fails, and with another error where the
+/// file is refused; [`Fault::Size`] where the size is out of its limits; what the run ends with; and [`Fault::Memory`].
+pub(crate) fn run_to_log<F: LinkRead, G: Gate + Sync, R: Threads + Wait + Sync>(
     rt: &R,
     alloc: Global,
-    file: F,
+    file: &mut F,
     config: Config,
     start: u32,
     gate: &G,
     budget: u32,
 ) -> Result<Finished, Fault>
-    ensures run_to_log { IfOk result (λ f. IsSomeThreaded config (F.remaining file) f.log
+    requires reads { F.has_failed file.old ≡ false }
+    ensures run_to_log { IfOk result
+        (λ f. IsSomeThreaded (threaded_run config (input F.remaining F.has_failed file.old file.new)) f.log
         (map bytes_of f.consoles.items)) }
-    ensures refused { IfErr result (IsNotThreaded config (F.remaining file)) }
+    ensures refused { IfErr result
+        (IsNotThreaded (threaded_run config (input F.remaining F.has_failed file.old file.new))) }
+    ensures unread { IsErrOf result (Fault.Image ImageError.Link) ↔ (F.has_failed file.new ≡ true) }
 {
-    let image = image_in(alloc, file, &config)?;
+    let image = image_of(alloc, file, &config)?;
     let log = Logged::new(alloc, machine_of(alloc, image, config)?);
     let room = NewTable::new(alloc)?;
     let arbiters = arbiters(alloc, start, log.machine().config().processors())?;

@@ -1,19 +1,24 @@
 //! `ultra run --sweep`: from the bytes of an image to the report of its run.
 
-ghost use Rattle.std.specs.Prelude.{◌≡◌, ◌≤◌, ◌↔◌, true, false, IfOk, IfErr, IsErrOf, OnErr};
-ghost use Rattle.trace_commands.specs.TraceReports.{IsRunReport, IsWorking};
-ghost use Rattle.trace_commands.specs.Causes.{RunFails};
+ghost use Rattle.std.specs.Prelude.{◌≡◌, ◌≤◌, ◌↔◌, true, false, IfOk, IfErr, IsErrOf, OnErr, OnOk};
+ghost use Rattle.schedules.specs.declared.sweeping.SweepEnd.{SweepEnd};
+ghost use Rattle.schedules.specs.Sweeps.{IsSwept, most_of};
+ghost use Rattle.schedules.specs.trace_file.Traces.{HaveRecords};
+ghost use Rattle.trace_commands.specs.TraceReports.{IsWorking, PrintsRun, trace_output};
+ghost use Rattle.trace_commands.specs.Causes.{RunCommandFails, RunFails};
 ghost use Rattle.command_io.specs.FaultTexts.{IsReported};
-ghost use Rattle.command_io.specs.Printing.{Prints, ReportsFault};
-ghost use Rattle.run_command.specs.SweepRuns.{IsFinishedRun, RunItselfFails, IsSomeFinishedRun};
+ghost use Rattle.command_io.specs.Links.{input, output};
+ghost use Rattle.command_io.specs.Printing.{ReportsCause};
+ghost use Rattle.run_command.specs.SweepRuns.{IsNotOver, IsSomeFinishedRun, RunItselfFails, by_sweep, sweep_run};
 
-use command_io::{Fault, image_in, machine_of, report_fault};
+use command_io::{Fault, image_of, machine_of, report_outcome};
+use elf_image::ImageError;
 use flat_machine::Config;
-use link::LinkWrite;
+use link::{LinkRead, LinkWrite};
 use machine_log::{Logged, log_is_well_formed};
 use schedules::{SweepEnd, follow_sweep};
 use std::alloc::Global;
-use std::io::{Read, Write};
+use std::io::Write;
 use trace_commands::print_run;
 
 /// Runs the image that a file is on a machine of this size, by the sweep, and prints the report. The sweep
@@ -24,55 +29,55 @@ use trace_commands::print_run;
 /// Answers the exit status: 0 where the report is printed, 1 where it is and a processor is faulted, else
 /// that of the fault that is reported on standard error. A fault is reported in this order: of the image, of the
 /// machine's size, of the run, of the trace, of the report.
-pub fn run_command<R: Read + Drop, T: LinkWrite, W: LinkWrite, E: Write>(
+pub fn run_command<R: LinkRead, T: LinkWrite, W: LinkWrite, E: Write>(
     alloc: Global,
-    file: R,
+    file: &mut R,
     config: Config,
     budget: u32,
     trace: &mut Option<T>,
     out: &mut W,
     err: &mut E,
 ) -> u8
+    requires reads { R.has_failed file.old ≡ false }
     requires works { IsWorking T.has_failed trace.old }
     requires prints { W.has_failed out.old ≡ false }
-    ensures reported { result ≤ 1 →
-        Prints (IsRunReport T.contents (IsFinishedRun config budget
-        (R.remaining file)) config trace.old trace.new result)
-        (W.contents out.old) (W.contents out.new) }
-    ensures fault { 2 ≤ result → ReportsFault W.has_failed Fault.Link ⊥
-        (RunFails T.contents (IsFinishedRun config budget (R.remaining file)) (RunItselfFails config budget
-        (R.remaining file)) config trace.old trace.new
-        (W.contents out.old) (W.contents out.new))
-        (IsReported (E.contents err.old) (E.contents err.new)) out.old out.new result }
+    ensures reported { result ≤ 1 → PrintsRun
+        (by_sweep (sweep_run config budget (input R.remaining R.has_failed file.old file.new)))
+        (trace_output T.contents trace.old trace.new) (output W.contents W.has_failed out.old out.new) result }
+    ensures fault { 2 ≤ result → ReportsCause (RunCommandFails
+        (by_sweep (sweep_run config budget (input R.remaining R.has_failed file.old file.new)))
+        (trace_output T.contents trace.old trace.new) (output W.contents W.has_failed out.old out.new))
+        (IsReported (E.contents err.old) (E.contents err.new)) result }
+    ensures unread { R.has_failed file.new ≡ true → result ≡ 3 }
     ensures failed { W.has_failed out.new ≡ true → result ≡ 3 }
+    ensures silent { 2 ≤ result → W.has_failed out.new ≡ false → out.new ≡ out.old }
     ensures quiet { result ≤ 1 → err.new ≡ err.old }
 {
-    match execute(alloc, file, config, budget, trace, out) {
-        Ok(status) => status,
-        Err(fault) => report_fault(fault, err),
-    }
+    let outcome = execute(alloc, file, config, budget, trace, out);
+    report_outcome(outcome, err)
 }
 
 /// Carries the command out.
-fn execute<R: Read + Drop, T: LinkWrite, W: LinkWrite>(
+fn execute<R: LinkRead, T: LinkWrite, W: LinkWrite>(
     alloc: Global,
-    file: R,
+    file: &mut R,
     config: Config,
     budget: u32,
     trace: &mut Option<T>,
     out: &mut W,
 ) -> Result<u8, Fault>
+    requires reads { R.has_failed file.old ≡ false }
     requires works { IsWorking T.has_failed trace.old }
     requires prints { W.has_failed out.old ≡ false }
+    ensures reported { IfOk result (PrintsRun
+        (by_sweep (sweep_run config budget (input R.remaining R.has_failed file.old file.new)))
+        (trace_output T.contents trace.old trace.new) (output W.contents W.has_failed out.old out.new)) }
+    ensures fault { IfErr result (RunFails
+        (by_sweep (sweep_run config budget (input R.remaining R.has_failed file.old file.new)))
+        (trace_output T.contents trace.old trace.new) (output W.contents W.has_failed out.old out.new)) }
+    ensures unread { IsErrOf result (Fault.Image ImageError.Link) ↔ (R.has_failed file.new ≡ true) }
     ensures failed { IsErrOf result Fault.Link ↔ (W.has_failed out.new ≡ true) }
-    ensures reported { IfOk result (λ status. Prints
-        (IsRunReport T.contents (IsFinishedRun config budget (R.remaining file)) config trace.old trace.new status)
-        (W.contents out.old) (W.contents out.new)) }
     ensures low { IfOk result (λ status. status ≤ 1) }
-    ensures fault { IfErr result
-        (RunFails T.contents (IsFinishedRun config budget (R.remaining file)) (RunItselfFails config budget
-        (R.remaining file)) config trace.old trace.new
-        (W.contents out.old) (W.contents out.new)) }
     ensures silent { OnErr result (W.has_failed out.new ≡ false → out.new ≡ out.old) }
 {
     let log = run_to_log(alloc, file, config, budget)?;
@@ -80,24 +85,47 @@ fn execute<R: Read + Drop, T: LinkWrite, W: LinkWrite>(
 }
 
 /// The log of a run.
-fn run_to_log<R: Read + Drop>(
+fn run_to_log<R: LinkRead>(
     alloc: Global,
-    file: R,
+    file: &mut R,
     config: Config,
     budget: u32,
 ) -> Result<Logged, Fault>
-    ensures run_to_log { IfOk result (IsSomeFinishedRun config budget (R.remaining file)) }
-    ensures refused { IfErr result (RunItselfFails config budget (R.remaining file)) }
+    requires reads { R.has_failed file.old ≡ false }
+    ensures run_to_log { IfOk result
+        (IsSomeFinishedRun (sweep_run config budget (input R.remaining R.has_failed file.old file.new))) }
+    ensures refused { IfErr result
+        (RunItselfFails (sweep_run config budget (input R.remaining R.has_failed file.old file.new))) }
+    ensures unread { IsErrOf result (Fault.Image ImageError.Link) ↔ (R.has_failed file.new ≡ true) }
 {
-    let image = image_in(alloc, file, &config)?;
+    let image = image_of(alloc, file, &config)?;
     let mut log = Logged::new(alloc, machine_of(alloc, image, config)?);
-    let Ok(end) = follow_sweep(&mut log, budget) else {
+    let ended = run_to_end(&mut log, budget);
+    log_is_well_formed(&log);
+    match ended {
+        Ok(()) => Ok(log),
+        Err(fault) => Err(fault),
+    }
+}
+
+/// Follows the sweep until it is over.
+///
+/// # Errors
+///
+/// [`Fault::Budget`] where the budget is used up before, whatever memory there is, and [`Fault::Memory`] where there is
+/// none for the log: no step is taken then.
+fn run_to_end(log: &mut Logged, budget: u32) -> Result<(), Fault>
+    ensures swept { OnOk result (IsSwept (most_of budget) log.old SweepEnd.Over log.new) }
+    ensures records { OnOk result (HaveRecords log.old.machine.config.k log.old.steps →
+        HaveRecords log.new.machine.config.k log.new.steps) }
+    ensures refused { IfErr result (IsNotOver budget log.old log.new) }
+{
+    let Ok(end) = follow_sweep(log, budget) else {
         // A new log has room for the longest run, so memory is all that it can want.
         return Err(Fault::Memory);
     };
-    log_is_well_formed(&log);
     match end {
-        SweepEnd::Over => Ok(log),
+        SweepEnd::Over => Ok(()),
         SweepEnd::Budget => Err(Fault::Budget),
     }
 }

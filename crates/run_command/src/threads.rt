@@ -1,19 +1,21 @@
 //! `ultra run` on threads: from the bytes of an image to the report of its run.
 
 ghost use Rattle.std.specs.Prelude.{◌≡◌, ◌≤◌, ◌↔◌, true, false, IfOk, IfErr, IsErrOf, OnErr};
-ghost use Rattle.trace_commands.specs.Causes.{RunFails};
-ghost use Rattle.trace_commands.specs.TraceReports.{IsRunReport, IsWorking};
+ghost use Rattle.trace_commands.specs.Causes.{RunCommandFails, RunFails};
+ghost use Rattle.trace_commands.specs.TraceReports.{IsWorking, PrintsRun, trace_output};
 ghost use Rattle.command_io.specs.FaultTexts.{IsReported};
-ghost use Rattle.command_io.specs.Printing.{Prints, ReportsFault};
-ghost use Rattle.run_command.specs.ThreadRuns.{IsNotThreaded, IsThreadedLog};
+ghost use Rattle.command_io.specs.Links.{input, output};
+ghost use Rattle.command_io.specs.Printing.{ReportsCause};
+ghost use Rattle.run_command.specs.ThreadRuns.{on_threads, threaded_run};
 
 use crate::run::run_to_log;
-use command_io::{Fault, report_fault};
+use command_io::{Fault, report_outcome};
+use elf_image::ImageError;
 use flat_machine::Config;
-use link::LinkWrite;
+use link::{LinkRead, LinkWrite};
 use processor_threads::Gate;
 use std::alloc::Global;
-use std::io::{Read, Write};
+use std::io::Write;
 use std::sync::Wait;
 use std::thread::Threads;
 use trace_commands::print_run;
@@ -33,7 +35,7 @@ use trace_commands::print_run;
 /// of the run, of the trace, of the report. A run has a fault where there is no memory, where its log is full, where a
 /// thread has used up its budget, or could not be started.
 pub fn threaded_run_command<
-    F: Read + Drop,
+    F: LinkRead,
     T: LinkWrite,
     W: LinkWrite,
     E: Write,
@@ -42,7 +44,7 @@ pub fn threaded_run_command<
 >(
     rt: &R,
     alloc: Global,
-    file: F,
+    file: &mut F,
     config: Config,
     start: u32,
     gate: &G,
@@ -51,30 +53,30 @@ pub fn threaded_run_command<
     out: &mut W,
     err: &mut E,
 ) -> u8
+    requires reads { F.has_failed file.old ≡ false }
     requires works { IsWorking T.has_failed trace.old }
     requires prints { W.has_failed out.old ≡ false }
     ensures reported { result ≤ 1 →
-        Prints (IsRunReport T.contents (IsThreadedLog config (F.remaining file)) config trace.old trace.new result)
-        (W.contents out.old) (W.contents out.new) }
-    ensures fault { 2 ≤ result → ReportsFault W.has_failed Fault.Link ⊥
-        (RunFails T.contents (IsThreadedLog config (F.remaining file)) (IsNotThreaded config (F.remaining file))
-        config trace.old trace.new
-        (W.contents out.old) (W.contents out.new))
-        (IsReported (E.contents err.old) (E.contents err.new)) out.old out.new result }
+        PrintsRun (on_threads (threaded_run config (input F.remaining F.has_failed file.old file.new)))
+        (trace_output T.contents trace.old trace.new) (output W.contents W.has_failed out.old out.new) result }
+    ensures fault { 2 ≤ result → ReportsCause
+        (RunCommandFails (on_threads (threaded_run config (input F.remaining F.has_failed file.old file.new)))
+        (trace_output T.contents trace.old trace.new) (output W.contents W.has_failed out.old out.new))
+        (IsReported (E.contents err.old) (E.contents err.new)) result }
+    ensures unread { F.has_failed file.new ≡ true → result ≡ 3 }
     ensures failed { W.has_failed out.new ≡ true → result ≡ 3 }
+    ensures silent { 2 ≤ result → W.has_failed out.new ≡ false → out.new ≡ out.old }
     ensures quiet { result ≤ 1 → err.new ≡ err.old }
 {
-    match execute(rt, alloc, file, config, start, gate, budget, trace, out) {
-        Ok(status) => status,
-        Err(fault) => report_fault(fault, err),
-    }
+    let outcome = execute(rt, alloc, file, config, start, gate, budget, trace, out);
+    report_outcome(outcome, err)
 }
 
 /// Carries the command out.
-fn execute<F: Read + Drop, T: LinkWrite, W: LinkWrite, G: Gate + Sync, R: Threads + Wait + Sync>(
+fn execute<F: LinkRead, T: LinkWrite, W: LinkWrite, G: Gate + Sync, R: Threads + Wait + Sync>(
     rt: &R,
     alloc: Global,
-    file: F,
+    file: &mut F,
     config: Config,
     start: u32,
     gate: &G,
@@ -82,17 +84,18 @@ fn execute<F: Read + Drop, T: LinkWrite, W: LinkWrite, G: Gate + Sync, R: Thread
     trace: &mut Option<T>,
     out: &mut W,
 ) -> Result<u8, Fault>
+    requires reads { F.has_failed file.old ≡ false }
     requires works { IsWorking T.has_failed trace.old }
     requires prints { W.has_failed out.old ≡ false }
-    ensures failed { IsErrOf result Fault.Link ↔ (W.has_failed out.new ≡ true) }
-    ensures reported { IfOk result (λ status. Prints
-        (IsRunReport T.contents (IsThreadedLog config (F.remaining file)) config trace.old trace.new status)
-        (W.contents out.old) (W.contents out.new)) }
-    ensures low { IfOk result (λ status. status ≤ 1) }
+    ensures reported { IfOk result
+        (PrintsRun (on_threads (threaded_run config (input F.remaining F.has_failed file.old file.new)))
+        (trace_output T.contents trace.old trace.new) (output W.contents W.has_failed out.old out.new)) }
     ensures fault { IfErr result
-        (RunFails T.contents (IsThreadedLog config (F.remaining file)) (IsNotThreaded config (F.remaining file))
-        config trace.old trace.new
-        (W.contents out.old) (W.contents out.new)) }
+        (RunFails (on_threads (threaded_run config (input F.remaining F.has_failed file.old file.new)))
+        (trace_output T.contents trace.old trace.new) (output W.contents W.has_failed out.old out.new)) }
+    ensures unread { IsErrOf result (Fault.Image ImageError.Link) ↔ (F.has_failed file.new ≡ true) }
+    ensures failed { IsErrOf result Fault.Link ↔ (W.has_failed out.new ≡ true) }
+    ensures low { IfOk result (λ status. status ≤ 1) }
     ensures silent { OnErr result (W.has_failed out.new ≡ false → out.new ≡ out.old) }
 {
     let finished = run_to_log(rt, alloc, file, config, start, gate, budget)?;

@@ -43,7 +43,7 @@ pub use programs::{ADD_AT_X12, HUNDRED_ADDS, report_of_hundred_adds};
 pub use ran::Ran;
 pub use sink::{Deaf, Full, Sink, Taken};
 pub use sizes::{size, tight_size};
-pub use source::{Broken, Endless, Source};
+pub use source::{Broken, Endless, Source, metered};
 pub use trace::{FOUR_ADDS, ONE_TURN, trace_of};
 pub use watched::{Shown, Watched};
 pub use words::{Words, asked_and_wanted, low, read_words, said};

@@ -1,9 +1,10 @@
 //! Readers.
 
-ghost use Rattle.std.specs.Prelude.{◌≡◌, ◌+◌, Some, IsErr};
+ghost use Rattle.std.specs.Prelude.{◌≡◌, ◌+◌, false, Some, IfOk, IsErr};
 ghost use Rattle.std.specs.Io.{ReadsAtMost};
 ghost use Rattle.std.specs.Io.KnownBytes.{ReadConsumes};
 
+use link::{Link, Meter};
 use std::io;
 use std::io::{ErrorKind, Read};
 
@@ -73,5 +74,15 @@ pub struct Broken;
 impl Read for Broken {
     fn read(&mut self, _buf: &mut [u8]) -> io::Result<usize> {
         Err(ErrorKind::BrokenPipe.into())
+    }
+}
+
+/// The link of a file, of which no call has failed, where it could be opened.
+pub fn metered<R>(file: io::Result<R>) -> io::Result<Meter<R>>
+    ensures { IfOk result (λ meter. ⟦<Meter<R> as Link>⟧.has_failed meter ≡ false) }
+{
+    match file {
+        Ok(file) => Ok(Meter::new(file)),
+        Err(error) => Err(error),
     }
 }

@@ -5,6 +5,7 @@ pub mod LogReports
 pub mod FlatReports
 pub mod OneReport
 pub mod OfTraces
+pub mod Statuses
 pub mod Hearing
 pub mod Answering
 pub mod Words

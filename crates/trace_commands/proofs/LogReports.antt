@@ -1,5 +1,5 @@
 -- The log of a run can be reported, and its report is that of the run.
-use Rattle.std.proofs.Common.{◌≡◌, ℕ, List, Option, ◌∙◌, ap, refl, sym, subst}
+use Rattle.std.proofs.Common.{◌≡◌, ℕ, List, ◌∙◌, ap, refl, sym, subst}
 use Rattle.flat_machine.specs.declared.config.Config.{Config}
 use Rattle.elf_image.specs.Images.{ImageContents}
 use Rattle.trace_file.specs.Traces.{IsTrace, trace_bytes, trace_of}
@@ -8,9 +8,10 @@ use Rattle.machine_steps.specs.Runs.{IsOpening, IsReplay}
 use Rattle.machine_log.specs.Logs.{Log}
 use Rattle.command_io.specs.declared.fault.Fault.{Fault}
 use Rattle.command_io.specs.declared.fault.Fault.TheVariants as fault
-use Rattle.command_io.specs.Printing.{Prints}
+use Rattle.command_io.specs.Links.{Output}
 use Rattle.trace_commands.specs.Causes.{LogReportFails, RunFails}
-use Rattle.trace_commands.specs.TraceReports.{CanBeReported, IsLogReport, IsPartSaved, IsReportOf, IsRunReport, IsSaved, Running}
+use Rattle.trace_commands.specs.TraceReports.{AskedRun, CanBeReported, HasPartSaved, HasSaved, IsLogReport, IsReportOf, IsRunReport}
+use Rattle.trace_commands.specs.TraceReports.{PrintsLog, PrintsRun, TraceOutput}
 
 module _ (c : Config) (image : ImageContents) (log : Log) (opens : IsOpening c image log.opening) (replay : IsReplay log.opening log.steps log.machine) where
   config_is : log.machine.config ≡ c
@@ -28,48 +29,49 @@ module _ (c : Config) (image : ImageContents) (log : Log) (opens : IsOpening c i
     trace = subst (λ (d : Config). IsTrace (trace_of d log.steps)) (sym config_is) trace;
   }
 
-  module _ {T : Type 0} (contents : T → Option (List ℕ)) (is_run : Running) (run : is_run image log) (old new : Option T) (out out' : Option (List ℕ)) where
-    reported : (status : ℕ) (text : List ℕ) → IsLogReport contents log old new status text → IsRunReport contents is_run c old new status text
+  module _ {T : Type 0} (run : AskedRun) (size : run.config ≡ c) (is : run.is_run image log) (trace : TraceOutput T) (out : Output) where
+    size_is : log.machine.config ≡ run.config
+    size_is = config_is ∙ sym size
+
+    reported : (status : ℕ) (text : List ℕ) → IsLogReport log trace status text → IsRunReport run trace status text
     reported status text r = record {
       steps = log.steps;
-      run = record {
+      reported = record {
         image = image;
         log = log;
-        run = run;
+        is = is;
         entered = refl;
-        report = subst (λ (x : Config × ImageContents). IsReportOf x.0 x.1 log.steps text status) (λ i. (config_is i, image_is i)) r.report;
+        report = subst (λ (x : Config × ImageContents). IsReportOf x.0 x.1 log.steps text status) (λ i. (size_is i, image_is i)) r.report;
       };
-      saved = subst (λ (d : Config). IsSaved contents old new (trace_bytes (trace_of d log.steps))) config_is r.saved;
+      saved = subst (λ (d : Config). HasSaved trace (trace_bytes (trace_of d log.steps))) size_is r.saved;
     }
 
     -- If the report of a run's log is printed, so is the report of the run.
-    pub run_printed : (status : ℕ) → Prints (IsLogReport contents log old new status) out out' →
-        Prints (IsRunReport contents is_run c old new status) out out'
+    pub run_printed : (status : ℕ) → PrintsLog log trace out status → PrintsRun run trace out status
     run_printed status p = record { text = p.text; meant = reported status p.text p.meant; printed = p.printed }
 
     -- If the report of a run's log fails, that of the run fails with the same fault.
-    pub no_run : (is_not_run : Fault → Type 0) → is_not_run fault.Memory → (f : Fault) → LogReportFails contents log old new out out' f →
-        RunFails contents is_run is_not_run c old new out out' f
-    no_run is_not_run none (fault.Trace e) p = (
+    pub no_run : run.is_not_run fault.Memory → (f : Fault) → LogReportFails log trace out f → RunFails run trace out f
+    no_run none (fault.Trace e) p = (
       p.0,
       record {
         image = image;
         log = log;
-        run = run;
-        part = subst (λ (d : Config). IsPartSaved contents old new (trace_bytes (trace_of d log.steps))) config_is p.1;
+        is = is;
+        part = subst (λ (d : Config). HasPartSaved trace (trace_bytes (trace_of d log.steps))) size_is p.1;
       },
     )
-    no_run is_not_run none fault.Link p = record { text = p.text; meant = (p.meant.0, reported p.meant.0 p.text p.meant.1); part = p.part }
-    no_run is_not_run none fault.Memory p = (none, p)
-    no_run is_not_run none fault.Size p = absurd p
-    no_run is_not_run none (fault.Stalled place) p = absurd p
-    no_run is_not_run none fault.Budget p = absurd p
-    no_run is_not_run none fault.Full p = absurd p
-    no_run is_not_run none fault.Loan p = absurd p
-    no_run is_not_run none fault.Start p = absurd p
-    no_run is_not_run none fault.States p = absurd p
-    no_run is_not_run none fault.Alone p = absurd p
-    no_run is_not_run none fault.NotUtf8 p = absurd p
-    no_run is_not_run none (fault.Line number) p = absurd p
-    no_run is_not_run none (fault.Text e) p = absurd p
-    no_run is_not_run none (fault.Image e) p = absurd p
+    no_run none fault.Link p = record { text = p.text; meant = (p.meant.0, reported p.meant.0 p.text p.meant.1); part = p.part }
+    no_run none fault.Memory p = (none, p)
+    no_run none fault.Size p = absurd p
+    no_run none (fault.Stalled place) p = absurd p
+    no_run none fault.Budget p = absurd p
+    no_run none fault.Full p = absurd p
+    no_run none fault.Loan p = absurd p
+    no_run none fault.Start p = absurd p
+    no_run none fault.States p = absurd p
+    no_run none fault.Alone p = absurd p
+    no_run none fault.NotUtf8 p = absurd p
+    no_run none (fault.Line number) p = absurd p
+    no_run none (fault.Text e) p = absurd p
+    no_run none (fault.Image e) p = absurd p

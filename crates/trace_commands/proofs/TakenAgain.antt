@@ -1,7 +1,9 @@
 -- Steps that are taken and noted in a tally: it has what the processors show in them.
-use Rattle.std.proofs.Common.{◌≡◌, ℕ, ◌+◌, ◌^◌, List, [], ◌∷◌, ◌++◌, length, sym, subst, arith}
-use Rattle.std.specs.Prelude.{replicate}
+use Rattle.std.proofs.Common.{◌≡◌, ℕ, ◌+◌, ◌^◌, List, [], ◌∷◌, ◌++◌, length, Option, Some, None, ◌∙◌, ap, refl, sym, subst, arith}
+use Rattle.std.specs.Prelude.{Err, IfOk, Ok, Result, replicate}
+use Rattle.std.specs.Result.{result_ok}
 use Rattle.std.proofs.lemmas.List.{length-append}
+use Rattle.std.proofs.lemmas.Option.{none-some, same_Some}
 use Rattle.flat_machine.specs.declared.config.Config.{Config}
 use Rattle.flat_machine.specs.declared.event.Event.{Event}
 use Rattle.steps.specs.declared.step.Step.{Step}
@@ -16,7 +18,8 @@ use Rattle.machine_steps.specs.Noting.{AreNoted, AreNotedFrom}
 use Rattle.machine_steps.proofs.Lemmas.{all_joined, noted_behind, replay_joined, shown_is, steps_tell}
 use Rattle.command_io.specs.Tallies.{TallyState, nothing_shown, noted_after}
 use Rattle.command_io.specs.Events.{IsTally}
-use Rattle.trace_commands.specs.CountedReplays.{events_in, IsReplayCounted}
+use Rattle.trace_commands.specs.CountedReplays.{events_in, IsReplayCounted, IsTallied}
+use Rattle.trace_commands.specs.declared.tally_in_memory.TallyInMemory.{TallyInMemory}
 use Rattle.trace_commands.proofs.Tallying.{tally_begins, tally_more}
 
 abbrev pub StepObserver : TallyState → Step → Outcome → TallyState → Type 0
@@ -73,3 +76,36 @@ drain_replayed opening old new steps more t t' r replay observed = record {
       subst (λ M. IsTally n t' (events_of M) (length (steps ++ more))) joined
       (subst (λ count. IsTally n t' (events_of (all_after opening.config opening.code M1 more)) count) (sym (length-append steps more)) all);
 }
+
+-- ---- a tally that may be lost
+
+-- what the tally of a step is, if it may be lost
+abbrev pub InMemory : TallyInMemory → Step → Outcome → TallyInMemory → Type 0
+InMemory old s o new = IsTallied old.tally s o new.tally
+
+tallied_one : (old : Option TallyState) (s : Step) (o : Outcome) (t' : TallyState) → IsTallied old s o (Some t') →
+    (t : TallyState) × (old ≡ Some t) × StepObserver t s o t'
+tallied_one None s o t' is = absurd is
+tallied_one (Some t) s o t' is = (t, refl, is)
+
+tallied_all : (c : Config) (code : List ℕ) (M : theory.Machine ObservedCore) (steps : List Step) (old new : TallyInMemory) (t' : TallyState) →
+    AreNotedFrom InMemory c code M steps old new → new.tally ≡ Some t' →
+    (t : TallyState) × (old.tally ≡ Some t) × AreNotedFrom StepObserver c code M steps t t'
+tallied_all c code M [] old new t' same is = (t', ap (λ (x : TallyInMemory). x.tally) (sym same) ∙ is, refl)
+tallied_all c code M (s ∷ ss) old new t' observed is =
+    let o = outcome_of c code M s in
+    let mid = observed.0 in
+    let rest = tallied_all c code (after c code M s) ss mid new t' observed.2 is in
+    let one = tallied_one old.tally s o rest.0 (subst (λ x. IsTallied old.tally s o x) rest.1 observed.1) in
+    (one.0, one.1, (rest.0, one.2, rest.2))
+
+-- If a tally is there after steps that are noted, it was there before them, and has noted them.
+pub were_tallied : (m : MachineLists) (steps : List Step) (old new : TallyInMemory) (t' : TallyState) → AreNoted InMemory m steps old new →
+    new.tally ≡ Some t' → (t : TallyState) × (old.tally ≡ Some t) × AreNoted StepObserver m steps t t'
+were_tallied m steps old new t' observed is = tallied_all m.config m.code (machine_of m (λ p. [])) steps old new t' observed is
+
+-- A tally that was made is one that begins.
+pub was_made : {E : Type 0} (r : Result TallyState E) (o : Option TallyState) (t begun : TallyState) → o ≡ result_ok r → o ≡ Some t →
+    IfOk r (λ x. x ≡ begun) → t ≡ begun
+was_made (Ok x) o t begun made is begins = sym (same_Some x t (sym made ∙ is)) ∙ begins
+was_made (Err e) o t begun made is begins = absurd (none-some t (sym made ∙ is))

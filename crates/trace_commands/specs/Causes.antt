@@ -1,7 +1,8 @@
 -- Why there is no report: what each fault says of the files.
-use Rattle.std.specs.Prelude.{◌≡◌, ◌⊎◌, ℕ, List, Option}
+use Rattle.std.specs.Prelude.{◌≡◌, ◌⊎◌, true, ℕ, List, Option}
 use Rattle.flat_machine.specs.declared.config.Config.{Config}
 use Rattle.flat_machine.specs.Limits.{IsWithinLimits}
+use Rattle.elf_image.specs.declared.error.ImageError.TheVariants as of_image
 use Rattle.elf_image.specs.Files.{IsImageOf, IsImageRefusal}
 use Rattle.elf_image.specs.Images.{ImageContents}
 use Rattle.steps.specs.declared.step.Step.{Step}
@@ -15,9 +16,10 @@ use Rattle.machine_log.specs.Replays.{StallsAt}
 use Rattle.machine_log.specs.Logs.{Log}
 use Rattle.command_io.specs.declared.fault.Fault.{Fault}
 use Rattle.command_io.specs.declared.fault.Fault.TheVariants as fault
+use Rattle.command_io.specs.Links.{IsOfLink, Output}
 use Rattle.command_io.specs.Printing.{PrintsPrefix}
-use Rattle.trace_commands.specs.TraceReports.{IsTraceOf, IsPartSaved, IsDrainedReport, IsSomeTraceReport}
-use Rattle.trace_commands.specs.TraceReports.{IsSomeLogReport, IsSomeRunReport, Running, ReportRelation}
+use Rattle.trace_commands.specs.TraceReports.{AskedRun, HasPartSaved, IsSomeLogReport, IsSomeRunReport}
+use Rattle.trace_commands.specs.TraceReports.{IsSomeTraceReport, IsTraceOf, ReportRelation, TraceInput, TraceOutput}
 
 -- ---- the files
 
@@ -29,33 +31,34 @@ IsTraceRefusal known e = (rest : Option (List ℕ)) × IsRefused known rest e
 -- ---- a run
 
 -- The run is there, and a part of its trace is written, and not all of it.
-pub record IsPartSavedRun {T : Type 0} (contents : T →
-    Option (List ℕ)) (is_run : Running) (c : Config) (old new : Option T) : Type 0 where
+pub record IsPartSavedRun {T : Type 0} (run : AskedRun) (trace : TraceOutput T) : Type 0 where
   pub image : ImageContents
   pub log : Log
-  pub run : is_run image log
-  pub part : IsPartSaved contents old new (trace_bytes (trace_of c log.steps))
+  pub is : run.is_run image log
+  pub part : HasPartSaved trace (trace_bytes (trace_of run.config log.steps))
 
 -- Why a run is not reported: its trace cannot be written, or, once that is, its report; else the run is not there, or
 -- there is no memory for its report, and no byte of a trace is written.
-abbrev pub RunFails : {T : Type 0} → (contents : T → Option (List ℕ)) → Running → (is_not_run : Fault → Type 0) →
-    (c : Config) → (old new : Option T) →
-    (out out' : Option (List ℕ)) → Fault → Type 0
-RunFails contents is_run is_not_run c old new out out' (fault.Trace e) = (e ≡ of_trace.Link)
-    × IsPartSavedRun contents is_run c old new
-RunFails contents is_run is_not_run c old new out out' fault.Link =
-    PrintsPrefix (IsSomeRunReport contents is_run c old new) out out'
-RunFails contents is_run is_not_run c old new out out' other = is_not_run other × (new ≡ old)
+abbrev pub RunFails : {T : Type 0} → AskedRun → TraceOutput T → Output → Fault → Type 0
+RunFails run trace out (fault.Trace e) = (e ≡ of_trace.Link) × IsPartSavedRun run trace
+RunFails run trace out fault.Link = PrintsPrefix (IsSomeRunReport run trace) out.old out.new
+RunFails run trace out other = run.is_not_run other × (trace.new ≡ trace.old)
+
+-- Why a command that runs an image fails: the fault has its cause, and is that of a link exactly if the link failed.
+pub record RunCommandFails {T : Type 0} (run : AskedRun) (trace : TraceOutput T) (out : Output) (f : Fault) : Type 0
+  where
+    pub cause : RunFails run trace out f
+    pub unread : IsOfLink (fault.Image of_image.Link) run.file.has_failed f
+    pub unprinted : IsOfLink fault.Link out.has_failed f
 
 -- Why a log is not reported: its trace cannot be written, or, once that is, its report; else there is no memory for
 -- it, and no byte of a trace is written.
-abbrev pub LogReportFails : {T : Type 0} → (contents : T → Option (List ℕ)) → Log → (old new : Option T) →
-    (out out' : Option (List ℕ)) → Fault → Type 0
-LogReportFails contents log old new out out' (fault.Trace e) =
-    (e ≡ of_trace.Link) × IsPartSaved contents old new (trace_bytes (trace_of log.machine.config log.steps))
-LogReportFails contents log old new out out' fault.Link = PrintsPrefix (IsSomeLogReport contents log old new) out out'
-LogReportFails contents log old new out out' fault.Memory = new ≡ old
-LogReportFails contents log old new out out' other = ⊥
+abbrev pub LogReportFails : {T : Type 0} → Log → TraceOutput T → Output → Fault → Type 0
+LogReportFails log trace out (fault.Trace e) =
+    (e ≡ of_trace.Link) × HasPartSaved trace (trace_bytes (trace_of log.machine.config log.steps))
+LogReportFails log trace out fault.Link = PrintsPrefix (IsSomeLogReport log trace) out.old out.new
+LogReportFails log trace out fault.Memory = trace.new ≡ trace.old
+LogReportFails log trace out other = ⊥
 
 -- ---- a replay
 
@@ -67,48 +70,51 @@ pub record IsStalled (c : Config) (image : ImageContents) (steps : List Step) (p
   pub stalls : StallsAt opening steps place machine
 
 -- The trace and the image are there, and the machine's size is out of its limits.
-pub record IsOutOfLimits (shared_words : ℕ) (trace known : Option (List ℕ)) : Type 0 where
+pub record IsOutOfLimits (given : TraceInput) : Type 0 where
   pub steps : TraceContents
-  pub read : IsTraceOf trace steps
+  pub read : IsTraceOf given.trace.bytes steps
   pub image : ImageContents
-  pub meant : IsImageOf shared_words known image
-  pub limits : IsWithinLimits (config_of steps shared_words) → ⊥
+  pub meant : IsImageOf given.shared_words given.image.bytes image
+  pub limits : IsWithinLimits (config_of steps given.shared_words) → ⊥
 
 -- The trace and the image are there, and the trace's step at this place is the first that stalls on the machine.
-pub record IsStalledReplay (shared_words : ℕ) (trace known : Option (List ℕ)) (place : ℕ) : Type 0 where
+pub record IsStalledReplay (given : TraceInput) (place : ℕ) : Type 0 where
   pub steps : TraceContents
-  pub read : IsTraceOf trace steps
+  pub read : IsTraceOf given.trace.bytes steps
   pub image : ImageContents
-  pub meant : IsImageOf shared_words known image
-  pub stalled : IsStalled (config_of steps shared_words) image steps.steps place
+  pub meant : IsImageOf given.shared_words given.image.bytes image
+  pub stalled : IsStalled (config_of steps given.shared_words) image steps.steps place
 
 -- The trace is there, and nothing is printed: the image's file cannot be opened.
-pub record IsUnopened (trace out out' : Option (List ℕ)) : Type 0 where
+pub record IsUnopened (given : TraceInput) (out : Output) : Type 0 where
   pub steps : TraceContents
-  pub read : IsTraceOf trace steps
-  pub nothing : out' ≡ out
+  pub read : IsTraceOf given.trace.bytes steps
+  pub unopened : given.image.is_unopened ≡ true
+  pub nothing : out.new ≡ out.old
 
 -- Why it is not reported of a trace: the trace is refused; the image is; the machine's size is out of its limits; a
 -- step stalls; the image's file cannot be opened, or what is to be reported cannot be printed. Of a lack of memory
 -- nothing is said.
-abbrev pub TraceReportFails : ReportRelation → (shared_words : ℕ) → (trace known : Option (List ℕ)) →
-    (out out' : Option (List ℕ)) → Fault → Type 0
-TraceReportFails reports shared_words trace known out out' (fault.Trace e) = IsTraceRefusal trace e
-TraceReportFails reports shared_words trace known out out' (fault.Image e) =
-    ((steps : TraceContents) × IsTraceOf trace steps)
-    × IsImageRefusal shared_words known e
-TraceReportFails reports shared_words trace known out out' fault.Size = IsOutOfLimits shared_words trace known
-TraceReportFails reports shared_words trace known out out' (fault.Stalled place) =
-    IsStalledReplay shared_words trace known place
-TraceReportFails reports shared_words trace known out out' fault.Link =
-    IsUnopened trace out out' ⊎ PrintsPrefix (IsSomeTraceReport reports shared_words trace known) out out'
-TraceReportFails reports shared_words trace known out out' fault.Memory = Unit {0}
-TraceReportFails reports shared_words trace known out out' other = ⊥
+abbrev pub TraceReportFails : ReportRelation → TraceInput → Output → Fault → Type 0
+TraceReportFails reports given out (fault.Trace e) = IsTraceRefusal given.trace.bytes e
+TraceReportFails reports given out (fault.Image e) =
+    ((steps : TraceContents) × IsTraceOf given.trace.bytes steps)
+    × IsImageRefusal given.shared_words given.image.bytes e
+TraceReportFails reports given out fault.Size = IsOutOfLimits given
+TraceReportFails reports given out (fault.Stalled place) = IsStalledReplay given place
+TraceReportFails reports given out fault.Link =
+    IsUnopened given out ⊎ PrintsPrefix (IsSomeTraceReport reports given) out.old out.new
+TraceReportFails reports given out fault.Memory = Unit {0}
+TraceReportFails reports given out other = ⊥
 
--- why a replay is not reported
-abbrev pub IsNoReplay : (shared_words : ℕ) → (trace known : Option (List ℕ)) → (out out' : Option (List ℕ)) → Fault →
-    Type 0
-IsNoReplay = TraceReportFails IsDrainedReport
+-- Why a command on a trace fails: the fault has its cause, and is that of a link exactly if the link failed. That a
+-- file cannot be opened is the fault of the output, too.
+pub record TraceCommandFails (reports : ReportRelation) (given : TraceInput) (out : Output) (f : Fault) : Type 0 where
+  pub cause : TraceReportFails reports given out f
+  pub unread : IsOfLink (fault.Trace of_trace.Link) given.trace.has_failed f
+  pub unread_image : IsOfLink (fault.Image of_image.Link) given.image.has_failed f
+  pub unprinted : out.has_failed ≡ true → f ≡ fault.Link
+  pub closed : f ≡ fault.Link → (given.image.is_unopened ≡ true) ⊎ (out.has_failed ≡ true)
 
 -- ---- the parts
 
@@ -126,8 +132,6 @@ IsNotTaken c image steps fault.Memory = Unit {0}
 IsNotTaken c image steps other = ⊥
 
 -- why it is not reported of steps: they are not taken; or what is to be reported cannot be printed
-abbrev pub ReportItselfFails : ReportRelation → (c : Config) → ImageContents → List Step →
-    (out out' : Option (List ℕ)) → Fault → Type 0
-ReportItselfFails reports c image steps out out' fault.Link =
-    PrintsPrefix (λ text. (status : ℕ) × reports c image steps text status) out out'
-ReportItselfFails reports c image steps out out' other = IsNotTaken c image steps other
+abbrev pub ReportItselfFails : (is_text : List ℕ → Type 0) → (is_not_taken : Fault → Type 0) → Output → Fault → Type 0
+ReportItselfFails is_text is_not_taken out fault.Link = PrintsPrefix is_text out.old out.new
+ReportItselfFails is_text is_not_taken out other = is_not_taken other

@@ -1,5 +1,5 @@
 -- What `ultra order` does with numbers that name nothing.
-use Rattle.std.specs.Prelude.{◌≡◌, ◌^◌, ℕ, List, Option, Some, None, IsSome}
+use Rattle.std.specs.Prelude.{◌≡◌, ◌^◌, ℕ, List, Option, None, IsSome}
 use Rattle.flat_machine.specs.declared.config.Config.{Config}
 use Rattle.trace_file.specs.Traces.{TraceContents, config_of}
 use Rattle.trace_lines.specs.declared.choice.Choice.{Choice}

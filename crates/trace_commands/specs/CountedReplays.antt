@@ -1,11 +1,12 @@
 -- Steps that are taken, and what the processors show in them.
-use Rattle.std.specs.Prelude.{◌≡◌, ℕ, ◌^◌, ◌<◌, List, [], length, slice_index_or}
+use Rattle.std.specs.Prelude.{◌≡◌, ℕ, ◌+◌, ◌^◌, ◌<◌, List, [], length, slice_index_or, Option, Some, None}
 use Rattle.flat_machine.specs.declared.event.Event.{Event}
+use Rattle.steps.specs.declared.step.Outcome.{Outcome}
 use Rattle.steps.specs.declared.step.Step.{Step}
 use Rattle.machine_steps.specs.Machines.{MachineLists, machine_of}
 use Rattle.machine_steps.specs.Runs.{all_after, events_of, IsReplay}
 use Rattle.machine_log.specs.Replays.{StallsAt}
-use Rattle.command_io.specs.Tallies.{TallyState}
+use Rattle.command_io.specs.Tallies.{TallyState, noted_after}
 use Rattle.command_io.specs.Events.{IsTally, shown_by}
 use Rattle.command_io.specs.declared.fault.Fault.{Fault}
 use Rattle.command_io.specs.declared.fault.Fault.TheVariants as fault
@@ -26,8 +27,22 @@ pub record IsReplayCounted (opening : MachineLists) (steps : List Step) (m : Mac
   pub replay : IsReplay opening steps m
   pub tally : IsTally (2 ^ opening.config.k) t (events_in opening steps) (length steps)
 
--- Why not all steps were taken. Of a lack of memory nothing is said.
+-- Why what the processors show in the steps is not there: a step stalls; or all steps were taken, and there was no
+-- memory to count.
 abbrev pub IsNotRetaken : (old : MachineLists) → List Step → (new : MachineLists) → Fault → Type 0
 IsNotRetaken old steps new (fault.Stalled place) = StallsAt old steps place new
-IsNotRetaken old steps new fault.Memory = Unit {0}
+IsNotRetaken old steps new fault.Memory = IsReplay old steps new
 IsNotRetaken old steps new other = ⊥
+
+-- ---- a tally that may be lost
+
+-- A tally, where there is one, counts this many steps more.
+abbrev pub HasRoom : Option TallyState → (more : ℕ) → Type 0
+HasRoom None more = Unit {0}
+HasRoom (Some t) more = t.observed + more < 2 ^ 32
+
+-- A tally, where there is one, is what was there before the step, with what it answers noted.
+abbrev pub IsTallied : (old : Option TallyState) → Step → Outcome → (new : Option TallyState) → Type 0
+IsTallied old step outcome None = Unit {0}
+IsTallied None step outcome (Some t) = ⊥
+IsTallied (Some old) step outcome (Some new) = new ≡ noted_after old step outcome

@@ -1,5 +1,5 @@
 -- What is said of steps: of those of a trace, from the bytes of files on, and of those of a log.
-use Rattle.std.specs.Prelude.{◌≡◌, Bool, false, ℕ, List, ◌++◌, Option, Some, None, Result, Ok, Err}
+use Rattle.std.specs.Prelude.{◌≡◌, Bool, false, ℕ, List, ◌++◌, Option, Some, None}
 use Rattle.std.specs.Io.KnownBytes.{Appends}
 use Rattle.link.specs.Transfer.{AppendsPart}
 use Rattle.flat_machine.specs.declared.config.Config.{Config}
@@ -13,7 +13,10 @@ use Rattle.machine_steps.specs.Runs.{IsOpening, IsReplay, IsSerialized, passed}
 use Rattle.machine_steps.specs.Draining.{drain_steps}
 use Rattle.machine_log.specs.Logs.{Log}
 use Rattle.command_io.specs.Tallies.{TallyState}
+use Rattle.command_io.specs.declared.fault.Fault.{Fault}
 use Rattle.command_io.specs.Files.{IsWhole}
+use Rattle.command_io.specs.Links.{Input, OpenedInput, Output}
+use Rattle.command_io.specs.Printing.{Prints}
 use Rattle.trace_commands.specs.CountedReplays.{IsReplayCounted}
 use Rattle.trace_commands.specs.Reports.{report_of, IsExitOf, IsFlatReport}
 
@@ -59,31 +62,36 @@ pub record IsDrainedReport (c : Config) (image : ImageContents) (steps : List St
 abbrev pub ReportRelation : Type 1
 ReportRelation = Config → ImageContents → (steps : List Step) → (text : List ℕ) → (status : ℕ) → Type 0
 
+-- What a command on a trace is given: the file of the trace, that of the image of its run, and how many shared words
+-- the machine has.
+pub record TraceInput : Type 0 where
+  pub trace : Input
+  pub image : OpenedInput
+  pub shared_words : ℕ
+
+abbrev pub trace_input : Input → OpenedInput → (shared_words : ℕ) → TraceInput
+trace_input trace image shared_words = record { trace = trace; image = image; shared_words = shared_words }
+
+-- what is said of the steps of this trace, on a machine of its size and with this many shared words
+abbrev pub OfTrace : ReportRelation → TraceContents → (shared_words : ℕ) → ReportRelation
+OfTrace reports t shared_words c image steps text status = (c ≡ config_of t shared_words)
+    × reports c image steps text status
+
 -- This is said of the steps of a trace, on the image that a file means, and this is the exit status.
-pub record IsTraceReport (reports : ReportRelation) (shared_words : ℕ) (trace known : Option (List ℕ)) (status : ℕ)
-    (text : List ℕ) : Type 0 where
+pub record IsTraceReport (reports : ReportRelation) (given : TraceInput) (status : ℕ) (text : List ℕ) : Type 0 where
   pub steps : TraceContents
-  pub read : IsTraceOf trace steps
+  pub read : IsTraceOf given.trace.bytes steps
   pub image : ImageContents
-  pub meant : IsImageOf shared_words known image
-  pub contents_are : reports (config_of steps shared_words) image steps.steps text status
+  pub meant : IsImageOf given.shared_words given.image.bytes image
+  pub contents_are : reports (config_of steps given.shared_words) image steps.steps text status
 
 -- this is reported, with whatever exit status
-abbrev pub IsSomeTraceReport : ReportRelation → (shared_words : ℕ) → (trace known : Option (List ℕ)) →
-    (text : List ℕ) → Type 0
-IsSomeTraceReport reports shared_words trace known text = (status : ℕ)
-    × IsTraceReport reports shared_words trace known status text
+abbrev pub IsSomeTraceReport : ReportRelation → TraceInput → (text : List ℕ) → Type 0
+IsSomeTraceReport reports given text = (status : ℕ) × IsTraceReport reports given status text
 
--- This is the report of a trace that is replayed, and then drained, on the image that a file means, and this its exit
--- status.
-abbrev pub IsReplayReport : (shared_words : ℕ) → (trace known : Option (List ℕ)) → (status : ℕ) → (text : List ℕ) →
-    Type 0
-IsReplayReport = IsTraceReport IsDrainedReport
-
--- what is known of a file's bytes, where it could be opened
-abbrev pub known_of : {R E : Type 0} → (R → Option (List ℕ)) → Result R E → Option (List ℕ)
-known_of remaining (Ok file) = remaining file
-known_of remaining (Err error) = None
+-- What is said of the trace is printed, and this is the exit status.
+abbrev pub PrintsTraceReport : ReportRelation → TraceInput → Output → (status : ℕ) → Type 0
+PrintsTraceReport reports given out status = Prints (IsTraceReport reports given status) out.old out.new
 
 -- ---- a run
 
@@ -105,31 +113,52 @@ IsPartSaved contents (Some old) (Some new) bytes = AppendsPart (contents old) (c
 IsPartSaved contents (Some old) None bytes = ⊥
 IsPartSaved contents None new bytes = ⊥
 
--- What is known of a run: of the image that it ran, and of its log.
-abbrev pub Running : Type 1
-Running = ImageContents → Log → Type 0
+-- The writer of a trace, where one is asked for, before and after a command.
+pub record TraceOutput (T : Type 0) : Type 0 where
+  pub contents : T → Option (List ℕ)
+  pub old : Option T
+  pub new : Option T
 
--- A run of which this is known enters these steps; this is its report, and this its exit status.
-pub record IsReportedRun (is_run : Running) (c : Config) (steps : List Step) (text : List ℕ) (status : ℕ) : Type 0 where
+abbrev pub trace_output : {T : Type 0} → (contents : T → Option (List ℕ)) → (old new : Option T) → TraceOutput T
+trace_output contents old new = record { contents = contents; old = old; new = new }
+
+-- The bytes are written, where a trace is asked for.
+abbrev pub HasSaved : {T : Type 0} → TraceOutput T → List ℕ → Type 0
+HasSaved trace bytes = IsSaved trace.contents trace.old trace.new bytes
+
+-- A beginning of the bytes is written, and not all of them.
+abbrev pub HasPartSaved : {T : Type 0} → TraceOutput T → List ℕ → Type 0
+HasPartSaved trace bytes = IsPartSaved trace.contents trace.old trace.new bytes
+
+-- A run that a command is asked for: the machine's size, the image's file, what is known of the image and the log of
+-- such a run, and why there is none.
+pub record AskedRun : Type 1 where
+  pub config : Config
+  pub file : Input
+  pub is_run : ImageContents → Log → Type 0
+  pub is_not_run : Fault → Type 0
+
+-- The run enters these steps; this is its report, and this its exit status.
+pub record IsReportedRun (run : AskedRun) (steps : List Step) (text : List ℕ) (status : ℕ) : Type 0 where
   pub image : ImageContents
   pub log : Log
-  pub run : is_run image log
+  pub is : run.is_run image log
   pub entered : log.steps ≡ steps
-  pub report : IsReportOf c image steps text status
+  pub report : IsReportOf run.config image steps text status
 
--- This is the report of such a run, and this its exit status; the trace of the run is written, where one is asked for.
-pub record IsRunReport {T : Type 0} (contents : T →
-    Option (List ℕ)) (is_run : Running) (c : Config) (trace trace' : Option T) (status : ℕ)
-    (text : List ℕ) : Type 0 where
+-- This is the report of the run, and this its exit status; the trace of the run is written, where one is asked for.
+pub record IsRunReport {T : Type 0} (run : AskedRun) (trace : TraceOutput T) (status : ℕ) (text : List ℕ) : Type 0 where
   pub steps : List Step
-  pub run : IsReportedRun is_run c steps text status
-  pub saved : IsSaved contents trace trace' (trace_bytes (trace_of c steps))
+  pub reported : IsReportedRun run steps text status
+  pub saved : HasSaved trace (trace_bytes (trace_of run.config steps))
 
 -- the report of a run, with whatever exit status
-abbrev pub IsSomeRunReport : {T : Type 0} → (contents : T → Option (List ℕ)) → Running → (c : Config) →
-    (trace trace' : Option T) → (text : List ℕ) → Type 0
-IsSomeRunReport contents is_run c trace trace' text = (status : ℕ)
-    × IsRunReport contents is_run c trace trace' status text
+abbrev pub IsSomeRunReport : {T : Type 0} → AskedRun → TraceOutput T → (text : List ℕ) → Type 0
+IsSomeRunReport run trace text = (status : ℕ) × IsRunReport run trace status text
+
+-- The report of the run is printed, and this is the exit status.
+abbrev pub PrintsRun : {T : Type 0} → AskedRun → TraceOutput T → Output → (status : ℕ) → Type 0
+PrintsRun run trace out status = Prints (IsRunReport run trace status) out.old out.new
 
 -- ---- a log
 
@@ -141,12 +170,14 @@ pub record CanBeReported (log : Log) : Type 0 where
   pub trace : IsTrace (trace_of log.machine.config log.steps)
 
 -- This is the report of the log, and this its exit status; its trace is written, where one is asked for.
-pub record IsLogReport {T : Type 0} (contents : T →
-    Option (List ℕ)) (log : Log) (trace trace' : Option T) (status : ℕ) (text : List ℕ) : Type 0 where
+pub record IsLogReport {T : Type 0} (log : Log) (trace : TraceOutput T) (status : ℕ) (text : List ℕ) : Type 0 where
   pub report : IsReportOf log.machine.config log.machine.image log.steps text status
-  pub saved : IsSaved contents trace trace' (trace_bytes (trace_of log.machine.config log.steps))
+  pub saved : HasSaved trace (trace_bytes (trace_of log.machine.config log.steps))
 
 -- the report of the log, with whatever exit status
-abbrev pub IsSomeLogReport : {T : Type 0} → (contents : T → Option (List ℕ)) → Log → (trace trace' : Option T) →
-    (text : List ℕ) → Type 0
-IsSomeLogReport contents log trace trace' text = (status : ℕ) × IsLogReport contents log trace trace' status text
+abbrev pub IsSomeLogReport : {T : Type 0} → Log → TraceOutput T → (text : List ℕ) → Type 0
+IsSomeLogReport log trace text = (status : ℕ) × IsLogReport log trace status text
+
+-- The report of the log is printed, and this is the exit status.
+abbrev pub PrintsLog : {T : Type 0} → Log → TraceOutput T → Output → (status : ℕ) → Type 0
+PrintsLog log trace out status = Prints (IsLogReport log trace status) out.old out.new

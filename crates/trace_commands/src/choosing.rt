@@ -1,23 +1,23 @@
 //! `ultra order`: the chosen lines of a trace's serial order.
 
-ghost use Rattle.std.specs.Prelude.{◌≡◌, ◌≤◌, ◌⊎◌, ℕ, List, Option, true, false, None, IfOk, IfErr, IsErr, IsErrOf};
-ghost use Rattle.std.specs.Prelude.{IsSome, OnErr, length};
+ghost use Rattle.std.specs.Prelude.{◌≡◌, ◌≤◌, ◌⊎◌, true, false, IfOk, IsErr, IsSome};
 ghost use Rattle.trace_file.specs.Traces.{IsTrace, config_of};
 ghost use Rattle.command_io.specs.FaultTexts.{IsReported};
-ghost use Rattle.command_io.specs.Printing.{Prints, ReportsFault};
-ghost use Rattle.trace_commands.specs.TraceReports.{IsTraceReport, IsTraceOf, known_of};
-ghost use Rattle.trace_commands.specs.Causes.{TraceReportFails};
+ghost use Rattle.command_io.specs.Links.{Input, failed_of, input, opened_input, output};
+ghost use Rattle.command_io.specs.Printing.{ReportsCause};
+ghost use Rattle.trace_commands.specs.TraceReports.{IsTraceOf, PrintsTraceReport, trace_input};
+ghost use Rattle.trace_commands.specs.Causes.{TraceCommandFails};
 ghost use Rattle.trace_commands.specs.Choices.{AreChosenLines, IsUnknown, unknown_in};
 ghost use Rattle.trace_commands.specs.Orders.{AreOrderLines};
 
 use crate::input::trace_of;
 use crate::order::Order;
-use crate::trace_report::print_trace_report;
-use command_io::{Fault, REFUSED, image_in, report_fault};
-use link::LinkWrite;
+use crate::trace_report::print_trace;
+use command_io::{REFUSED, report_fault, report_outcome};
+use link::{LinkRead, LinkWrite};
 use std::alloc::Global;
 use std::io;
-use std::io::{Read, Write};
+use std::io::Write;
 use trace_file::Trace;
 use trace_lines::Unknown;
 
@@ -28,28 +28,33 @@ use trace_lines::Unknown;
 /// that machine, which is reported on standard error; else that of the fault that is reported there. What is wrong
 /// with the trace is reported before that, and all else after it, in the order of
 /// [`trace_command`](crate::trace_command).
-pub fn order_command<T: Read + Drop, R: Read + Drop, W: LinkWrite, E: Write>(
+pub fn order_command<T: LinkRead, R: LinkRead, W: LinkWrite, E: Write>(
     alloc: Global,
-    trace: T,
-    file: io::Result<R>,
+    trace: &mut T,
+    file: &mut io::Result<R>,
     shared_words: u32,
     order: &Order,
     out: &mut W,
     err: &mut E,
 ) -> u8
-    requires { W.has_failed out.old ≡ false }
-    ensures printed { result ≤ 1 →
-        Prints (IsTraceReport (AreChosenLines order.now.choice) shared_words (T.remaining trace)
-        (known_of R.remaining file) result)
-        (W.contents out.old) (W.contents out.new) }
-    ensures fault { 2 ≤ result →
-        (IsUnknown order.now.choice shared_words (T.remaining trace) × (result ≡ 2) × (out.new ≡ out.old))
-        ⊎ ReportsFault W.has_failed Fault.Link (IsErr file)
-        (TraceReportFails (AreOrderLines order.now.choice) shared_words (T.remaining trace) (known_of R.remaining
-        file) (W.contents out.old)
-        (W.contents out.new))
-        (IsReported (E.contents err.old) (E.contents err.new)) out.old out.new result }
+    requires reads { T.has_failed trace.old ≡ false }
+    requires reads_image { IfOk file.old (λ reader. R.has_failed reader ≡ false) }
+    requires prints { W.has_failed out.old ≡ false }
+    ensures printed { result ≤ 1 → PrintsTraceReport (AreChosenLines order.now.choice)
+        (trace_input (input T.remaining T.has_failed trace.old trace.new)
+        (opened_input R.remaining R.has_failed file.old file.new) shared_words)
+        (output W.contents W.has_failed out.old out.new) result }
+    ensures fault { 2 ≤ result → (IsUnknown order.now.choice shared_words (T.remaining trace.old) × (result ≡ 2))
+        ⊎ ReportsCause (TraceCommandFails (AreOrderLines order.now.choice)
+        (trace_input (input T.remaining T.has_failed trace.old trace.new)
+        (opened_input R.remaining R.has_failed file.old file.new) shared_words)
+        (output W.contents W.has_failed out.old out.new))
+        (IsReported (E.contents err.old) (E.contents err.new)) result }
+    ensures unread { T.has_failed trace.new ≡ true → result ≡ 3 }
+    ensures unread_image { failed_of R.has_failed file.new ≡ true → result ≡ 3 }
+    ensures unopened { IsErr file.old → 2 ≤ result }
     ensures failed { W.has_failed out.new ≡ true → result ≡ 3 }
+    ensures silent { 2 ≤ result → W.has_failed out.new ≡ false → out.new ≡ out.old }
     ensures quiet { result ≤ 1 → err.new ≡ err.old }
 {
     match trace_of(alloc, trace) {
@@ -59,38 +64,41 @@ pub fn order_command<T: Read + Drop, R: Read + Drop, W: LinkWrite, E: Write>(
 }
 
 /// Prints the chosen lines of the steps of a trace.
-fn order_of_trace<R: Read + Drop, W: LinkWrite, E: Write>(
+fn order_of_trace<R: LinkRead, W: LinkWrite, E: Write>(
     alloc: Global,
     trace: &Trace,
-    file: io::Result<R>,
+    file: &mut io::Result<R>,
     shared_words: u32,
     order: &Order,
     out: &mut W,
     err: &mut E,
 ) -> u8
+    requires reads_image { IfOk file.old (λ reader. R.has_failed reader ≡ false) }
     requires prints { W.has_failed out.old ≡ false }
     requires trace { IsTrace trace.now }
     ensures refused { IsSome (unknown_in order.now.choice (config_of trace.now shared_words)) →
         (result ≡ 2) × (out.new ≡ out.old) }
-    ensures printed { (bytes : Option (List ℕ)) → IsTraceOf bytes trace.now → result ≤ 1
-        → Prints (IsTraceReport (AreChosenLines order.now.choice) shared_words bytes (known_of R.remaining file) result)
-        (W.contents out.old) (W.contents out.new) }
-    ensures fault { (bytes : Option (List ℕ)) → IsTraceOf bytes trace.now → 2 ≤ result
-        → (IsUnknown order.now.choice shared_words bytes × (result ≡ 2) × (out.new ≡ out.old))
-        ⊎ ReportsFault W.has_failed Fault.Link (IsErr file)
-        (TraceReportFails (AreOrderLines order.now.choice) shared_words bytes (known_of R.remaining file) (W.contents
-        out.old) (W.contents out.new))
-        (IsReported (E.contents err.old) (E.contents err.new)) out.old out.new result }
+    ensures printed { (read : Input) → IsTraceOf read.bytes trace.now → result ≤ 1
+        → PrintsTraceReport (AreChosenLines order.now.choice)
+        (trace_input read (opened_input R.remaining R.has_failed file.old file.new) shared_words)
+        (output W.contents W.has_failed out.old out.new) result }
+    ensures fault { (read : Input) → IsTraceOf read.bytes trace.now → (read.has_failed ≡ false) → 2 ≤ result
+        → (IsUnknown order.now.choice shared_words read.bytes × (result ≡ 2))
+        ⊎ ReportsCause (TraceCommandFails (AreOrderLines order.now.choice)
+        (trace_input read (opened_input R.remaining R.has_failed file.old file.new) shared_words)
+        (output W.contents W.has_failed out.old out.new))
+        (IsReported (E.contents err.old) (E.contents err.new)) result }
+    ensures unread_image { failed_of R.has_failed file.new ≡ true → result ≡ 3 }
+    ensures unopened { IsErr file.old → 2 ≤ result }
     ensures failed { W.has_failed out.new ≡ true → result ≡ 3 }
+    ensures silent { 2 ≤ result → W.has_failed out.new ≡ false → out.new ≡ out.old }
     ensures quiet { result ≤ 1 → err.new ≡ err.old }
 {
-    match unknown_of(trace, shared_words, order) {
-        Some(unknown) => refuse(unknown, err),
-        None => match printed_order(alloc, trace, file, shared_words, order, out) {
-            Ok(status) => status,
-            Err(fault) => report_fault(fault, err),
-        },
+    if let Some(unknown) = unknown_of(trace, shared_words, order) {
+        return refuse(unknown, err);
     }
+    let outcome = print_trace(alloc, trace, file, shared_words, order, out);
+    report_outcome(outcome, err)
 }
 
 /// The number that is asked for and names nothing on the machine of the trace, with this many shared words.
@@ -109,35 +117,4 @@ fn refuse<E: Write>(unknown: Unknown, err: &mut E) -> u8
     // Where standard error fails too, the exit status alone reports it.
     let _ = writeln!(err, "error: {unknown}");
     REFUSED
-}
-
-/// Prints the chosen lines of the steps of a trace, of a choice whose numbers name something.
-fn printed_order<R: Read + Drop, W: LinkWrite>(
-    alloc: Global,
-    trace: &Trace,
-    file: io::Result<R>,
-    shared_words: u32,
-    order: &Order,
-    out: &mut W,
-) -> Result<u8, Fault>
-    requires prints { W.has_failed out.old ≡ false }
-    requires few { length trace.now.steps ≤ 4194304 }
-    requires known { unknown_in order.now.choice (config_of trace.now shared_words) ≡ None }
-    ensures failed { W.has_failed out.new ≡ true → IsErrOf result Fault.Link }
-    ensures link { IsErrOf result Fault.Link → IsErr file ⊎ (W.has_failed out.new ≡ true) }
-    ensures printed { (bytes : Option (List ℕ)) → IsTraceOf bytes trace.now → IfOk result (λ status.
-        Prints (IsTraceReport (AreChosenLines order.now.choice) shared_words bytes (known_of R.remaining file) status)
-        (W.contents out.old) (W.contents out.new)) }
-    ensures low { IfOk result (λ status. status ≤ 1) }
-    ensures fault { (bytes : Option (List ℕ)) → IsTraceOf bytes trace.now → IfErr result
-        (TraceReportFails (AreOrderLines order.now.choice) shared_words bytes (known_of R.remaining file) (W.contents
-        out.old) (W.contents out.new)) }
-    ensures silent { OnErr result (W.has_failed out.new ≡ false → out.new ≡ out.old) }
-{
-    let Ok(file) = file else {
-        return Err(Fault::Link);
-    };
-    let config = trace.config(shared_words);
-    let image = image_in(alloc, file, &config)?;
-    print_trace_report(alloc, &image, config, trace.steps(), order, out)
 }

@@ -1,23 +1,25 @@
 //! The trace that a command reads.
 
-ghost use Rattle.std.specs.Prelude.{IfOk, IfErr};
+ghost use Rattle.std.specs.Prelude.{◌≡◌, ◌↔◌, true, false, IfOk, IfErr, IsErrOf};
 ghost use Rattle.trace_commands.specs.Causes.{IsFaultOfTrace};
 ghost use Rattle.trace_commands.specs.TraceReports.{IsTraceOf};
 
 use command_io::Fault;
-use link::Meter;
+use link::LinkRead;
 use std::alloc::Global;
-use std::io::Read;
-use trace_file::{Trace, read_trace};
+use trace_file::{Trace, TraceError, read_trace};
 
 /// The trace that a file is.
 ///
 /// # Errors
 ///
-/// [`Fault::Trace`] where the file is refused or cannot be read, and [`Fault::Memory`].
-pub fn trace_of<R: Read + Drop>(alloc: Global, file: R) -> Result<Trace, Fault>
-    ensures trace { IfOk result (IsTraceOf (R.remaining file)) }
-    ensures refused { IfErr result (IsFaultOfTrace (R.remaining file)) }
+/// [`Fault::Trace`] with [`TraceError::Link`] exactly if a read fails, and with another error where the file is
+/// refused; and [`Fault::Memory`].
+pub fn trace_of<R: LinkRead>(alloc: Global, file: &mut R) -> Result<Trace, Fault>
+    requires reads { R.has_failed file.old ≡ false }
+    ensures trace { IfOk result (IsTraceOf (R.remaining file.old)) }
+    ensures refused { IfErr result (IsFaultOfTrace (R.remaining file.old)) }
+    ensures unread { IsErrOf result (Fault.Trace TraceError.Link) ↔ (R.has_failed file.new ≡ true) }
 {
-    Ok(read_trace(alloc, &mut Meter::new(file))?)
+    Ok(read_trace(alloc, file)?)
 }

@@ -36,6 +36,7 @@ mod states;
 mod stats;
 mod story;
 mod taking;
+mod tally_in_memory;
 mod telling;
 mod trace_report;
 

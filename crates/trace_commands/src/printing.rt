@@ -1,9 +1,9 @@
 //! The report of a log, and its trace.
 
 ghost use Rattle.std.specs.Prelude.{◌≡◌, ◌≤◌, ◌↔◌, true, false, IfOk, IfErr, IfSome, IsErrOf, OnErr, map, string_bytes};
-ghost use Rattle.command_io.specs.Printing.{Prints};
+ghost use Rattle.command_io.specs.Links.{output};
 ghost use Rattle.trace_commands.specs.Causes.{LogReportFails};
-ghost use Rattle.trace_commands.specs.TraceReports.{CanBeReported, IsLogReport, IsReportOf, IsWorking};
+ghost use Rattle.trace_commands.specs.TraceReports.{CanBeReported, IsReportOf, IsWorking, PrintsLog, trace_output};
 ghost use Rattle.trace_commands.specs.CountedReplays.{AreConsoles};
 
 use crate::output::save;
@@ -34,12 +34,11 @@ pub fn print_run<T: LinkWrite, W: LinkWrite>(
     requires works { IsWorking T.has_failed trace.old }
     requires prints { W.has_failed out.old ≡ false }
     ensures failed { IsErrOf result Fault.Link ↔ (W.has_failed out.new ≡ true) }
-    ensures reported { IfOk result (λ status. Prints (IsLogReport T.contents log.now trace.old trace.new status)
-        (W.contents out.old)
-        (W.contents out.new)) }
+    ensures reported { IfOk result (PrintsLog log.now (trace_output T.contents trace.old trace.new)
+        (output W.contents W.has_failed out.old out.new)) }
     ensures low { IfOk result (λ status. status ≤ 1) }
-    ensures fault { IfErr result (LogReportFails T.contents log.now trace.old trace.new (W.contents out.old)
-        (W.contents out.new)) }
+    ensures fault { IfErr result (LogReportFails log.now (trace_output T.contents trace.old trace.new)
+        (output W.contents W.has_failed out.old out.new)) }
     ensures silent { OnErr result (W.has_failed out.new ≡ false → out.new ≡ out.old) }
 {
     let (text, status) = reported(alloc, log, consoles)?;

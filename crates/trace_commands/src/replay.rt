@@ -1,10 +1,11 @@
 //! `ultra replay`: from the bytes of a trace and of an image to the report of the machine.
 
-ghost use Rattle.std.specs.Prelude.{◌≡◌, ◌≤◌, true, false, IsErr};
-ghost use Rattle.trace_commands.specs.Causes.{IsNoReplay};
-ghost use Rattle.trace_commands.specs.TraceReports.{IsReplayReport, known_of};
+ghost use Rattle.std.specs.Prelude.{◌≡◌, ◌≤◌, true, false, IfOk, IsErr};
 ghost use Rattle.command_io.specs.FaultTexts.{IsReported};
-ghost use Rattle.command_io.specs.Printing.{Prints, ReportsFault};
+ghost use Rattle.command_io.specs.Links.{failed_of, input, opened_input, output};
+ghost use Rattle.command_io.specs.Printing.{ReportsCause};
+ghost use Rattle.trace_commands.specs.Causes.{TraceCommandFails};
+ghost use Rattle.trace_commands.specs.TraceReports.{IsDrainedReport, PrintsTraceReport, trace_input};
 
 use crate::reporting::report_with_status;
 use crate::taking::{drained, replay_counted};
@@ -12,11 +13,11 @@ use crate::trace_report::{TraceReport, trace_command};
 use command_io::{Fault, opened};
 use elf_image::Image;
 use flat_machine::Config;
-use link::LinkWrite;
+use link::{LinkRead, LinkWrite};
 use machine_steps::machine_is_well_formed;
 use std::alloc::Global;
 use std::io;
-use std::io::{Read, Write};
+use std::io::Write;
 use steps::Step;
 
 /// Takes the steps of the trace that a file is, on the machine of the trace's size, and of this many shared
@@ -27,23 +28,31 @@ use steps::Step;
 /// Answers the exit status: 0 where the report is printed, 1 where it is and a processor is faulted, else
 /// that of the fault that is reported on standard error. A fault is reported in this order: of the trace, of the
 /// image, of the machine's size, of a step that stalls, of the report.
-pub fn replay_command<T: Read + Drop, R: Read + Drop, W: LinkWrite, E: Write>(
+pub fn replay_command<T: LinkRead, R: LinkRead, W: LinkWrite, E: Write>(
     alloc: Global,
-    trace: T,
-    file: io::Result<R>,
+    trace: &mut T,
+    file: &mut io::Result<R>,
     shared_words: u32,
     out: &mut W,
     err: &mut E,
 ) -> u8
-    requires { W.has_failed out.old ≡ false }
-    ensures replayed { result ≤ 1 →
-        Prints (IsReplayReport shared_words (T.remaining trace) (known_of R.remaining file) result) (W.contents out.old)
-        (W.contents out.new) }
-    ensures fault { 2 ≤ result → ReportsFault W.has_failed Fault.Link (IsErr file)
-        (IsNoReplay shared_words (T.remaining trace) (known_of R.remaining file) (W.contents out.old) (W.contents
-        out.new))
-        (IsReported (E.contents err.old) (E.contents err.new)) out.old out.new result }
+    requires reads { T.has_failed trace.old ≡ false }
+    requires reads_image { IfOk file.old (λ reader. R.has_failed reader ≡ false) }
+    requires prints { W.has_failed out.old ≡ false }
+    ensures replayed { result ≤ 1 → PrintsTraceReport IsDrainedReport
+        (trace_input (input T.remaining T.has_failed trace.old trace.new)
+        (opened_input R.remaining R.has_failed file.old file.new) shared_words)
+        (output W.contents W.has_failed out.old out.new) result }
+    ensures fault { 2 ≤ result → ReportsCause (TraceCommandFails IsDrainedReport
+        (trace_input (input T.remaining T.has_failed trace.old trace.new)
+        (opened_input R.remaining R.has_failed file.old file.new) shared_words)
+        (output W.contents W.has_failed out.old out.new))
+        (IsReported (E.contents err.old) (E.contents err.new)) result }
+    ensures unread { T.has_failed trace.new ≡ true → result ≡ 3 }
+    ensures unread_image { failed_of R.has_failed file.new ≡ true → result ≡ 3 }
+    ensures unopened { IsErr file.old → 2 ≤ result }
     ensures failed { W.has_failed out.new ≡ true → result ≡ 3 }
+    ensures silent { 2 ≤ result → W.has_failed out.new ≡ false → out.new ≡ out.old }
     ensures quiet { result ≤ 1 → err.new ≡ err.old }
 {
     trace_command(alloc, trace, file, shared_words, &Report, out, err)

@@ -6,6 +6,7 @@ ghost use Rattle.machine_steps.specs.Machines.{MachineLists, IsIdle};
 ghost use Rattle.machine_steps.specs.Draining.{drain_steps};
 ghost use Rattle.trace_commands.specs.CountedReplays.{IsReplayCounted, IsNotRetaken};
 
+use crate::tally_in_memory::TallyInMemory;
 use command_io::{Fault, Tally};
 use machine_log::replay_observed;
 use machine_steps::{Machine, machine_is_well_formed};
@@ -16,18 +17,20 @@ use steps::Step;
 ///
 /// # Errors
 ///
-/// [`Fault::Stalled`] at the first step that stalls: then the machine stands after the steps before.
-/// [`Fault::Memory`] where there is no memory for the tally.
+/// [`Fault::Stalled`] exactly if a step stalls, at the first that does: then the machine stands after the steps before.
+/// [`Fault::Memory`] where there is no memory for the tally: then the machine has taken all steps.
 pub fn replay_counted(alloc: Global, machine: &mut Machine, steps: &[Step]) -> Result<Tally, Fault>
     requires { length steps.now ≤ 4194304 }
     ensures taken { IfOk result (λ tally. IsReplayCounted machine.old steps.now machine.new tally) }
     ensures refused { IfErr result (IsNotRetaken machine.old steps.now machine.new) }
 {
-    let mut tally = Tally::new(alloc, machine.config().processors())?;
-    match replay_observed(machine, steps, &mut tally)? {
-        Ok(()) => Ok(tally),
-        Err(stalled) => Err(Fault::Stalled(stalled.place)),
+    let tally = Tally::new(alloc, machine.config().processors());
+    let mut counting = TallyInMemory { tally: tally.ok() };
+    let Ok(replayed) = replay_observed(machine, steps, &mut counting);
+    if let Err(stalled) = replayed {
+        return Err(Fault::Stalled(stalled.place));
     }
+    counting.tally()
 }
 
 /// Takes steps until no reference is open, as [`machine_steps::Machine::drain`] does, and notes what each answers.

@@ -18,6 +18,7 @@ use std::alloc::Global;
 use std::fmt::Debug;
 use std::io::{self, Read, Write};
 use std::process::Abort;
+use test_support::metered;
 use trace_commands::{Order, Stats, Story, order_command, trace_command};
 use trace_lines::Choice;
 
@@ -56,6 +57,8 @@ fn ask<T: Read + Drop, R: Read + Drop, W: LinkWrite, E: Write>(
 ) -> u8
     requires { W.has_failed out.old ≡ false }
 {
+    let trace = &mut Meter::new(trace);
+    let file = &mut metered(file);
     match asked {
         Asked::Order(choice) => {
             let order = Order { choice };

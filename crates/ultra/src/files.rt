@@ -1,6 +1,6 @@
 //! Files of this machine.
 
-ghost use Rattle.std.specs.Prelude.{◌≡◌, false};
+ghost use Rattle.std.specs.Prelude.{◌≡◌, false, IfOk};
 ghost use Rattle.trace_commands.specs.TraceReports.{IsWorking};
 
 use crate::refusal::Refusal;
@@ -29,9 +29,11 @@ pub(crate) fn open_image<'r, R: Files>(
     files: &R,
     path: &str,
     reason: &'r Reason,
-) -> io::Result<Explained<'r, R::File>> {
+) -> io::Result<Meter<Explained<'r, R::File>>>
+    ensures { IfOk result (λ file. ⟦<Meter<Explained<'r, R::File>> as Link>⟧.has_failed file ≡ false) }
+{
     match fs::open(files, path) {
-        Ok(device) => Ok(Explained { device, reason }),
+        Ok(device) => Ok(Meter::new(Explained { device, reason })),
         Err(error) => {
             reason.set(Some(error));
             Err(error)

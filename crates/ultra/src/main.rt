@@ -25,7 +25,7 @@ use explore_command::{
 };
 use flat_machine::Config;
 use hunt_command::{Hunt as Hunted, HuntProgress, NoHuntProgress, hunt_command};
-use link::{LinkWrite, Meter};
+use link::{LinkRead, LinkWrite, Meter};
 use machine_picture::Svg;
 use processor_threads::Open;
 use run_command::{Progress, run_command, threaded_run_command};
@@ -180,10 +180,18 @@ fn execute<
                 processor: order.processor,
                 word: order.word,
             };
-            let trace = open(rt, order.replay.trace, reason)?;
-            let file = open_image(rt, order.replay.file, reason);
+            let mut trace = Meter::new(open(rt, order.replay.trace, reason)?);
+            let mut file = open_image(rt, order.replay.file, reason);
             let words = order.replay.words;
-            Ok(order_command(alloc, trace, file, words, &Order { choice }, out, err))
+            Ok(order_command(
+                alloc,
+                &mut trace,
+                &mut file,
+                words,
+                &Order { choice },
+                out,
+                err,
+            ))
         }
         Settings::Picture(asked) => {
             let picture = Picture {
@@ -212,10 +220,18 @@ fn tell_steps<'a, A: TraceReport, R: Files + AllocGlobal, W: LinkWrite, E: Write
 ) -> Result<u8, Refusal<'a>>
     requires works { W.has_failed out.old ≡ false }
 {
-    let trace = open(rt, replay.trace, reason)?;
-    let file = open_image(rt, replay.file, reason);
+    let mut trace = Meter::new(open(rt, replay.trace, reason)?);
+    let mut file = open_image(rt, replay.file, reason);
     let words = replay.words;
-    Ok(trace_command(rt.alloc(), trace, file, words, trace_report, out, err))
+    Ok(trace_command(
+        rt.alloc(),
+        &mut trace,
+        &mut file,
+        words,
+        trace_report,
+        out,
+        err,
+    ))
 }
 
 /// Does what `run FILE` asks for. The first write to OUT opens it.
@@ -234,27 +250,28 @@ fn run_file<
 ) -> Result<u8, Refusal<'a>>
     requires works { W.has_failed out.old ≡ false }
 {
-    let file = open_beside(rt, run.file, run.trace, reason)?;
+    let mut file = Meter::new(open_beside(rt, run.file, run.trace, reason)?);
     let mut trace = trace_to(rt, run.trace, reason);
-    Ok(run_image(rt, file, run, terminal, &mut trace, out, err))
+    Ok(run_image(rt, &mut file, run, terminal, &mut trace, out, err))
 }
 
 /// Runs an image, on threads or by the sweep. The progress of threads is reported on a terminal.
 fn run_image<
-    F: Read + Drop,
+    F: LinkRead,
     T: LinkWrite,
     R: Threads + Wait + Clock + Eprint + Sync + AllocGlobal,
     W: LinkWrite,
     E: Write,
 >(
     rt: &R,
-    file: F,
+    file: &mut F,
     run: &Run<'_>,
     terminal: bool,
     trace: &mut Option<T>,
     out: &mut W,
     err: &mut E,
 ) -> u8
+    requires reads { F.has_failed file.old ≡ false }
     requires saves { IsWorking T.has_failed trace.old }
     requires works { W.has_failed out.old ≡ false }
 {

@@ -13,7 +13,7 @@ use run_command::run_command;
 use std::alloc::Global;
 use std::io;
 use std::test::Fail;
-use test_support::image_of;
+use test_support::{image_of, metered};
 use trace_commands::replay_command;
 
 /// A budget that no program here uses up, unless it has no end.
@@ -34,6 +34,7 @@ fn run(alloc: Global, image: &[u8], config: Config, budget: u32) -> Ran {
     let mut out = Meter::new(Vec::new(alloc));
     let mut err = Vec::new(alloc);
     let mut trace = Some(Meter::new(Vec::new(alloc)));
+    let image = &mut Meter::new(image);
     let status = run_command(alloc, image, config, budget, &mut trace, &mut out, &mut err);
     let trace = match trace {
         Some(trace) => trace.device,
@@ -57,7 +58,15 @@ fn run_text(alloc: Global, text: &str, config: Config, budget: u32) -> Result<Ra
 fn replay(alloc: Global, trace: &[u8], file: io::Result<&[u8]>, shared_words: u32) -> Ran {
     let mut out = Meter::new(Vec::new(alloc));
     let mut err = Vec::new(alloc);
-    let status = replay_command(alloc, trace, file, shared_words, &mut out, &mut err);
+    let (mut trace, mut file) = (Meter::new(trace), metered(file));
+    let status = replay_command(
+        alloc,
+        &mut trace,
+        &mut file,
+        shared_words,
+        &mut out,
+        &mut err,
+    );
     Ran {
         status,
         out: out.device,

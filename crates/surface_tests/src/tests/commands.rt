@@ -8,7 +8,7 @@ use settings::{Dis, Settings, settings, status_of};
 use std::alloc::{AllocError, Global};
 use std::fmt::Write;
 use std::test::Fail;
-use test_support::{EBREAK, Ran, assert_same, ran, with_bytes};
+use test_support::{EBREAK, Ran, assert_same, metered, ran, with_bytes};
 use trace_commands::replay_command;
 use words_command::words_command;
 
@@ -81,14 +81,16 @@ fn images_are_run_and_replayed(rt: HostRuntime) -> Result<(), Fail> {
     let file = with_bytes(EBREAK, 86, &[0]);
     let mut trace = Some(Meter::new(Vec::new(alloc)));
     ran!(Vec::new(alloc), Vec::new(alloc), |out, err| {
-        run_command(alloc, file.as_slice(), size(0), 100, &mut trace, out, err)
+        let file = &mut Meter::new(file.as_slice());
+        run_command(alloc, file, size(0), 100, &mut trace, out, err)
     })
     .comes_to(0, REPORT.as_bytes(), "")?;
     if let Some(trace) = &trace {
         assert_same!(rt; trace.device.as_slice(), TRACE.as_slice());
     }
     ran!(Vec::new(alloc), Vec::new(alloc), |out, err| {
-        replay_command(alloc, TRACE.as_slice(), Ok(file.as_slice()), 1024, out, err)
+        let (mut trace, mut file) = (Meter::new(TRACE.as_slice()), metered(Ok(file.as_slice())));
+        replay_command(alloc, &mut trace, &mut file, 1024, out, err)
     })
     .comes_to(0, REPORT.as_bytes(), "")
 }

@@ -11,6 +11,7 @@ use run_command::threaded_run_command;
 use std::alloc::Global;
 use std::sync::Wait;
 use std::thread::Threads;
+use test_support::metered;
 use trace_commands::replay_command;
 
 /// A budget that no program here uses up, unless a thread cannot go on.
@@ -50,6 +51,7 @@ fn run_from<G: Gate + Sync, R: Threads + Wait + Sync>(
     let mut out = Meter::new(Vec::new(alloc));
     let mut err = Vec::new(alloc);
     let mut trace = Some(Meter::new(Vec::new(alloc)));
+    let image = &mut Meter::new(image);
     let status = threaded_run_command(
         rt, alloc, image, config, start, gate, budget, &mut trace, &mut out, &mut err,
     );
@@ -69,7 +71,8 @@ fn run_from<G: Gate + Sync, R: Threads + Wait + Sync>(
 fn replay(alloc: Global, trace: &[u8], image: &[u8]) -> Ran {
     let mut out = Meter::new(Vec::new(alloc));
     let mut err = Vec::new(alloc);
-    let status = replay_command(alloc, trace, Ok(image), 1024, &mut out, &mut err);
+    let (mut trace, mut image) = (Meter::new(trace), metered(Ok(image)));
+    let status = replay_command(alloc, &mut trace, &mut image, 1024, &mut out, &mut err);
     Ran {
         status,
         out: out.device,

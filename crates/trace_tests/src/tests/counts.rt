@@ -83,7 +83,7 @@ fn hot_spot(alloc: Global, image: &[u8], b: u8) -> Result<Vec<u8>, Fail> {
     let mut out = Meter::new(Vec::new(alloc));
     run_command(
         alloc,
-        image,
+        &mut Meter::new(image),
         config,
         20_000,
         &mut trace,

@@ -269,7 +269,7 @@ fn each_add_goes_on_from_the_last(rt: HostRuntime) -> Result<(), Fail> {
     let mut trace = Some(Meter::new(Vec::new(alloc)));
     let status = run_command(
         alloc,
-        image.as_slice(),
+        &mut Meter::new(image.as_slice()),
         config,
         200_000,
         &mut trace,

@@ -9,6 +9,7 @@ use link::Meter;
 use machine_picture::Svg;
 use std::alloc::Global;
 use std::io;
+use test_support::metered;
 use trace_commands::{Picture, trace_command};
 
 /// The exit status of the command, and what it wrote.
@@ -32,8 +33,8 @@ fn run(
     let picture = Picture { step, drawing: Svg };
     let status = trace_command(
         alloc,
-        trace,
-        file,
+        &mut Meter::new(trace),
+        &mut metered(file),
         shared_words,
         &picture,
         &mut out,

@@ -5,7 +5,7 @@ use explore_command::{Asked, NoProgress, explore_command};
 use link::Meter;
 use std::alloc::Global;
 use std::test::Fail;
-use test_support::{assert_same, image_of};
+use test_support::{assert_same, image_of, metered};
 use trace_commands::replay_command;
 
 /// Each processor adds 1 by a load and a store.
@@ -61,7 +61,8 @@ fn explored(alloc: Global, file: &[u8], k: u8, search: Asked, witness: u32) -> R
 fn replayed(alloc: Global, trace: &[u8], file: &[u8]) -> Vec<u8> {
     let mut out = Meter::new(Vec::new(alloc));
     let mut err = Vec::new(alloc);
-    let _ = replay_command(alloc, trace, Ok(file), 16, &mut out, &mut err);
+    let (mut trace, mut file) = (Meter::new(trace), metered(Ok(file)));
+    let _ = replay_command(alloc, &mut trace, &mut file, 16, &mut out, &mut err);
     out.device
 }
 

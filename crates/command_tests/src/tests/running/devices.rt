@@ -10,7 +10,7 @@ use std::alloc::{AllocGlobal, Global};
 use std::io::Read;
 use std::process::Abort;
 use std::test::Fail;
-use test_support::{Deaf, EBREAK, ONE_TURN, Sink, Source, assert_same, image_of, size};
+use test_support::{Deaf, EBREAK, ONE_TURN, Sink, Source, assert_same, image_of, metered, size};
 use trace_commands::replay_command;
 
 /// The report of an image of `ebreak` on one processor.
@@ -44,6 +44,7 @@ fn run_over<R: Read + Drop, T: LinkWrite>(
     requires { IsWorking T.has_failed trace.old }
 {
     let (mut out, mut err) = (failing_link(alloc, fails_at), empty_sink(alloc, 0));
+    let file = &mut Meter::new(file);
     let status = run_command(alloc, file, size(0), AMPLE, trace, &mut out, &mut err);
     Ran {
         status,
@@ -61,7 +62,8 @@ fn replay_over<T: Read + Drop, R: Read + Drop>(
     fails_at: usize,
 ) -> Ran {
     let (mut out, mut err) = (failing_link(alloc, fails_at), empty_sink(alloc, 0));
-    let status = replay_command(alloc, trace, Ok(file), 1024, &mut out, &mut err);
+    let (mut trace, mut file) = (Meter::new(trace), metered(Ok(file)));
+    let status = replay_command(alloc, &mut trace, &mut file, 1024, &mut out, &mut err);
     Ran {
         status,
         out: out.device.bytes,
@@ -176,10 +178,19 @@ fn fault_that_cannot_be_told(rt: HostRuntime) {
     let alloc = rt.alloc();
     let file = &EBREAK[..51];
     let (mut out, mut trace) = (failing_link(alloc, 0), no_trace());
-    let status = run_command(alloc, file, size(0), AMPLE, &mut trace, &mut out, &mut Deaf);
+    let image = &mut Meter::new(file);
+    let status = run_command(
+        alloc,
+        image,
+        size(0),
+        AMPLE,
+        &mut trace,
+        &mut out,
+        &mut Deaf,
+    );
     assert_same!(rt; status, 2);
     let mut out = failing_link(alloc, 0);
-    let trace = ONE_TURN.as_slice();
-    let status = replay_command(alloc, trace, Ok(file), 1024, &mut out, &mut Deaf);
+    let (mut trace, mut file) = (Meter::new(ONE_TURN.as_slice()), metered(Ok(file)));
+    let status = replay_command(alloc, &mut trace, &mut file, 1024, &mut out, &mut Deaf);
     assert_same!(rt; status, 2);
 }

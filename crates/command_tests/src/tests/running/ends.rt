@@ -213,7 +213,7 @@ fn statuses_of_faults(rt: HostRuntime) {
     let mut trace = Some(Meter::new(Vec::new(rt.alloc())));
     let status = run_command::run_command(
         rt.alloc(),
-        Endless,
+        &mut Meter::new(Endless),
         size(0),
         AMPLE,
         &mut trace,

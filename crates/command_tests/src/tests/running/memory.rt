@@ -5,7 +5,7 @@ use super::AMPLE;
 use link::Meter;
 use run_command::run_command;
 use std::test::Fail;
-use test_support::{EBREAK, ONE_TURN, Sink, assert_same, size};
+use test_support::{EBREAK, ONE_TURN, Sink, assert_same, metered, size};
 use trace_commands::replay_command;
 
 /// The report of an image of `ebreak` on one processor.
@@ -18,7 +18,7 @@ fn run_is_short_of_memory(rt: HostRuntime) -> Result<(), Fail> {
     let mut trace = Some(Meter::new(Sink::new(Vec::with_capacity(alloc, 24)?, 0)));
     let mut out = Meter::new(Sink::new(Vec::with_capacity(alloc, 64)?, 0));
     let mut err = Sink::new(Vec::with_capacity(alloc, 64)?, 0);
-    let file = EBREAK.as_slice();
+    let file = &mut Meter::new(EBREAK.as_slice());
     let status = run_command(alloc, file, size(0), AMPLE, &mut trace, &mut out, &mut err);
     let written = trace.as_ref().map(|trace| trace.device.bytes.as_slice());
     if status == 1 {
@@ -39,11 +39,10 @@ fn replay_is_short_of_memory(rt: HostRuntime) -> Result<(), Fail> {
     let alloc = rt.alloc();
     let mut out = Meter::new(Sink::new(Vec::with_capacity(alloc, 64)?, 0));
     let mut err = Sink::new(Vec::with_capacity(alloc, 64)?, 0);
-    let trace = ONE_TURN.as_slice();
     let status = replay_command(
         alloc,
-        trace,
-        Ok(EBREAK.as_slice()),
+        &mut Meter::new(ONE_TURN.as_slice()),
+        &mut metered(Ok(EBREAK.as_slice())),
         1024,
         &mut out,
         &mut err,

@@ -6,7 +6,7 @@ use link::Meter;
 use std::alloc::AllocGlobal;
 use std::sync::Wait;
 use std::test::Fail;
-use test_support::{EBREAK, Sink, assert_same, lend, log_of, size};
+use test_support::{EBREAK, Sink, assert_same, lend, log_of, metered, size};
 use trace_commands::replay_command;
 
 /// Lines that poke a byte and a `pc`, step into the `ebreak`, and then show all this.
@@ -79,8 +79,9 @@ fn replays_to_what_was_shown(rt: HostRuntime) -> Result<(), Fail> {
     });
     let mut out = Meter::new(Sink::new(Vec::new(alloc), 0));
     let mut err = Vec::new(alloc);
-    let file = Ok(EBREAK.as_slice());
-    let status = replay_command(alloc, TRACE.as_slice(), file, 1024, &mut out, &mut err);
+    let mut trace = Meter::new(TRACE.as_slice());
+    let mut file = metered(Ok(EBREAK.as_slice()));
+    let status = replay_command(alloc, &mut trace, &mut file, 1024, &mut out, &mut err);
     assert_same!(rt; err.as_slice(), b"".as_slice());
     assert_same!(rt; out.device.bytes.as_slice(), REPORT.as_bytes());
     assert_same!(rt; status, 1);

@@ -168,7 +168,7 @@ fn tells_what_cannot_be_written(rt: HostRuntime) {
         let status = threaded_run_command(
             &rt,
             alloc,
-            EBREAK.as_slice(),
+            &mut Meter::new(EBREAK.as_slice()),
             size(0),
             1,
             &Open,
@@ -191,7 +191,7 @@ fn is_short_of_memory(rt: HostRuntime) -> Result<(), Fail> {
     let mut trace = Some(Meter::new(Sink::new(Vec::with_capacity(alloc, 24)?, 0)));
     let mut out = Meter::new(Sink::new(Vec::with_capacity(alloc, 64)?, 0));
     let mut err = Vec::with_capacity(alloc, 64)?;
-    let file = EBREAK.as_slice();
+    let file = &mut Meter::new(EBREAK.as_slice());
     let status = threaded_run_command(
         &rt,
         alloc,

@@ -1,20 +1,36 @@
-use Rattle.std.proofs.Common.{◌^◌, ◌∙◌, ap, subst}
+use Rattle.std.proofs.Common.{◌^◌, ◌∙◌, ap, subst, sym}
 use Rattle.std.specs.Prelude.{OnOk, replicate}
+use Rattle.std.proofs.lemmas.Result.{IfErr-weaker, IfOk-weaker}
 use Rattle.flat_machine.specs.declared.config.Config.{Config}
 use Rattle.machine_steps.specs.Noting.{AreNoted}
 use Rattle.machine_steps.specs.Runs.{IsReplay}
 use Rattle.command_io.specs.Tallies.{nothing_shown}
-use Rattle.trace_commands.proofs.TakenAgain.{StepObserver, all_replayed}
+use Rattle.trace_commands.specs.CountedReplays.{IsNotRetaken}
+use Rattle.trace_commands.specs.declared.tally_in_memory.TallyInMemory.{TallyInMemory}
+use Rattle.trace_commands.proofs.TakenAgain.{InMemory, all_replayed, was_made, were_tallied}
 use Rattle.trace_commands.proofs.taking.replay_counted.Goals as goal
 
-pub returns-in-Ok-clause-taken : goal.returns-in-Ok-clause-taken
-returns-in-Ok-clause-taken c =
+pub returns-clause-taken : goal.returns-clause-taken
+returns-clause-taken c =
     let m = c.args.machine.now in
     let new = c.replay_observed.new.machine in
     let steps = c.args.steps.now in
-    let tally = c.replay_observed.new.observer in
-    all_replayed m new steps c.in_ok-tally.tally tally
-    (c.in_ok-tally.ensures ∙ ap (λ n. record { shown = replicate n nothing_shown; observed = 0 })
+    let before : TallyInMemory = record { tally = c.ok.result } in
+    let after = c.replay_observed.new.observer in
+    let replay = subst (λ r. OnOk r (IsReplay m steps new)) c.in_default.is c.in-Ok.ensures.replay in
+    let noted = subst (λ r. OnOk r (AreNoted InMemory m steps before after)) c.in_default.is c.in-Ok.ensures.observed in
+    IfOk-weaker c.tally.result _ _ (λ tally is.
+    let were = were_tallied m steps before after tally noted is in
+    all_replayed m new steps were.0 tally
+    (was_made c.new-tally.result c.ok.result were.0 _ c.ok.ensures.value were.1 c.new-tally.ensures
+    ∙ ap (λ n. record { shown = replicate n nothing_shown; observed = 0 })
     (c.processors.ensures ∙ ap (λ (c : Config). 2 ^ c.k) c.config.ensures.config))
-    (subst (λ r. OnOk r (IsReplay m steps new)) c.in-Ok.is c.in_ok-replay_observed.ensures.replay)
-    (subst (λ r. OnOk r (AreNoted StepObserver m steps c.in_ok-tally.tally tally)) c.in-Ok.is c.in_ok-replay_observed.ensures.observed)
+    replay were.2) c.tally.ensures.tally
+
+pub returns-clause-refused : goal.returns-clause-refused
+returns-clause-refused c =
+    let m = c.args.machine.now in
+    let new = c.replay_observed.new.machine in
+    let steps = c.args.steps.now in
+    let replay = subst (λ r. OnOk r (IsReplay m steps new)) c.in_default.is c.in-Ok.ensures.replay in
+    IfErr-weaker c.tally.result _ _ (λ fault is. subst (IsNotRetaken m steps new) (sym is) replay) c.tally.ensures.refused

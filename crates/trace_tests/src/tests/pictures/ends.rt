@@ -7,7 +7,7 @@ use std::alloc::Global;
 use std::io::{self, ErrorKind};
 use std::process::Abort;
 use std::test::Fail;
-use test_support::{Deaf, EBREAK, Sink, Source, assert_same, image_of, trace_of};
+use test_support::{Deaf, EBREAK, Sink, Source, assert_same, image_of, metered, trace_of};
 use trace_commands::{Picture, trace_command};
 
 /// The picture after all steps.
@@ -87,8 +87,8 @@ fn picture_that_cannot_be_printed(rt: HostRuntime) -> Result<(), Fail> {
     for fails_at in [1, 2, whole.out.len()] {
         let mut out = Meter::new(Sink::new(Vec::new(alloc), fails_at));
         let mut err = Vec::new(alloc);
-        let file = Ok(EBREAK.as_slice());
-        let status = trace_command(alloc, trace, file, 1, &WHOLE, &mut out, &mut err);
+        let (mut trace, mut file) = (Meter::new(trace), metered(Ok(EBREAK.as_slice())));
+        let status = trace_command(alloc, &mut trace, &mut file, 1, &WHOLE, &mut out, &mut err);
         assert_same!(rt; Some(out.device.bytes.as_slice()), whole.out.get(..fails_at.saturating_sub(1)));
         assert_same!(rt; err.as_slice(), b"ultra: link\n".as_slice());
         assert_same!(rt; status, 3);
@@ -102,15 +102,16 @@ fn files_that_cannot_be_read(rt: HostRuntime) -> Result<(), Fail> {
     let alloc = rt.alloc();
     let turn = trace_of(alloc, (0, 4, 4), &[TURN])?;
     let mut out = Meter::new(Vec::new(alloc));
-    let trace = Source::new(turn.as_slice(), 5);
-    let file = Ok(EBREAK.as_slice());
-    let status = trace_command(alloc, trace, file, 1, &WHOLE, &mut out, &mut Deaf);
+    let mut trace = Meter::new(Source::new(turn.as_slice(), 5));
+    let mut file = metered(Ok(EBREAK.as_slice()));
+    let status = trace_command(alloc, &mut trace, &mut file, 1, &WHOLE, &mut out, &mut Deaf);
     assert_same!(rt; out.device.len(), 0);
     assert_same!(rt; status, 3);
     let mut out = Meter::new(Vec::new(alloc));
     let mut err = Vec::new(alloc);
-    let file = Ok(Source::new(&EBREAK, 5));
-    let status = trace_command(alloc, turn.as_slice(), file, 1, &WHOLE, &mut out, &mut err);
+    let mut trace = Meter::new(turn.as_slice());
+    let mut file = metered(Ok(Source::new(&EBREAK, 5)));
+    let status = trace_command(alloc, &mut trace, &mut file, 1, &WHOLE, &mut out, &mut err);
     assert_same!(rt; err.as_slice(), b"ultra: I9\n".as_slice());
     assert_same!(rt; out.device.len(), 0);
     assert_same!(rt; status, 3);
@@ -124,8 +125,9 @@ fn is_short_of_memory(rt: HostRuntime) -> Result<(), Fail> {
     let turn = trace_of(alloc, (0, 4, 4), &[TURN])?;
     let mut out = Meter::new(Sink::new(Vec::with_capacity(alloc, 4096)?, 0));
     let mut err = Vec::with_capacity(alloc, 64)?;
-    let file = Ok(EBREAK.as_slice());
-    match trace_command(alloc, turn.as_slice(), file, 1, &WHOLE, &mut out, &mut err) {
+    let mut trace = Meter::new(turn.as_slice());
+    let mut file = metered(Ok(EBREAK.as_slice()));
+    match trace_command(alloc, &mut trace, &mut file, 1, &WHOLE, &mut out, &mut err) {
         1 => assert!(rt; out.device.bytes.ends_with(b"</svg>\n")),
         status => {
             assert_same!(rt; status, 4);
