@@ -1,7 +1,8 @@
 -- What `ultra explain` prints.
-use Rattle.std.specs.Prelude.{◌≡◌, ℕ, List, Option, Some, None}
+use Rattle.std.specs.Prelude.{◌≡◌, ℕ, List, ◌++◌, Option, Some, None, codes}
 use Rattle.command_io.specs.declared.fault.Fault.{Fault}
 use Rattle.command_io.specs.declared.fault.Fault.TheVariants as fault
+use Rattle.command_io.specs.FaultTexts.{AppendsOrPart}
 use Rattle.command_io.specs.Printing.{PrintsPrefix}
 use Rattle.explain_command.specs.declared.topic.Topic.{Topic}
 use Rattle.explain_command.specs.declared.topic.Topics.{Topics}
@@ -17,6 +18,16 @@ IsExplanation topics (Some word) bytes = (topic : Topic) × (topic_named topics 
 abbrev pub IsUnknown : Topics → (word : Option (List ℕ)) → Type 0
 IsUnknown topics None = ⊥
 IsUnknown topics (Some word) = topic_named topics word ≡ None
+
+-- what reports that the word names no topic
+unfoldable pub unknown_text : (word : List ℕ) → List ℕ
+unknown_text word = codes "error: unrecognized code '" ++ word
+    ++ codes "'\n\n`ultra explain` lists what there is.\n"
+
+-- Standard error has got this of the word; or, if a write failed, a beginning of it.
+abbrev pub IsUnknownReported : (word : Option (List ℕ)) → (old new : Option (List ℕ)) → Type 0
+IsUnknownReported None old new = ⊥
+IsUnknownReported (Some word) old new = AppendsOrPart old new (unknown_text word)
 
 -- why not all is printed that was asked for, and what is printed then
 abbrev pub IsNoExplanation : Topics → (word : Option (List ℕ)) → (old new : Option (List ℕ)) → Fault → Type 0

@@ -1,13 +1,14 @@
 //! The command.
 
 ghost use Rattle.std.specs.Prelude.{◌≡◌, ◌≢◌, true, false, option_map};
-ghost use Rattle.command_io.specs.FaultTexts.{IsReported};
+ghost use Rattle.command_io.specs.FaultTexts.{AppendsOrPart, IsReported};
 ghost use Rattle.command_io.specs.Printing.{Prints, ReportsFault};
-ghost use Rattle.explain_command.specs.Explaining.{IsExplanation, IsNoExplanation, IsUnknown};
+ghost use Rattle.explain_command.specs.Explaining.{IsExplanation, IsNoExplanation, IsUnknown, IsUnknownReported};
+ghost use Rattle.explain_command.specs.Explaining.{unknown_text};
 
 use crate::texts::{list_text, topic_text};
 use crate::topic::Topics;
-use command_io::{DONE, Fault, REFUSED, print, report_fault};
+use command_io::{DONE, Fault, REFUSED, print, report_fault, write_error_parts};
 use link::LinkWrite;
 use std::alloc::Global;
 use std::io::Write;
@@ -26,7 +27,10 @@ pub fn explain_command<W: LinkWrite, E: Write>(
     ensures explained { result ≡ 0 →
         Prints (IsExplanation topics.now (option_map (λ w. w.now) word.entry)) (W.contents out.old)
         (W.contents out.new) }
-    ensures unknown { result ≡ 2 → IsUnknown topics.now (option_map (λ w. w.now) word.entry) × (out.new ≡ out.old) }
+    ensures unknown { result ≡ 2 → IsUnknown topics.now (option_map (λ w. w.now) word.entry) }
+    ensures unprinted { result ≡ 2 → out.new ≡ out.old }
+    ensures reported { result ≡ 2 →
+        IsUnknownReported (option_map (λ w. w.now) word.entry) (E.contents err.old) (E.contents err.new) }
     ensures fault { result ≢ 0 → result ≢ 2 → ReportsFault W.has_failed Fault.Link ⊥
         (IsNoExplanation topics.now (option_map (λ w. w.now) word.entry) (W.contents out.old) (W.contents out.new))
         (IsReported (E.contents err.old) (E.contents err.new)) out.old out.new result }
@@ -50,13 +54,19 @@ pub fn explain_command<W: LinkWrite, E: Write>(
 }
 
 /// Tells that a word names nothing, as the command line's faults are reported.
+#[tactic(auto, unfolding(crate::specs::Explaining::unknown_text))]
 fn refuse<E: Write>(word: &str, err: &mut E) -> u8
-    ensures { result ≡ 2 }
+    ensures status { result ≡ 2 }
+    ensures reported { AppendsOrPart (E.contents err.old) (E.contents err.new) (unknown_text word.now) }
 {
     // Where standard error fails too, the exit status alone reports it.
-    let _ = writeln!(
+    write_error_parts(
+        &[
+            "error: unrecognized code '",
+            word,
+            "'\n\n`ultra explain` lists what there is.\n",
+        ],
         err,
-        "error: unrecognized code '{word}'\n\n`ultra explain` lists what there is."
     );
     REFUSED
 }
