@@ -3,6 +3,7 @@ pub mod FaultTexts
 pub mod Files
 pub mod OnFirstWrite
 pub mod Digits
+pub mod ErrorOutputs
 pub mod Links
 pub mod Printing
 pub mod Tallies

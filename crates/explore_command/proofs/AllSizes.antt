@@ -1,211 +1,229 @@
 -- The lines of one size more, and why a size is not explored.
-use Rattle.std.proofs.Common.{◌≡◌, ◌⊎◌, inl, inr, ℕ, ◌+◌, ◌<◌, ◌≤◌, zero, suc, max, cond, eqb, List, [], ◌++◌}
-use Rattle.std.proofs.Common.{Option, Some, None, append_assoc, eq-eqb, ne_eqb, refl, sym, ap, ap₂, subst, ◌∙◌, arith}
+use Rattle.std.proofs.Common.{◌≡◌, inl, inr, ℕ, ◌+◌, ◌<◌, zero, suc, max, Bool, List, [], ◌∷◌, ◌++◌, length, Option, Some}
+use Rattle.std.proofs.Common.{append_assoc, length-append, refl, sym, ap, subst, ◌∙◌, arith}
+use Rattle.std.specs.Prelude.{option_to_list, slice_get}
 use Rattle.std.specs.Io.KnownBytes.{Appends}
-use Rattle.std.proofs.lemmas.Bool.{cases_eq}
+use Rattle.std.specs.List.{flat_map}
+use Rattle.std.proofs.KnownBytes.{Appends-nil, Appends-trans}
 use Rattle.std.proofs.lemmas.List.{append-nil}
-use Rattle.flat_machine.specs.declared.config.Config.{Config}
 use Rattle.elf_image.specs.Images.{ImageContents}
 use Rattle.elf_image.specs.Files.{IsImageOf}
-use Rattle.link.specs.Transfer.{EndsInTheRest}
+use Rattle.link.specs.Transfer.{AppendsPart, EndsInTheRest}
 use Rattle.command_io.specs.declared.fault.Fault.{Fault}
 use Rattle.command_io.specs.declared.fault.Fault.TheVariants as fault
-use Rattle.command_io.specs.Printing.{Prints}
-use Rattle.command_io.specs.Files.{IsFaultOfSize}
+use Rattle.command_io.specs.ErrorOutputs.{ErrorOutput, errors_to}
+use Rattle.command_io.specs.Files.{IsFaultOfImage, IsFaultOfSize}
+use Rattle.command_io.specs.Links.{Output}
 use Rattle.machine_steps.specs.Machines.{MachineLists}
 use Rattle.machine_steps.specs.Openings.{flat_state}
 use Rattle.machine_steps.specs.Runs.{IsOpening}
-use Rattle.explore_command.specs.declared.command.Asked.{Asked}
 use Rattle.explore_command.specs.Causes.{IsNotSearched}
-use Rattle.explore_command.specs.Sizes.{ReportsSize, IsSizeRefused, IsSizeNotPrinted, first_sizes, greatest_exit}
-use Rattle.explore_command.specs.Sizes.{ReportSizes, AreSizesPrinted, AreSizesNotPrinted, IsEveryRefused, sizes}
+use Rattle.explore_command.specs.Explorations.{Exploration, Problem, problem_of}
+use Rattle.explore_command.specs.Sizes.{AreReported, AreSizeReports, AreSizesReported, FailsBefore, FailsSize}
+use Rattle.explore_command.specs.Sizes.{FailsSizes, IsSizeLine, IsSizeRefused, IsSizeReport, PrintsFirst, PrintsSize, SizeReport}
+use Rattle.explore_command.specs.Sizes.{faults_of, greatest_exit, lines_of, sizes, with_stages}
 
--- ---- bytes
+-- ---- lists
 
--- nothing is appended
-appends_none : (old : Option (List ℕ)) → Appends old old []
-appends_none None = tt
-appends_none (Some xs) = sym (append-nil xs)
+-- one element more is mapped to its list, after those of the others
+flat_map_last : {X A : Type 0} (f : X → List A) (xs : List X) (x : X) → flat_map f (xs ++ x ∷ []) ≡ flat_map f xs ++ f x
+flat_map_last f [] x = append-nil (f x)
+flat_map_last f (y ∷ ys) x = ap (λ zs. f y ++ zs) (flat_map_last f ys x) ∙ sym (append_assoc (f y) (flat_map f ys) (f x))
 
--- one text is appended after another
-appends_on : (a b c : Option (List ℕ)) (xs ys : List ℕ) → Appends a b xs → Appends b c ys → Appends a c (xs ++ ys)
-appends_on None b c xs ys h k = tt
-appends_on (Some a) None c xs ys h k = absurd h
-appends_on (Some a) (Some b) None xs ys h k = absurd k
-appends_on (Some a) (Some b) (Some c) xs ys h k = k ∙ (ap (λ zs. zs ++ ys) h ∙ append_assoc a xs ys)
+greatest_last : (rs : List SizeReport) (r : SizeReport) → greatest_exit (rs ++ r ∷ []) ≡ max (greatest_exit rs) r.status
+greatest_last [] r = omega arith
+greatest_last (x ∷ rs) r = ap (max x.status) (greatest_last rs r) ∙ (omega arith)
+
+-- ---- faults that are reported
+
+-- Some faults are reported, and then others.
+reported_on : {E : Type 0} (contents : E → Option (List ℕ)) (old between new : E) (fs gs : List Fault) →
+    AreReported fs (errors_to contents old between) → AreReported gs (errors_to contents between new) →
+    AreReported (fs ++ gs) (errors_to contents old new)
+reported_on contents old between new [] gs same more = subst (λ e. AreReported gs (errors_to contents e new)) same more
+reported_on contents old between new (f ∷ fs) gs h more = (h.0, h.1, reported_on contents h.0 between new fs gs h.2 more)
 
 -- ---- one size more
 
-module _ (c : Config) (image : ImageContents) (asked : Asked) where
-  -- no size
-  none_reported : ReportSizes c image asked 0 [] 0
-  none_reported = record {
-    lines = λ k. [];
-    statuses = λ k. 0;
-    fact = λ k l. absurd (omega (arith, l));
-    text_is = refl;
-    exit = refl;
-  }
+module _ (p : Problem) where
+  -- The reports of the first sizes, and of the next one, are those of one size more.
+  reports_last : (rs before : List SizeReport) (r : SizeReport) →
+      ((k : ℕ) (x : SizeReport) → slice_get rs k ≡ Some x → IsSizeReport (with_stages p (length before + k)) x) →
+      IsSizeReport (with_stages p (length before + length rs)) r →
+      (k : ℕ) (x : SizeReport) → slice_get (rs ++ r ∷ []) k ≡ Some x → IsSizeReport (with_stages p (length before + k)) x
+  reports_last [] before r each one zero x there =
+      let same : r ≡ x = cc in subst (IsSizeReport (with_stages p (length before + 0))) same one
+  reports_last [] before r each one (suc k) x there = absurd (cc)
+  reports_last (y ∷ rs) before r each one zero x there = each zero x there
+  reports_last (y ∷ rs) before r each one (suc k) x there =
+      subst (λ n. IsSizeReport (with_stages p n) x) (step k)
+      (reports_last rs (y ∷ before) r
+      (λ j z at. subst (λ n. IsSizeReport (with_stages p n) z) (sym (step j)) (each (suc j) z at))
+      (subst (λ n. IsSizeReport (with_stages p n) r) (sym (step (length rs))) one) k x there)
+    where
+      step : (j : ℕ) → suc (length before) + j ≡ length before + suc j
+      step j = omega arith
 
-  module _ (count : ℕ) (text : List ℕ) (status : ℕ) (line : List ℕ) (exit : ℕ) (h : ReportSizes c image asked count text status)
-      (more : ReportsSize (record c { k = count }) image asked line exit) where
-    lines : ℕ → List ℕ
-    lines k = cond (eqb k count) line (h.lines k)
+  reports_more : (rs : List SizeReport) (count : ℕ) (r : SizeReport) → length rs ≡ count → AreSizeReports p rs →
+      IsSizeReport (with_stages p count) r → AreSizeReports p (rs ++ r ∷ [])
+  reports_more rs count r all each one = λ k x there.
+      subst (λ n. IsSizeReport (with_stages p n) x) (let same : 0 + k ≡ k = omega arith in same)
+      (reports_last rs [] r
+      (λ j y at. subst (λ n. IsSizeReport (with_stages p n) y) (let same : j ≡ 0 + j = omega arith in same) (each j y at))
+      (subst (λ n. IsSizeReport (with_stages p n) r) (let same : count ≡ 0 + length rs = omega (arith, all) in same) one) k x there)
 
-    statuses : ℕ → ℕ
-    statuses k = cond (eqb k count) exit (h.statuses k)
-
-    here_line : lines count ≡ line
-    unfolding lines
-    here_line = ap (λ b. cond b line (h.lines count)) (eq-eqb count count refl)
-
-    here_status : statuses count ≡ exit
-    unfolding statuses
-    here_status = ap (λ b. cond b exit (h.statuses count)) (eq-eqb count count refl)
-
-    other_line : (k : ℕ) → k < count → lines k ≡ h.lines k
-    unfolding lines
-    other_line k l = ap (λ b. cond b line (h.lines k)) (ne_eqb k count (λ same. omega (arith, same, l)))
-
-    other_status : (k : ℕ) → k < count → statuses k ≡ h.statuses k
-    unfolding statuses
-    other_status k l = ap (λ b. cond b exit (h.statuses k)) (ne_eqb k count (λ same. omega (arith, same, l)))
-
-    first_lines : (n : ℕ) → n ≤ count → first_sizes lines n ≡ first_sizes h.lines n
-    first_lines zero l = refl
-    first_lines (suc n) l = ap₂ (λ xs ys. xs ++ ys) (first_lines n (omega (arith, l))) (other_line n (omega (arith, l)))
-
-    first_statuses : (n : ℕ) → n ≤ count → greatest_exit statuses n ≡ greatest_exit h.statuses n
-    first_statuses zero l = refl
-    first_statuses (suc n) l = ap₂ max (first_statuses n (omega (arith, l))) (other_status n (omega (arith, l)))
-
-    reported_at : (k : ℕ) → (k ≡ count) ⊎ (k ≡ count → ⊥) → k < count + 1 → ReportsSize (record c { k = k }) image asked (lines k) (statuses k)
-    reported_at k (inl same) l =
-        subst (λ (z : ℕ × List ℕ × ℕ). ReportsSize (record c { k = z.0 }) image asked z.1 z.2)
-        (λ i. (sym same i, (sym (ap lines same ∙ here_line)) i, (sym (ap statuses same ∙ here_status)) i)) more
-    reported_at k (inr other) l =
-        let below : k < count = omega (arith, l, other) in
-        subst (λ (z : List ℕ × ℕ). ReportsSize (record c { k = k }) image asked z.0 z.1)
-        (λ i. (sym (other_line k below) i, sym (other_status k below) i)) (h.fact k below)
-
-    more_reported : ReportSizes c image asked (count + 1) (text ++ line) (max status exit)
-    more_reported = record {
-      lines = lines;
-      statuses = statuses;
-      fact = λ k l. reported_at k (cases_eq k count) l;
-      text_is = ap₂ (λ xs ys. xs ++ ys) (h.text_is ∙ sym (first_lines count (omega arith))) (sym here_line) ∙ next_lines;
-      exit = ap₂ max (h.exit ∙ sym (first_statuses count (omega arith))) (sym here_status) ∙ next_statuses;
+  module _ {E : Type 0} (contents : E → Option (List ℕ)) (start : E) where
+    -- One line more is said of, and its fault is reported, if it has one.
+    said_more : (said said' : List ℕ → Type 0) (rs : List SizeReport) (count : ℕ) (between new : E) (line : List ℕ) (status : ℕ) →
+        length rs ≡ count → AreSizesReported p rs said (errors_to contents start between) →
+        (l : IsSizeLine (with_stages p count) (errors_to contents between new) line status) →
+        (said (lines_of rs) → said' (lines_of rs ++ line)) →
+        AreSizesReported p (rs ++ (record { line = line; status = status; fault = l.fault }) ∷ []) said' (errors_to contents start new)
+    said_more said said' rs count between new line status all h l to = record {
+      are = reports_more rs count (record { line = line; status = status; fault = l.fault }) all h.are l.is;
+      lines = subst said' (sym (flat_map_last (λ (r : SizeReport). r.line) rs (record { line = line; status = status; fault = l.fault }))) (to h.lines);
+      reported =
+          subst (λ fs. AreReported fs (errors_to contents start new))
+          (sym (flat_map_last (λ (r : SizeReport). option_to_list r.fault) rs (record { line = line; status = status; fault = l.fault })))
+          (reported_on contents start between new (faults_of rs) (option_to_list l.fault) h.reported l.reported);
     }
-      where
-        next : suc count ≡ count + 1
-        next = omega arith
 
-        next_lines : first_sizes lines (suc count) ≡ first_sizes lines (count + 1)
-        next_lines = ap (first_sizes lines) next
+    -- ---- what is printed
 
-        next_statuses : greatest_exit statuses (suc count) ≡ greatest_exit statuses (count + 1)
-        next_statuses = ap (greatest_exit statuses) next
+    -- Of no size nothing is printed.
+    pub none_printed : (old : Option (List ℕ)) (has_failed : Bool) →
+        PrintsFirst p 0 (record { old = old; new = old; has_failed = has_failed }) (errors_to contents start start) 0
+    none_printed old has_failed = record {
+      reports = [];
+      all = refl;
+      exit = refl;
+      are = record { are = λ k r there. absurd (cc); lines = Appends-nil old; reported = refl };
+    }
 
-  -- ---- what is printed
+    -- One line more is printed,
+    pub printed_more : (count : ℕ) (old between new : Option (List ℕ)) (b b' b'' : Bool) (middle end : E) (status exit : ℕ) →
+        PrintsFirst p count (record { old = old; new = between; has_failed = b }) (errors_to contents start middle) status →
+        PrintsSize (with_stages p count) (record { old = between; new = new; has_failed = b' }) (errors_to contents middle end) exit →
+        PrintsFirst p (count + 1) (record { old = old; new = new; has_failed = b'' }) (errors_to contents start end) (max status exit)
+    printed_more count old between new b b' b'' middle end status exit h more = record {
+      reports = h.reports ++ (record { line = more.line; status = exit; fault = more.is.fault }) ∷ [];
+      all = length-append h.reports ((record { line = more.line; status = exit; fault = more.is.fault }) ∷ []) ∙ ap (λ n. n + 1) h.all;
+      exit = ap (λ n. max n exit) h.exit ∙ sym (greatest_last h.reports (record { line = more.line; status = exit; fault = more.is.fault }));
+      are = said_more (Appends old between) (Appends old new) h.reports count middle end more.line exit h.all h.are more.is
+          (λ said. Appends-trans old between new (lines_of h.reports) more.line said more.printed);
+    }
 
-  -- No line is.
-  pub none_printed : (old : Option (List ℕ)) → AreSizesPrinted c image asked 0 0 old old
-  none_printed old = record { text = []; meant = none_reported; printed = appends_none old }
-
-  -- One line more is printed,
-  pub printed_more : (count status exit : ℕ) (old between new : Option (List ℕ)) → AreSizesPrinted c image asked count status old between →
-      Prints (λ line. ReportsSize (record c { k = count }) image asked line exit) between new →
-      AreSizesPrinted c image asked (count + 1) (max status exit) old new
-  printed_more count status exit old between new h more = record {
-    text = h.text ++ more.text;
-    meant = more_reported count h.text status more.text exit h.meant more.meant;
-    printed = appends_on old between new h.text more.text h.printed more.printed;
-  }
-
-  -- or it is not.
-  pub not_printed : EndsInTheRest → (count status : ℕ) (old between new : Option (List ℕ)) (f : Fault) → count < sizes →
-      AreSizesPrinted c image asked count status old between → IsSizeNotPrinted (record c { k = count }) image asked between new f →
-      AreSizesNotPrinted c image asked old new f
-  not_printed law count status old between new (fault.Line number) few h why = absurd why
-  not_printed law count status old between new (fault.Text e) few h why = absurd why
-  not_printed law count status old between new fault.NotUtf8 few h why = absurd why
-  not_printed law count status old between new (fault.Image e) few h why = absurd why
-  not_printed law count status old between new (fault.Trace e) few h why = absurd why
-  not_printed law count status old between new fault.Size few h why = absurd why
-  not_printed law count status old between new (fault.Stalled place) few h why = absurd why
-  not_printed law count status old between new fault.Budget few h why = absurd why
-  not_printed law count status old between new fault.Full few h why = absurd why
-  not_printed law count status old between new fault.Loan few h why = absurd why
-  not_printed law count status old between new fault.Start few h why = absurd why
-  not_printed law count status old between new fault.States few h why = absurd why
-  not_printed law count status old between new fault.Alone few h why = absurd why
-  not_printed law count status old between new fault.Link few h why = record {
-    text = h.text ++ why.text;
-    meant = (
-      count + 1,
-      max status why.meant.0,
-      omega (arith, few),
-      more_reported count h.text status why.text why.meant.0 h.meant why.meant.1,
-    );
-    part = law old between new h.text why.text h.printed why.part;
-  }
-  not_printed law count status old between new fault.Memory few h why =
-      (count, status, omega (arith, few), subst (AreSizesPrinted c image asked count status old) (sym why) h)
+    -- or it is not.
+    pub not_printed : EndsInTheRest → (count : ℕ) (old between new : Option (List ℕ)) (b b' b'' : Bool) (middle end : E) (status : ℕ)
+        (f : Fault) → count < sizes →
+        PrintsFirst p count (record { old = old; new = between; has_failed = b }) (errors_to contents start middle) status →
+        FailsSize (with_stages p count) (record { old = between; new = new; has_failed = b' }) (errors_to contents middle end) f →
+        FailsSizes p (record { old = old; new = new; has_failed = b'' }) (errors_to contents start end) f
+    not_printed law count old between new b b' b'' middle end status (fault.Line number) few h why = absurd why
+    not_printed law count old between new b b' b'' middle end status (fault.Text e) few h why = absurd why
+    not_printed law count old between new b b' b'' middle end status fault.NotUtf8 few h why = absurd why
+    not_printed law count old between new b b' b'' middle end status (fault.Image e) few h why = absurd why
+    not_printed law count old between new b b' b'' middle end status (fault.Trace e) few h why = absurd why
+    not_printed law count old between new b b' b'' middle end status fault.Size few h why = absurd why
+    not_printed law count old between new b b' b'' middle end status (fault.Stalled place) few h why = absurd why
+    not_printed law count old between new b b' b'' middle end status fault.Budget few h why = absurd why
+    not_printed law count old between new b b' b'' middle end status fault.Full few h why = absurd why
+    not_printed law count old between new b b' b'' middle end status fault.Loan few h why = absurd why
+    not_printed law count old between new b b' b'' middle end status fault.Start few h why = absurd why
+    not_printed law count old between new b b' b'' middle end status fault.States few h why = absurd why
+    not_printed law count old between new b b' b'' middle end status fault.Alone few h why = absurd why
+    not_printed law count old between new b b' b'' middle end status fault.Link few h why = record {
+      reports = h.reports ++ (record { line = why.line; status = why.status; fault = why.is.fault }) ∷ [];
+      few =
+          let all = h.all in
+          let more = length-append h.reports ((record { line = why.line; status = why.status; fault = why.is.fault }) ∷ []) in
+          omega (arith, few, all, more);
+      are = said_more (Appends old between) (AppendsPart old new) h.reports count middle end why.line why.status h.all h.are why.is
+          (λ said. law old between new (lines_of h.reports) why.line said why.part);
+    }
+    not_printed law count old between new b b' b'' middle end status fault.Memory few h why = record {
+      reports = h.reports;
+      few = let all = h.all in omega (arith, few, all);
+      are = subst (λ (x : Option (List ℕ) × E). AreSizesReported p h.reports (Appends old x.0) (errors_to contents start x.1))
+          (λ i. (sym why.0 i, sym why.1 i)) h.are;
+    }
 
 -- ---- why a size is not explored
 
 -- It is out of the limits,
-pub size_refuses : (c : Config) (image : ImageContents) (limit : ℕ) (f : Fault) → IsFaultOfSize c f → IsSizeRefused c image limit f
-size_refuses c image limit (fault.Line number) why = absurd why
-size_refuses c image limit (fault.Text e) why = absurd why
-size_refuses c image limit fault.NotUtf8 why = absurd why
-size_refuses c image limit (fault.Image e) why = absurd why
-size_refuses c image limit (fault.Trace e) why = absurd why
-size_refuses c image limit fault.Size why = why
-size_refuses c image limit (fault.Stalled place) why = absurd why
-size_refuses c image limit fault.Budget why = absurd why
-size_refuses c image limit fault.Full why = absurd why
-size_refuses c image limit fault.Loan why = absurd why
-size_refuses c image limit fault.Start why = absurd why
-size_refuses c image limit fault.States why = absurd why
-size_refuses c image limit fault.Alone why = absurd why
-size_refuses c image limit fault.Link why = absurd why
-size_refuses c image limit fault.Memory why = tt
+pub size_refuses : (p : Problem) (f : Fault) → IsFaultOfSize p.config f → IsSizeRefused p f
+size_refuses p (fault.Line number) why = absurd why
+size_refuses p (fault.Text e) why = absurd why
+size_refuses p fault.NotUtf8 why = absurd why
+size_refuses p (fault.Image e) why = absurd why
+size_refuses p (fault.Trace e) why = absurd why
+size_refuses p fault.Size why = why
+size_refuses p (fault.Stalled place) why = absurd why
+size_refuses p fault.Budget why = absurd why
+size_refuses p fault.Full why = absurd why
+size_refuses p fault.Loan why = absurd why
+size_refuses p fault.Start why = absurd why
+size_refuses p fault.States why = absurd why
+size_refuses p fault.Alone why = absurd why
+size_refuses p fault.Link why = absurd why
+size_refuses p fault.Memory why = tt
 
 -- or its results are not found.
-pub search_refuses : (c : Config) (image : ImageContents) (limit : ℕ) (opening : MachineLists) (f : Fault) → IsOpening c image opening →
-    IsNotSearched (flat_state opening) limit f → IsSizeRefused c image limit f
-search_refuses c image limit opening (fault.Line number) opens why = absurd why
-search_refuses c image limit opening (fault.Text e) opens why = absurd why
-search_refuses c image limit opening fault.NotUtf8 opens why = absurd why
-search_refuses c image limit opening (fault.Image e) opens why = absurd why
-search_refuses c image limit opening (fault.Trace e) opens why = absurd why
-search_refuses c image limit opening fault.Size opens why = absurd why
-search_refuses c image limit opening (fault.Stalled place) opens why = absurd why
-search_refuses c image limit opening fault.Budget opens why = absurd why
-search_refuses c image limit opening fault.Full opens why = absurd why
-search_refuses c image limit opening fault.Loan opens why = absurd why
-search_refuses c image limit opening fault.Start opens why = absurd why
-search_refuses c image limit opening fault.States opens why = (opening, opens, why)
-search_refuses c image limit opening fault.Alone opens why = (opening, opens)
-search_refuses c image limit opening fault.Link opens why = absurd why
-search_refuses c image limit opening fault.Memory opens why = tt
+pub search_refuses : (p : Problem) (opening : MachineLists) (f : Fault) → IsOpening p.config p.image opening →
+    IsNotSearched (flat_state opening) p.asked.limit f → IsSizeRefused p f
+search_refuses p opening (fault.Line number) opens why = absurd why
+search_refuses p opening (fault.Text e) opens why = absurd why
+search_refuses p opening fault.NotUtf8 opens why = absurd why
+search_refuses p opening (fault.Image e) opens why = absurd why
+search_refuses p opening (fault.Trace e) opens why = absurd why
+search_refuses p opening fault.Size opens why = absurd why
+search_refuses p opening (fault.Stalled place) opens why = absurd why
+search_refuses p opening fault.Budget opens why = absurd why
+search_refuses p opening fault.Full opens why = absurd why
+search_refuses p opening fault.Loan opens why = absurd why
+search_refuses p opening fault.Start opens why = absurd why
+search_refuses p opening fault.States opens why = (opening, opens, why)
+search_refuses p opening fault.Alone opens why = (opening, opens)
+search_refuses p opening fault.Link opens why = absurd why
+search_refuses p opening fault.Memory opens why = tt
 
--- Why the lines of an image are not printed is why those of the file are not.
-pub sizes_refuse : (c : Config) (asked : Asked) (known old new : Option (List ℕ)) (image : ImageContents) (f : Fault) →
-    IsImageOf c.shared_words known image → AreSizesNotPrinted c image asked old new f → IsEveryRefused c asked known old new f
-sizes_refuse c asked known old new image (fault.Line number) meant why = absurd why
-sizes_refuse c asked known old new image (fault.Text e) meant why = absurd why
-sizes_refuse c asked known old new image fault.NotUtf8 meant why = absurd why
-sizes_refuse c asked known old new image (fault.Image e) meant why = absurd why
-sizes_refuse c asked known old new image (fault.Trace e) meant why = absurd why
-sizes_refuse c asked known old new image fault.Size meant why = absurd why
-sizes_refuse c asked known old new image (fault.Stalled place) meant why = absurd why
-sizes_refuse c asked known old new image fault.Budget meant why = absurd why
-sizes_refuse c asked known old new image fault.Full meant why = absurd why
-sizes_refuse c asked known old new image fault.Loan meant why = absurd why
-sizes_refuse c asked known old new image fault.Start meant why = absurd why
-sizes_refuse c asked known old new image fault.States meant why = absurd why
-sizes_refuse c asked known old new image fault.Alone meant why = absurd why
-sizes_refuse c asked known old new image fault.Link meant why = (image, meant, why)
-sizes_refuse c asked known old new image fault.Memory meant why = tt
+-- ---- why nothing more is printed
+
+module _ {E : Type 0} (e : Exploration) (out : Output) (err : ErrorOutput E) where
+  -- The image is refused,
+  pub image_refuses : (f : Fault) → out.new ≡ out.old → err.new ≡ err.old → IsFaultOfImage e.config.shared_words e.file.bytes f →
+      FailsBefore e out err f
+  image_refuses (fault.Line number) unprinted quiet why = absurd why
+  image_refuses (fault.Text x) unprinted quiet why = absurd why
+  image_refuses fault.NotUtf8 unprinted quiet why = absurd why
+  image_refuses (fault.Image x) unprinted quiet why = ((unprinted, quiet), why)
+  image_refuses (fault.Trace x) unprinted quiet why = absurd why
+  image_refuses fault.Size unprinted quiet why = absurd why
+  image_refuses (fault.Stalled place) unprinted quiet why = absurd why
+  image_refuses fault.Budget unprinted quiet why = absurd why
+  image_refuses fault.Full unprinted quiet why = absurd why
+  image_refuses fault.Loan unprinted quiet why = absurd why
+  image_refuses fault.Start unprinted quiet why = absurd why
+  image_refuses fault.States unprinted quiet why = absurd why
+  image_refuses fault.Alone unprinted quiet why = absurd why
+  image_refuses fault.Link unprinted quiet why = absurd why
+  image_refuses fault.Memory unprinted quiet why = inl (unprinted, quiet)
+
+  -- or its lines are not all printed.
+  pub sizes_refuse : (image : ImageContents) (f : Fault) → IsImageOf e.config.shared_words e.file.bytes image →
+      FailsSizes (problem_of e.config image e.asked) out err f → FailsBefore e out err f
+  sizes_refuse image (fault.Line number) meant why = absurd why
+  sizes_refuse image (fault.Text x) meant why = absurd why
+  sizes_refuse image fault.NotUtf8 meant why = absurd why
+  sizes_refuse image (fault.Image x) meant why = absurd why
+  sizes_refuse image (fault.Trace x) meant why = absurd why
+  sizes_refuse image fault.Size meant why = absurd why
+  sizes_refuse image (fault.Stalled place) meant why = absurd why
+  sizes_refuse image fault.Budget meant why = absurd why
+  sizes_refuse image fault.Full meant why = absurd why
+  sizes_refuse image fault.Loan meant why = absurd why
+  sizes_refuse image fault.Start meant why = absurd why
+  sizes_refuse image fault.States meant why = absurd why
+  sizes_refuse image fault.Alone meant why = absurd why
+  sizes_refuse image fault.Link meant why = record { image = image; meant = meant; fails = why }
+  sizes_refuse image fault.Memory meant why = inr (record { image = image; meant = meant; fails = why })

@@ -29,7 +29,7 @@ use Rattle.trace_commands.specs.CountedReplays.{IsReplayCounted}
 use Rattle.exploration.specs.local_reduction.LocalStates.{printed_after}
 use Rattle.exploration.specs.local_reduction.Results.{FinalResult, ProcessorResult, result_with}
 use Rattle.exploration.specs.Results.{AreOfTheMachine, IsOfTheMachine, NoneRuns, machine_result, printed_by, stands_after}
-use Rattle.explore_command.specs.Witnesses.{AreTaken, IsEnd, IsStuck, IsWitness, LeadTo, LeadToResult, left_by, processor_left}
+use Rattle.explore_command.specs.Witnesses.{AreTaken, IsEnd, IsStuck, IsWitness, LeadTo, LeadToResult, left_by, processor_left, target}
 
 -- ---- what is counted of a processor is what it has printed
 
@@ -137,7 +137,7 @@ module _ (c : Config) (image : ImageContents) (results : List FinalResult) (step
     (taken : AreTaken c image steps m tally) (own : AreOfTheMachine steps) (trace : IsTrace (trace_of c steps)) where
   -- Steps after which the machine has ended with the result of a number are a witness for this number.
   pub end_witness : (before number : ℕ) (r : FinalResult) → number ≡ suc before → before < length results → r ≡ slice_index_or results before r →
-      IsEnd m tally.shown r → IsWitness c image results number steps
+      IsEnd m tally.shown r → IsWitness c image (target results number) steps
   end_witness before number r is within there end = record {
     opening = taken.opening;
     opens = taken.opens;
@@ -147,7 +147,7 @@ module _ (c : Config) (image : ImageContents) (results : List FinalResult) (step
   }
 
   -- Steps after which no result can be reached are a witness for the number 0.
-  pub stuck_witness : (number : ℕ) → number ≡ 0 → IsStuck m → IsWitness c image results number steps
+  pub stuck_witness : (number : ℕ) → number ≡ 0 → IsStuck m → IsWitness c image (target results number) steps
   stuck_witness number is stuck = record {
     opening = taken.opening;
     opens = taken.opens;

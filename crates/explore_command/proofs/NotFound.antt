@@ -1,76 +1,94 @@
--- Why results that are not searched, or not saved, are not found.
-use Rattle.std.proofs.Common.{◌≡◌, ℕ, List, Option, refl}
-use Rattle.flat_machine.specs.declared.config.Config.{Config}
+-- Why results that are not searched, or not saved, are not found, and so not printed.
+use Rattle.std.proofs.Common.{◌≡◌}
+use Rattle.elf_image.specs.Files.{IsImageOf}
 use Rattle.elf_image.specs.Images.{ImageContents}
 use Rattle.machine_steps.specs.Machines.{MachineLists}
 use Rattle.machine_steps.specs.Openings.{flat_state}
 use Rattle.machine_steps.specs.Runs.{IsOpening}
 use Rattle.command_io.specs.declared.fault.Fault.{Fault}
 use Rattle.command_io.specs.declared.fault.Fault.TheVariants as fault
-use Rattle.exploration.specs.local_reduction.Results.{FinalResult}
-use Rattle.exploration.specs.state_graph.declared.termination.Termination.{Termination}
+use Rattle.command_io.specs.Links.{Output}
 use Rattle.exploration.specs.state_graph.Laws.{IsTerminationOf}
-use Rattle.explore_command.specs.declared.command.Asked.{Asked}
 use Rattle.explore_command.specs.declared.refused.Refused.{Refused}
 use Rattle.explore_command.specs.declared.refused.Refused.TheVariants as refused
-use Rattle.explore_command.specs.Causes.{IsNotFound, IsNotSaved, IsNotSearched}
-use Rattle.explore_command.specs.Explorations.{AreResultsOf}
+use Rattle.explore_command.specs.Causes.{IsNotFound, IsNotSaved, IsNotSearched, IsRefused}
+use Rattle.explore_command.specs.Explorations.{AreResultsOf, Exploration, Problem, SearchResult, problem_of}
+use Rattle.explore_command.specs.TraceOutputs.{TraceOutput}
 
-module _ {T : Type 0} (contents : T → Option (List ℕ)) (c : Config) (image : ImageContents) (asked : Asked) (number : ℕ)
-    (opening : MachineLists) (opens : IsOpening c image opening) where
+module _ {T : Type 0} (p : Problem) (trace : TraceOutput T) (opening : MachineLists) (opens : IsOpening p.config p.image opening) where
   -- If a machine's results are not searched, its image's results are not found, with the same fault.
-  pub not_searched : (trace : Option T) (f : Fault) → IsNotSearched (flat_state opening) asked.limit f →
-      IsNotFound contents c image asked number trace trace (refused.Fault f)
-  not_searched trace (fault.Line line) why = absurd why
-  not_searched trace (fault.Text e) why = absurd why
-  not_searched trace fault.NotUtf8 why = absurd why
-  not_searched trace (fault.Image e) why = absurd why
-  not_searched trace (fault.Trace e) why = absurd why
-  not_searched trace fault.Size why = absurd why
-  not_searched trace (fault.Stalled place) why = absurd why
-  not_searched trace fault.Budget why = absurd why
-  not_searched trace fault.Full why = absurd why
-  not_searched trace fault.Loan why = absurd why
-  not_searched trace fault.Start why = absurd why
-  not_searched trace fault.States why = (refl, (opening, opens, why))
-  not_searched trace fault.Alone why = (refl, (opening, opens))
-  not_searched trace fault.Link why = absurd why
-  not_searched trace fault.Memory why = refl
+  pub not_searched : (f : Fault) → trace.new ≡ trace.old → IsNotSearched (flat_state opening) p.asked.limit f → IsNotFound p trace (refused.Fault f)
+  not_searched (fault.Line line) same why = absurd why
+  not_searched (fault.Text e) same why = absurd why
+  not_searched fault.NotUtf8 same why = absurd why
+  not_searched (fault.Image e) same why = absurd why
+  not_searched (fault.Trace e) same why = absurd why
+  not_searched fault.Size same why = absurd why
+  not_searched (fault.Stalled place) same why = absurd why
+  not_searched fault.Budget same why = absurd why
+  not_searched fault.Full same why = absurd why
+  not_searched fault.Loan same why = absurd why
+  not_searched fault.Start same why = absurd why
+  not_searched fault.States same why = (same, (opening, opens, why))
+  not_searched fault.Alone same why = (same, (opening, opens))
+  not_searched fault.Link same why = absurd why
+  not_searched fault.Memory same why = same
 
-  module _ (classes : List ℕ) (results : List FinalResult) (all : AreResultsOf opening classes results) (termination : Termination)
-      (fact : IsTerminationOf (flat_state opening) termination) where
+  module _ (found : SearchResult) (all : AreResultsOf opening found.classes found.results)
+      (fact : IsTerminationOf (flat_state opening) found.termination) where
     -- If the trace of a witness is not saved, it is not found either, for the same reason.
-    pub not_saved : (trace trace' : Option T) (r : Refused) → IsNotSaved contents c image results termination number trace trace' r →
-        IsNotFound contents c image asked number trace trace' r
-    not_saved trace trace' refused.Unknown why = (
+    pub not_saved : (r : Refused) → IsNotSaved p found trace r → IsNotFound p trace r
+    not_saved refused.Unknown why = (
       why.0,
       record {
         opening = opening;
         opens = opens;
-        classes = classes;
-        results = results;
+        classes = found.classes;
+        results = found.results;
         all = all;
-        termination = termination;
+        termination = found.termination;
         fact = fact;
         none = why.1;
       },
     )
-    not_saved trace trace' refused.Missed why = (why, (opening, opens))
-    not_saved trace trace' (refused.Fault (fault.Line line)) why = absurd why
-    not_saved trace trace' (refused.Fault (fault.Text e)) why = absurd why
-    not_saved trace trace' (refused.Fault fault.NotUtf8) why = absurd why
-    not_saved trace trace' (refused.Fault (fault.Image e)) why = absurd why
-    not_saved trace trace' (refused.Fault (fault.Trace e)) why = (
+    not_saved refused.Missed why = (why, (opening, opens))
+    not_saved (refused.Fault (fault.Line line)) why = absurd why
+    not_saved (refused.Fault (fault.Text e)) why = absurd why
+    not_saved (refused.Fault fault.NotUtf8) why = absurd why
+    not_saved (refused.Fault (fault.Image e)) why = absurd why
+    not_saved (refused.Fault (fault.Trace e)) why = (
       why.0,
-      record { opening = opening; opens = opens; classes = classes; results = results; all = all; part = why.1 },
+      record { opening = opening; opens = opens; classes = found.classes; results = found.results; all = all; part = why.1 },
     )
-    not_saved trace trace' (refused.Fault fault.Size) why = why
-    not_saved trace trace' (refused.Fault (fault.Stalled place)) why = absurd why
-    not_saved trace trace' (refused.Fault fault.Budget) why = absurd why
-    not_saved trace trace' (refused.Fault fault.Full) why = (why, (opening, opens))
-    not_saved trace trace' (refused.Fault fault.Loan) why = absurd why
-    not_saved trace trace' (refused.Fault fault.Start) why = absurd why
-    not_saved trace trace' (refused.Fault fault.States) why = absurd why
-    not_saved trace trace' (refused.Fault fault.Alone) why = absurd why
-    not_saved trace trace' (refused.Fault fault.Link) why = absurd why
-    not_saved trace trace' (refused.Fault fault.Memory) why = why
+    not_saved (refused.Fault fault.Size) why = why
+    not_saved (refused.Fault (fault.Stalled place)) why = absurd why
+    not_saved (refused.Fault fault.Budget) why = absurd why
+    not_saved (refused.Fault fault.Full) why = (why, (opening, opens))
+    not_saved (refused.Fault fault.Loan) why = absurd why
+    not_saved (refused.Fault fault.Start) why = absurd why
+    not_saved (refused.Fault fault.States) why = absurd why
+    not_saved (refused.Fault fault.Alone) why = absurd why
+    not_saved (refused.Fault fault.Link) why = absurd why
+    not_saved (refused.Fault fault.Memory) why = why
+
+-- If the results of the image that a file means are not found, none are printed, for the same reason.
+pub not_found : {T : Type 0} (e : Exploration) (trace : TraceOutput T) (out : Output) (image : ImageContents) →
+    IsImageOf e.config.shared_words e.file.bytes image → (r : Refused) → IsNotFound (problem_of e.config image e.asked) trace r →
+    IsRefused e trace out r
+not_found e trace out image meant refused.Unknown why = (image, meant, why)
+not_found e trace out image meant refused.Missed why = (image, meant, why)
+not_found e trace out image meant (refused.Fault (fault.Line line)) why = absurd why
+not_found e trace out image meant (refused.Fault (fault.Text x)) why = absurd why
+not_found e trace out image meant (refused.Fault fault.NotUtf8) why = absurd why
+not_found e trace out image meant (refused.Fault (fault.Image x)) why = absurd why
+not_found e trace out image meant (refused.Fault (fault.Trace x)) why = (image, meant, why)
+not_found e trace out image meant (refused.Fault fault.Size) why = (image, meant, why)
+not_found e trace out image meant (refused.Fault (fault.Stalled place)) why = absurd why
+not_found e trace out image meant (refused.Fault fault.Budget) why = absurd why
+not_found e trace out image meant (refused.Fault fault.Full) why = (image, meant, why)
+not_found e trace out image meant (refused.Fault fault.Loan) why = absurd why
+not_found e trace out image meant (refused.Fault fault.Start) why = absurd why
+not_found e trace out image meant (refused.Fault fault.States) why = (image, meant, why)
+not_found e trace out image meant (refused.Fault fault.Alone) why = (image, meant, why)
+not_found e trace out image meant (refused.Fault fault.Link) why = absurd why
+not_found e trace out image meant (refused.Fault fault.Memory) why = why

@@ -1,9 +1,9 @@
 -- Why no results are printed, or not all of them.
-use Rattle.std.specs.Prelude.{◌≡◌, ℕ, ◌==◌, Bool, true, false, List, ◌++◌, Option, codes, if◌then◌else◌}
+use Rattle.std.specs.Prelude.{◌≡◌, ℕ, ◌==◌, List, ◌++◌, Option, codes, if◌then◌else◌}
 use Rattle.std.specs.Fmt.{decimal}
-use Rattle.flat_machine.specs.declared.config.Config.{Config}
 use Rattle.flat_machine.specs.State.{FlatState}
 use Rattle.flat_machine.specs.Limits.{IsWithinLimits}
+use Rattle.elf_image.specs.declared.error.ImageError.TheVariants as of_image
 use Rattle.elf_image.specs.Files.{IsImageOf, IsImageRefusal}
 use Rattle.elf_image.specs.Images.{ImageContents}
 use Rattle.steps.specs.declared.step.Step.{Step}
@@ -17,18 +17,19 @@ use Rattle.command_io.specs.declared.fault.Fault.TheVariants as fault
 use Rattle.command_io.specs.Digits.{line_feed}
 use Rattle.command_io.specs.Faults.{status_of_fault}
 use Rattle.command_io.specs.FaultTexts.{AppendsOrPart, IsReported}
+use Rattle.command_io.specs.Links.{IsOfLink, Output}
 use Rattle.command_io.specs.Printing.{PrintsPrefix}
-use Rattle.trace_commands.specs.TraceReports.{IsPartSaved}
 use Rattle.exploration.specs.States.{HasManyStates}
 use Rattle.exploration.specs.local_reduction.Results.{FinalResult}
 use Rattle.exploration.specs.state_graph.declared.termination.Termination.{Termination}
 use Rattle.exploration.specs.state_graph.Laws.{IsTerminationOf}
-use Rattle.explore_command.specs.declared.command.Asked.{Asked}
 use Rattle.explore_command.specs.declared.refused.Refused.{Refused}
 use Rattle.explore_command.specs.declared.refused.Refused.TheVariants as refused
 use Rattle.explore_command.specs.Refusals.{HasWitness}
-use Rattle.explore_command.specs.Witnesses.{IsWitness}
-use Rattle.explore_command.specs.Explorations.{AreResultsOf, PrintsSomeResults}
+use Rattle.explore_command.specs.TraceOutputs.{HasPartSaved, TraceOutput}
+use Rattle.explore_command.specs.Witnesses.{IsWitness, target}
+use Rattle.explore_command.specs.Explorations.{AreResultsOf, Exploration, PrintsSomeResults, Problem, SearchResult}
+use Rattle.explore_command.specs.Explorations.{problem_of}
 
 -- the exit status that says why
 abbrev pub status_of : Refused → ℕ
@@ -48,18 +49,6 @@ IsReportedAs number old new refused.Unknown = AppendsOrPart old new (unknown_lin
 IsReportedAs number old new refused.Missed =
     AppendsOrPart old new (codes "error: the steps that were taken lead elsewhere\n")
 
--- The exit status says why, which has its cause and is reported. A failed write to the output is reported as the
--- output's fault; where no write failed, the output is as it was.
-pub record ReportsFaultAs {W : Type 0} (has_failed : W → Bool) (is_cause is_reported : Refused →
-    Type 0) (old new : W) (status : ℕ) : Type 0 where
-  pub why : Refused
-  pub tells : status ≡ status_of why
-  pub cause : is_cause why
-  pub reported : is_reported why
-  pub failed : has_failed new ≡ true → why ≡ refused.Fault fault.Link
-  pub source : why ≡ refused.Fault fault.Link → has_failed new ≡ true
-  pub silent : has_failed new ≡ false → new ≡ old
-
 -- Why a machine's results are not there: there are as many states as the limit, or more; or a processor went on for
 -- too long alone. Of the last no more is said, nor of a lack of memory.
 abbrev pub IsNotSearched : FlatState → (limit : ℕ) → Fault → Type 0
@@ -69,86 +58,79 @@ IsNotSearched m limit fault.Memory = Unit {0}
 IsNotSearched m limit other = ⊥
 
 -- The machine that opens on the image is there.
-abbrev pub Opens : Config → ImageContents → Type 0
-Opens c image = (opening : MachineLists) × IsOpening c image opening
+abbrev pub Opens : Problem → Type 0
+Opens p = (opening : MachineLists) × IsOpening p.config p.image opening
 
 -- It has as many states as the limit, or more.
-abbrev pub HasTooMany : Config → ImageContents → (limit : ℕ) → Type 0
-HasTooMany c image limit = (opening : MachineLists) × IsOpening c image opening
-    × HasManyStates (flat_state opening) limit
+abbrev pub HasTooMany : Problem → Type 0
+HasTooMany p = (opening : MachineLists) × IsOpening p.config p.image opening
+    × HasManyStates (flat_state opening) p.asked.limit
 
--- Its results and what is said of its schedules are there, and nothing that this number names.
-pub record HasNoneOf (c : Config) (image : ImageContents) (number : ℕ) : Type 0 where
+-- Its results and what is said of its schedules are there, and nothing that the wanted number names.
+pub record HasNoWitness (p : Problem) : Type 0 where
   pub opening : MachineLists
-  pub opens : IsOpening c image opening
+  pub opens : IsOpening p.config p.image opening
   pub classes : List ℕ
   pub results : List FinalResult
   pub all : AreResultsOf opening classes results
   pub termination : Termination
   pub fact : IsTerminationOf (flat_state opening) termination
-  pub none : HasWitness results termination number → ⊥
+  pub none : HasWitness results termination p.asked.witness → ⊥
 
 -- A part of the trace of a witness is written, and not all of it.
-pub record IsPartWitnessed {T : Type 0} (contents : T →
-    Option (List ℕ)) (c : Config) (image : ImageContents) (results : List FinalResult) (number : ℕ)
-    (trace trace' : Option T) : Type 0 where
-  pub steps : List Step
-  pub witness : IsWitness c image results number steps
-  pub part : IsPartSaved contents trace trace' (trace_bytes (trace_of c steps))
+pub record IsPartWitnessed {T : Type 0} (p : Problem) (results : List FinalResult) (trace : TraceOutput T) : Type 0
+  where
+    pub steps : List Step
+    pub witness : IsWitness p.config p.image (target results p.asked.witness) steps
+    pub part : HasPartSaved trace (trace_bytes (trace_of p.config steps))
 
 -- Why the trace of a witness is not written: there is none for the number, or the trace cannot be written; else the way
 -- is too long or leads elsewhere, or there is no memory.
-abbrev pub IsNotSaved : {T : Type 0} → (contents : T → Option (List ℕ)) → Config → ImageContents → List FinalResult →
-    Termination → (number : ℕ) →
-    (trace trace' : Option T) → Refused → Type 0
-IsNotSaved contents c image results termination number trace trace' refused.Unknown = (trace' ≡ trace)
-    × (HasWitness results termination number → ⊥)
-IsNotSaved contents c image results termination number trace trace' refused.Missed = trace' ≡ trace
-IsNotSaved contents c image results termination number trace trace' (refused.Fault (fault.Trace e)) =
-    (e ≡ of_trace.Link) × IsPartWitnessed contents c image results number trace trace'
-IsNotSaved contents c image results termination number trace trace' (refused.Fault fault.Size) = (trace' ≡ trace)
-    × (IsWithinLimits c → ⊥)
-IsNotSaved contents c image results termination number trace trace' (refused.Fault fault.Full) = trace' ≡ trace
-IsNotSaved contents c image results termination number trace trace' (refused.Fault fault.Memory) = trace' ≡ trace
-IsNotSaved contents c image results termination number trace trace' (refused.Fault other) = ⊥
+abbrev pub IsNotSaved : {T : Type 0} → Problem → SearchResult → TraceOutput T → Refused → Type 0
+IsNotSaved p found trace refused.Unknown = (trace.new ≡ trace.old)
+    × (HasWitness found.results found.termination p.asked.witness → ⊥)
+IsNotSaved p found trace refused.Missed = trace.new ≡ trace.old
+IsNotSaved p found trace (refused.Fault (fault.Trace e)) = (e ≡ of_trace.Link) × IsPartWitnessed p found.results trace
+IsNotSaved p found trace (refused.Fault fault.Size) = (trace.new ≡ trace.old) × (IsWithinLimits p.config → ⊥)
+IsNotSaved p found trace (refused.Fault fault.Full) = trace.new ≡ trace.old
+IsNotSaved p found trace (refused.Fault fault.Memory) = trace.new ≡ trace.old
+IsNotSaved p found trace (refused.Fault other) = ⊥
 
 -- Its results are there, and only a part of the trace of a witness for one of them is written.
-pub record IsPartOfFound {T : Type 0} (contents : T →
-    Option (List ℕ)) (c : Config) (image : ImageContents) (number : ℕ) (trace trace' : Option T) : Type 0 where
+pub record IsPartOfFound {T : Type 0} (p : Problem) (trace : TraceOutput T) : Type 0 where
   pub opening : MachineLists
-  pub opens : IsOpening c image opening
+  pub opens : IsOpening p.config p.image opening
   pub classes : List ℕ
   pub results : List FinalResult
   pub all : AreResultsOf opening classes results
-  pub part : IsPartWitnessed contents c image results number trace trace'
+  pub part : IsPartWitnessed p results trace
 
 -- Why the results of an image are not there, or not their witness: the machine cannot be explored for its size; or
 -- there is the machine, and not its results, or nothing that the number names, or the trace cannot be written.
-abbrev pub IsNotFound : {T : Type 0} → (contents : T → Option (List ℕ)) → Config → ImageContents → (asked : Asked) →
-    (number : ℕ) →
-    (trace trace' : Option T) → Refused → Type 0
-IsNotFound contents c image asked number trace trace' refused.Unknown = (trace' ≡ trace) × HasNoneOf c image number
-IsNotFound contents c image asked number trace trace' refused.Missed = (trace' ≡ trace) × Opens c image
-IsNotFound contents c image asked number trace trace' (refused.Fault fault.Size) = (trace' ≡ trace)
-    × (IsWithinLimits c → ⊥)
-IsNotFound contents c image asked number trace trace' (refused.Fault fault.States) = (trace' ≡ trace)
-    × HasTooMany c image asked.limit
-IsNotFound contents c image asked number trace trace' (refused.Fault fault.Alone) = (trace' ≡ trace) × Opens c image
-IsNotFound contents c image asked number trace trace' (refused.Fault fault.Full) = (trace' ≡ trace) × Opens c image
-IsNotFound contents c image asked number trace trace' (refused.Fault (fault.Trace e)) =
-    (e ≡ of_trace.Link) × IsPartOfFound contents c image number trace trace'
-IsNotFound contents c image asked number trace trace' (refused.Fault fault.Memory) = trace' ≡ trace
-IsNotFound contents c image asked number trace trace' (refused.Fault other) = ⊥
+abbrev pub IsNotFound : {T : Type 0} → Problem → TraceOutput T → Refused → Type 0
+IsNotFound p trace refused.Unknown = (trace.new ≡ trace.old) × HasNoWitness p
+IsNotFound p trace refused.Missed = (trace.new ≡ trace.old) × Opens p
+IsNotFound p trace (refused.Fault fault.Size) = (trace.new ≡ trace.old) × (IsWithinLimits p.config → ⊥)
+IsNotFound p trace (refused.Fault fault.States) = (trace.new ≡ trace.old) × HasTooMany p
+IsNotFound p trace (refused.Fault fault.Alone) = (trace.new ≡ trace.old) × Opens p
+IsNotFound p trace (refused.Fault fault.Full) = (trace.new ≡ trace.old) × Opens p
+IsNotFound p trace (refused.Fault (fault.Trace e)) = (e ≡ of_trace.Link) × IsPartOfFound p trace
+IsNotFound p trace (refused.Fault fault.Memory) = trace.new ≡ trace.old
+IsNotFound p trace (refused.Fault other) = ⊥
 
 -- Why no results are printed, or not all of them: the image is refused, its results or their witness are not there, or
 -- the lines cannot be written.
-abbrev pub IsRefused : {T : Type 0} → (contents : T → Option (List ℕ)) → Config → (asked : Asked) → (number : ℕ) →
-    (known : Option (List ℕ)) → (trace trace' : Option T) → (out out' : Option (List ℕ)) → Refused → Type 0
-IsRefused contents c asked number known trace trace' out out' (refused.Fault (fault.Image e)) =
-    (trace' ≡ trace) × IsImageRefusal c.shared_words known e
-IsRefused contents c asked number known trace trace' out out' (refused.Fault fault.Link) =
-    PrintsPrefix (PrintsSomeResults contents c asked number known trace trace') out out'
-IsRefused contents c asked number known trace trace' out out' (refused.Fault fault.Memory) = trace' ≡ trace
-IsRefused contents c asked number known trace trace' out out' other =
-    (image : ImageContents) × IsImageOf c.shared_words known image
-    × IsNotFound contents c image asked number trace trace' other
+abbrev pub IsRefused : {T : Type 0} → Exploration → TraceOutput T → Output → Refused → Type 0
+IsRefused e trace out (refused.Fault (fault.Image r)) =
+    (trace.new ≡ trace.old) × IsImageRefusal e.config.shared_words e.file.bytes r
+IsRefused e trace out (refused.Fault fault.Link) = PrintsPrefix (PrintsSomeResults e trace) out.old out.new
+IsRefused e trace out (refused.Fault fault.Memory) = trace.new ≡ trace.old
+IsRefused e trace out other = (image : ImageContents) × IsImageOf e.config.shared_words e.file.bytes image
+    × IsNotFound (problem_of e.config image e.asked) trace other
+
+-- Why the command fails: the refusal has its cause, and is that of a link exactly if the link has failed.
+pub record ExploreFails {T : Type 0} (e : Exploration) (trace : TraceOutput T) (out : Output)
+    (r : Refused) : Type 0 where
+  pub cause : IsRefused e trace out r
+  pub unread : IsOfLink (refused.Fault (fault.Image of_image.Link)) e.file.has_failed r
+  pub unprinted : IsOfLink (refused.Fault fault.Link) out.has_failed r

@@ -1,15 +1,15 @@
 -- What the command prints: from the bytes of a file to all final results of the program that it means.
-use Rattle.std.specs.Prelude.{◌≡◌, ℕ, ◌<◌, ◌^◌, true, List, Option, Some, None, All, length}
+use Rattle.std.specs.Prelude.{◌≡◌, ℕ, ◌<◌, ◌^◌, true, List, MatchOption, None, All, length}
 use Rattle.flat_machine.specs.declared.config.Config.{Config}
 use Rattle.elf_image.specs.Files.{IsImageOf}
 use Rattle.elf_image.specs.Images.{ImageContents}
 use Rattle.steps.specs.declared.step.Step.{Step}
 use Rattle.trace_file.specs.Traces.{trace_bytes, trace_of}
+use Rattle.command_io.specs.Links.{Input}
 use Rattle.machine_steps.specs.Machines.{MachineLists}
 use Rattle.machine_steps.specs.Runs.{IsOpening}
 use Rattle.machine_steps.specs.Openings.{flat_state}
 use Rattle.machine_steps.specs.Standing.{IsFaulted}
-use Rattle.trace_commands.specs.TraceReports.{IsSaved}
 use Rattle.exploration.specs.local_reduction.Results.{ProcessorResult, FinalResult}
 use Rattle.exploration.specs.Endings.{AreResultsUpTo, AreSingle, IsOnce}
 use Rattle.exploration.specs.States.{AreAllStates}
@@ -17,10 +17,11 @@ use Rattle.exploration.specs.state_graph.declared.termination.Termination.{Termi
 use Rattle.exploration.specs.state_graph.declared.termination.Termination.TheVariants as fact
 use Rattle.exploration.specs.state_graph.Laws.{IsTerminationOf}
 use Rattle.explore_command.specs.declared.command.Asked.{Asked}
-use Rattle.explore_command.specs.Witnesses.{IsWitness}
+use Rattle.explore_command.specs.TraceOutputs.{HasSaved, TraceOutput}
+use Rattle.explore_command.specs.Witnesses.{IsWitness, target}
 use Rattle.explore_command.specs.Lines.{results_lines}
 
--- ---- what is printed
+-- ---- what is found
 
 -- These results stand for the final results of the machine, each of which some steps without writes from outside leave,
 -- after which no processor runs, and for no others; and each is listed once. A result stands for all that come of it if
@@ -49,57 +50,73 @@ pub record IsExitOf (results : List FinalResult) (termination : Termination) (st
   pub faulted : (All IsFaultless results → ⊥) → status ≡ 1
   pub stuck : (IsNotStuck termination → ⊥) → status ≡ 1
 
--- Where a trace is asked for, that of steps is written that lead to the result of this number, or for 0 to where no
--- result can be reached.
-abbrev pub IsWitnessed : {T : Type 0} → (contents : T → Option (List ℕ)) → Config → ImageContents → List FinalResult →
-    (number : ℕ) →
-    (trace trace' : Option T) → Type 0
-IsWitnessed contents c image results number None trace' = trace' ≡ None
-IsWitnessed contents c image results number (Some old) trace' =
-    (steps : List Step) × IsWitness c image results number steps
-    × IsSaved contents (Some old) trace' (trace_bytes (trace_of c steps))
+-- What is explored: the machine of this size that opens on the image; and what is asked of the search.
+pub record Problem : Type 0 where
+  pub config : Config
+  pub image : ImageContents
+  pub asked : Asked
 
--- These are the final results of the machine of this size that opens on the image, up to exchanges of processors of one
--- class, and so its schedules end. If each result is asked for, each processor is of a class of its own.
-pub record IsFound (c : Config) (image : ImageContents) (asked : Asked) (classes : List ℕ) (results : List FinalResult)
-    (termination : Termination) (states : ℕ) : Type 0 where
-  pub opening : MachineLists
-  pub opens : IsOpening c image opening
-  pub all : AreResultsOf opening classes results
-  pub single : asked.each ≡ true → AreSingle (2 ^ c.k) classes
-  pub fact : IsTerminationOf (flat_state opening) termination
-  -- there are this many states, and fewer than the limit
-  pub counted : AreAllStates (flat_state opening) classes results termination states
-  pub few : states < asked.limit
+abbrev pub problem_of : Config → ImageContents → Asked → Problem
+problem_of c image asked = record { config = c; image = image; asked = asked }
 
--- the same, of some results
-pub record Explorations (c : Config) (image : ImageContents) (asked : Asked) : Type 0 where
+-- What a command explores: machines of this size that open on the image which a file means.
+pub record Exploration : Type 0 where
+  pub config : Config
+  pub asked : Asked
+  pub file : Input
+
+abbrev pub exploration_of : Config → Asked → Input → Exploration
+exploration_of c asked file = record { config = c; asked = asked; file = file }
+
+-- What a search finds: results and classes of processors, how schedules end, and how many states there are.
+pub record SearchResult : Type 0 where
   pub classes : List ℕ
   pub results : List FinalResult
   pub termination : Termination
   pub states : ℕ
-  pub is : IsFound c image asked classes results termination states
+
+abbrev pub search_result : (classes : List ℕ) → List FinalResult → Termination → (states : ℕ) → SearchResult
+search_result classes results termination states =
+    record { classes = classes; results = results; termination = termination; states = states }
+
+-- These are the final results of the machine that opens on the image, up to exchanges of processors of one class, and
+-- so its schedules end. If each result is asked for, each processor is of a class of its own.
+pub record IsFound (p : Problem) (found : SearchResult) : Type 0 where
+  pub opening : MachineLists
+  pub opens : IsOpening p.config p.image opening
+  pub all : AreResultsOf opening found.classes found.results
+  pub single : p.asked.each ≡ true → AreSingle (2 ^ p.config.k) found.classes
+  pub fact : IsTerminationOf (flat_state opening) found.termination
+  -- there are this many states, and fewer than the limit
+  pub counted : AreAllStates (flat_state opening) found.classes found.results found.termination found.states
+  pub few : found.states < p.asked.limit
+
+-- ---- what is printed
+
+-- Where a trace is asked for, that of steps is written that lead to the result of the wanted number, or for 0 to where
+-- no result can be reached.
+abbrev pub IsWitnessed : {T : Type 0} → Problem → List FinalResult → TraceOutput T → Type 0
+IsWitnessed p results trace =
+    MatchOption trace.old (trace.new ≡ None)
+    (λ old. (steps : List Step) × IsWitness p.config p.image (target results p.asked.witness) steps
+    × HasSaved trace (trace_bytes (trace_of p.config steps)))
 
 -- These are its lines, and this is the exit status. The trace of a witness is written, if one is asked for.
-pub record AreExplored {T : Type 0} (contents : T →
-    Option (List ℕ)) (c : Config) (image : ImageContents) (asked : Asked)
-    (number : ℕ) (trace trace' : Option T) (text : List ℕ) (status : ℕ) : Type 0 where
-  pub found : Explorations c image asked
+pub record AreExplored {T : Type 0} (p : Problem) (trace : TraceOutput T) (text : List ℕ) (status : ℕ) : Type 0 where
+  pub found : SearchResult
+  pub is : IsFound p found
   pub lines : text ≡ results_lines found.results found.classes found.states found.termination
   pub exit : IsExitOf found.results found.termination status
-  pub witnessed : IsWitnessed contents c image found.results number trace trace'
+  pub witnessed : IsWitnessed p found.results trace
 
--- These are the lines of the final results of the image that a file means, and this is the exit status; the trace of a
--- witness is written, where one is asked for.
-pub record PrintsResults {T : Type 0} (contents : T → Option (List ℕ)) (c : Config) (asked : Asked) (number : ℕ)
-    (known : Option (List ℕ)) (trace trace' : Option T) (status : ℕ) (text : List ℕ) : Type 0 where
+-- These are the lines of the final results of the image that the file means, and this is the exit status. The trace of
+-- a witness is written, where one is asked for.
+pub record PrintsResults {T : Type 0} (e : Exploration) (trace : TraceOutput T) (status : ℕ)
+    (text : List ℕ) : Type 0 where
   pub image : ImageContents
-  pub meant : IsImageOf c.shared_words known image
-  pub explored : AreExplored contents c image asked number trace trace' text status
+  pub meant : IsImageOf e.config.shared_words e.file.bytes image
+  pub explored : AreExplored (problem_of e.config image e.asked) trace text status
 
 -- the lines, with whatever exit status
-abbrev pub PrintsSomeResults : {T : Type 0} → (contents : T → Option (List ℕ)) → Config → (asked : Asked) →
-    (number : ℕ) →
-    (known : Option (List ℕ)) → (trace trace' : Option T) → (text : List ℕ) → Type 0
-PrintsSomeResults contents c asked number known trace trace' text =
-    (status : ℕ) × PrintsResults contents c asked number known trace trace' status text
+abbrev pub PrintsSomeResults : {T : Type 0} → Exploration → TraceOutput T → (text : List ℕ) → Type 0
+PrintsSomeResults e trace text = (status : ℕ) × PrintsResults e trace status text

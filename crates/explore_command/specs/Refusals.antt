@@ -4,7 +4,10 @@ use Rattle.flat_machine.specs.declared.config.Config.{Config}
 use Rattle.flat_machine.specs.Limits.{IsWithinLimits}
 use Rattle.machine_log.specs.declared.refusal.LockRefusal.{LockRefusal}
 use Rattle.machine_log.specs.declared.refusal.LockRefusal.TheVariants as log
+use Rattle.command_io.specs.declared.fault.Fault.{Fault}
 use Rattle.command_io.specs.declared.fault.Fault.TheVariants as fault
+use Rattle.exploration.specs.declared.refusal.Refusal.{Refusal}
+use Rattle.exploration.specs.declared.refusal.Refusal.TheVariants as search
 use Rattle.exploration.specs.local_reduction.Results.{FinalResult}
 use Rattle.exploration.specs.state_graph.declared.termination.Termination.{Termination}
 use Rattle.exploration.specs.state_graph.declared.termination.Termination.TheVariants as fact
@@ -16,6 +19,12 @@ refused_by_log log.Memory = refused.Fault fault.Memory
 refused_by_log log.Full = refused.Fault fault.Full
 refused_by_log log.Unnamed = refused.Missed
 refused_by_log log.NotFree = refused.Missed
+
+-- the fault that says why a search is given up
+abbrev pub fault_of_search : Refusal → Fault
+fault_of_search search.Memory = fault.Memory
+fault_of_search search.States = fault.States
+fault_of_search search.Alone = fault.Alone
 
 -- There is a state from which no end can be reached.
 abbrev pub Deadlock : Termination → Type 0

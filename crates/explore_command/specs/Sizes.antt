@@ -1,24 +1,29 @@
 -- What is said of every size of a machine.
-use Rattle.std.specs.Prelude.{if◌then◌else◌, nat_lt, ◌≡◌, ◌⊎◌, ℕ, zero, suc, ◌+◌, ◌<◌, ◌≤◌, ◌^◌, max}
-use Rattle.std.specs.Prelude.{List, [], ◌++◌, Option, Some, None, Contains, codes, length}
+use Rattle.std.specs.Prelude.{if◌then◌else◌, nat_lt, ◌≡◌, ◌⊎◌, ℕ, ◌+◌, ◌≤◌, ◌^◌, max}
+use Rattle.std.specs.Prelude.{List, [], ◌∷◌, ◌++◌, Option, Some, None, Contains, codes, length}
+use Rattle.std.specs.Prelude.{option_to_list, slice_get}
+use Rattle.std.specs.Io.KnownBytes.{Appends}
+use Rattle.std.specs.List.{flat_map}
 use Rattle.std.specs.Fmt.{decimal}
-use Rattle.flat_machine.specs.declared.config.Config.{Config}
 use Rattle.flat_machine.specs.declared.event.Status.{Status}
 use Rattle.flat_machine.specs.declared.event.Status.TheVariants.{Running, Halted, Faulted}
 use Rattle.flat_machine.specs.State.{number_of_fault}
 use Rattle.flat_machine.specs.Limits.{IsWithinLimits}
+use Rattle.elf_image.specs.declared.error.ImageError.TheVariants as of_image
 use Rattle.elf_image.specs.Files.{IsImageOf, IsImageRefusal}
 use Rattle.elf_image.specs.Images.{ImageContents}
 use Rattle.command_io.specs.declared.fault.Fault.{Fault}
 use Rattle.command_io.specs.declared.fault.Fault.TheVariants as fault
 use Rattle.command_io.specs.Digits.{line_feed, status_text}
 use Rattle.command_io.specs.Faults.{status_of_fault}
-use Rattle.command_io.specs.Printing.{PrintsPrefix, Prints}
+use Rattle.command_io.specs.ErrorOutputs.{ErrorOutput, errors_to}
+use Rattle.command_io.specs.FaultTexts.{IsReported}
+use Rattle.command_io.specs.Links.{IsOfLink, Output}
+use Rattle.link.specs.Transfer.{AppendsPart}
 use Rattle.exploration.specs.local_reduction.Results.{FinalResult, ProcessorResult}
 use Rattle.exploration.specs.state_graph.declared.termination.Termination.{Termination}
-use Rattle.explore_command.specs.declared.command.Asked.{Asked}
 use Rattle.explore_command.specs.Causes.{HasTooMany, Opens}
-use Rattle.explore_command.specs.Explorations.{Explorations, IsExitOf}
+use Rattle.explore_command.specs.Explorations.{Exploration, IsExitOf, IsFound, Problem, SearchResult, problem_of}
 use Rattle.explore_command.specs.Lines.{counted, schedules_text}
 
 -- ---- the greatest status
@@ -88,103 +93,178 @@ refused_line k f = size_text k ++ codes "not explored: " ++ refusal_text f ++ li
 
 -- Why a size is not explored: it is out of the limits; or there are too many states, or a processor goes on for too
 -- long alone. Of the last no more is said, nor of a lack of memory.
-abbrev pub IsSizeRefused : Config → ImageContents → (limit : ℕ) → Fault → Type 0
-IsSizeRefused c image limit fault.Size = IsWithinLimits c → ⊥
-IsSizeRefused c image limit fault.States = HasTooMany c image limit
-IsSizeRefused c image limit fault.Alone = Opens c image
-IsSizeRefused c image limit fault.Memory = Unit {0}
-IsSizeRefused c image limit other = ⊥
+abbrev pub IsSizeRefused : Problem → Fault → Type 0
+IsSizeRefused p fault.Size = IsWithinLimits p.config → ⊥
+IsSizeRefused p fault.States = HasTooMany p
+IsSizeRefused p fault.Alone = Opens p
+IsSizeRefused p fault.Memory = Unit {0}
+IsSizeRefused p other = ⊥
+
+-- What is reported of a size: its line, its exit status, and the fault for which it is not explored, if there is one.
+pub record SizeReport : Type 0 where
+  pub line : List ℕ
+  pub status : ℕ
+  pub fault : Option Fault
 
 -- The line says what is found of the size, and this is the exit status;
-pub record IsSizeExplored (c : Config) (image : ImageContents) (asked : Asked) (line : List ℕ)
-    (status : ℕ) : Type 0 where
-  pub found : Explorations c image asked
+pub record IsSizeExplored (p : Problem) (r : SizeReport) : Type 0 where
+  pub found : SearchResult
+  pub is : IsFound p found
   pub greatest : Option Status
-  pub is : IsGreatestStatus found.results greatest
-  pub line_is : line ≡ size_line c.k (length found.results) found.states found.termination greatest
-  pub exit : IsExitOf found.results found.termination status
+  pub greatest_is : IsGreatestStatus found.results greatest
+  pub line_is : r.line ≡ size_line p.config.k (length found.results) found.states found.termination greatest
+  pub exit : IsExitOf found.results found.termination r.status
+  pub faultless : r.fault ≡ None
 
--- or why it is not explored, and the status is that of the fault.
-pub record IsSizeNotExplored (c : Config) (image : ImageContents) (limit : ℕ) (line : List ℕ)
-    (status : ℕ) : Type 0 where
-  pub fault : Fault
-  pub why : IsSizeRefused c image limit fault
-  pub line_is : line ≡ refused_line c.k fault
-  pub exit : status ≡ status_of_fault fault
+-- or why it is not explored, and the status is that of the fault. A size that is out of its limits is always reported
+-- as such.
+pub record IsSizeNotExplored (p : Problem) (r : SizeReport) : Type 0 where
+  pub why : Fault
+  pub cause : IsSizeRefused p why
+  pub size : (IsWithinLimits p.config → ⊥) → why ≡ fault.Size
+  pub line_is : r.line ≡ refused_line p.config.k why
+  pub exit : r.status ≡ status_of_fault why
+  pub reported : r.fault ≡ Some why
 
-abbrev pub ReportsSize : Config → ImageContents → (asked : Asked) → (line : List ℕ) → (status : ℕ) → Type 0
-ReportsSize c image asked line status = IsSizeExplored c image asked line status
-    ⊎ IsSizeNotExplored c image asked.limit line status
+abbrev pub IsSizeReport : Problem → SizeReport → Type 0
+IsSizeReport p r = IsSizeExplored p r ⊎ IsSizeNotExplored p r
 
--- Why the line of a size is not printed: it cannot be written, and there is a beginning of it; or there is no memory
--- for it, and nothing is printed.
-abbrev pub IsSizeNotPrinted : Config → ImageContents → (asked : Asked) → (old new : Option (List ℕ)) → Fault → Type 0
-IsSizeNotPrinted c image asked old new fault.Link =
-    PrintsPrefix (λ line. (status : ℕ) × ReportsSize c image asked line status) old new
-IsSizeNotPrinted c image asked old new fault.Memory = new ≡ old
-IsSizeNotPrinted c image asked old new other = ⊥
-
--- ---- every size
+-- ---- sizes
 
 -- how many sizes there are
 abbrev pub sizes : ℕ
 sizes = 7
 
--- the lines of the first sizes, and the greatest of their exit statuses
-abbrev pub first_sizes : (lines : ℕ → List ℕ) → (count : ℕ) → List ℕ
-first_sizes lines zero = []
-first_sizes lines (suc k) = first_sizes lines k ++ lines k
+-- the lines of sizes
+abbrev pub lines_of : List SizeReport → List ℕ
+lines_of rs = flat_map (λ (r : SizeReport). r.line) rs
 
-abbrev pub greatest_exit : (statuses : ℕ → ℕ) → (count : ℕ) → ℕ
-greatest_exit statuses zero = 0
-greatest_exit statuses (suc k) = max (greatest_exit statuses k) (statuses k)
+-- the faults of those that are not explored
+abbrev pub faults_of : List SizeReport → List Fault
+faults_of rs = flat_map (λ (r : SizeReport). option_to_list r.fault) rs
 
--- These are the lines of the first sizes of the machine, whatever its k, and this is the greatest of their exit
--- statuses.
-pub record ReportSizes (c : Config) (image : ImageContents) (asked : Asked) (count : ℕ) (text : List ℕ)
+-- the greatest of their exit statuses
+abbrev pub greatest_exit : List SizeReport → ℕ
+greatest_exit [] = 0
+greatest_exit (r ∷ rs) = max r.status (greatest_exit rs)
+
+-- the same on a machine with this many stages of switches
+abbrev pub with_stages : Problem → (k : ℕ) → Problem
+with_stages p k = record p { config = record p.config { k = k } }
+
+-- These are the reports of the first sizes of the machine, whatever its k.
+abbrev pub AreSizeReports : Problem → List SizeReport → Type 0
+AreSizeReports p rs = (k : ℕ) (r : SizeReport) → slice_get rs k ≡ Some r → IsSizeReport (with_stages p k) r
+
+-- ---- what is printed and reported
+
+-- Standard error has got the lines that report these faults, one after another, and nothing else; of each there is a
+-- beginning, if a write failed.
+abbrev pub AreReported : {E : Type 0} → List Fault → ErrorOutput E → Type 0
+AreReported [] err = err.new ≡ err.old
+AreReported {E} (f ∷ fs) err = (middle : E) × IsReported (err.contents err.old) (err.contents middle) f
+    × AreReported fs (errors_to err.contents middle err.new)
+
+-- What a size comes to is this line and this exit status; and the fault is reported, if it is not explored.
+pub record IsSizeLine {E : Type 0} (p : Problem) (err : ErrorOutput E) (line : List ℕ) (status : ℕ) : Type 0 where
+  pub fault : Option Fault
+  pub is : IsSizeReport p (record { line = line; status = status; fault = fault })
+  pub reported : AreReported (option_to_list fault) err
+
+-- The line is printed.
+pub record PrintsSize {E : Type 0} (p : Problem) (out : Output) (err : ErrorOutput E) (status : ℕ) : Type 0 where
+  pub line : List ℕ
+  pub is : IsSizeLine p err line status
+  pub printed : Appends out.old out.new line
+
+-- A beginning of the line is printed, and not all of it.
+pub record BeginsSize {E : Type 0} (p : Problem) (out : Output) (err : ErrorOutput E) : Type 0 where
+  pub line : List ℕ
+  pub status : ℕ
+  pub is : IsSizeLine p err line status
+  pub part : AppendsPart out.old out.new line
+
+-- Why the line of a size is not printed: it cannot be written, and there is a beginning of it; or there is no memory
+-- for it, and nothing is printed or reported.
+abbrev pub FailsSize : {E : Type 0} → (p : Problem) → (out : Output) → (err : ErrorOutput E) → Fault → Type 0
+FailsSize p out err fault.Link = BeginsSize p out err
+FailsSize p out err fault.Memory = (out.new ≡ out.old) × (err.new ≡ err.old)
+FailsSize p out err other = ⊥
+
+-- These are the reports of the first sizes; this is said of their lines, and the faults of those that are not explored
+-- are reported.
+pub record AreSizesReported {E : Type 0} (p : Problem) (rs : List SizeReport) (is_said : List ℕ → Type 0)
+    (err : ErrorOutput E) : Type 0 where
+  pub are : AreSizeReports p rs
+  pub lines : is_said (lines_of rs)
+  pub reported : AreReported (faults_of rs) err
+
+-- The lines of this many sizes are printed, and this is the greatest of their exit statuses.
+pub record PrintsFirst {E : Type 0} (p : Problem) (count : ℕ) (out : Output) (err : ErrorOutput E)
     (status : ℕ) : Type 0 where
-  pub lines : ℕ → List ℕ
-  pub statuses : ℕ → ℕ
-  pub fact : (k : ℕ) → k < count → ReportsSize (record c { k = k }) image asked (lines k) (statuses k)
-  pub text_is : text ≡ first_sizes lines count
-  pub exit : status ≡ greatest_exit statuses count
+  pub reports : List SizeReport
+  pub all : length reports ≡ count
+  pub exit : status ≡ greatest_exit reports
+  pub are : AreSizesReported p reports (Appends out.old out.new) err
 
--- Such lines are printed.
-abbrev pub AreSizesPrinted : Config → ImageContents → (asked : Asked) → (count status : ℕ) →
-    (old new : Option (List ℕ)) → Type 0
-AreSizesPrinted c image asked count status old new =
-    Prints (λ text. ReportSizes c image asked count text status) old new
+-- The lines of the first sizes are not all printed: only a beginning of them.
+pub record BeginsSizes {E : Type 0} (p : Problem) (out : Output) (err : ErrorOutput E) : Type 0 where
+  pub reports : List SizeReport
+  pub few : length reports ≤ sizes
+  pub are : AreSizesReported p reports (AppendsPart out.old out.new) err
+
+-- The lines of the first sizes are printed, and no others.
+pub record StopsAtSizes {E : Type 0} (p : Problem) (out : Output) (err : ErrorOutput E) : Type 0 where
+  pub reports : List SizeReport
+  pub few : length reports ≤ sizes
+  pub are : AreSizesReported p reports (Appends out.old out.new) err
 
 -- Why the lines of every size are not printed: one of them cannot be written, and there is a beginning of it and all
 -- before; or there is no memory for one, and all before are there.
-abbrev pub AreSizesNotPrinted : Config → ImageContents → (asked : Asked) → (old new : Option (List ℕ)) → Fault → Type 0
-AreSizesNotPrinted c image asked old new fault.Link =
-    PrintsPrefix (λ text. (count : ℕ) × (status : ℕ) × (count ≤ sizes)
-    × ReportSizes c image asked count text status) old new
-AreSizesNotPrinted c image asked old new fault.Memory =
-    (count : ℕ) × (status : ℕ) × (count ≤ sizes) × AreSizesPrinted c image asked count status old new
-AreSizesNotPrinted c image asked old new other = ⊥
+abbrev pub FailsSizes : {E : Type 0} → (p : Problem) → (out : Output) → (err : ErrorOutput E) → Fault → Type 0
+FailsSizes p out err fault.Link = BeginsSizes p out err
+FailsSizes p out err fault.Memory = StopsAtSizes p out err
+FailsSizes p out err other = ⊥
+
+-- ---- of the image that a file means
 
 -- The lines of every size are printed, of the image that the file means.
-pub record PrintsEverySize (c : Config) (asked : Asked) (known : Option (List ℕ)) (status : ℕ)
-    (text : List ℕ) : Type 0 where
+pub record PrintsEverySize {E : Type 0} (e : Exploration) (out : Output) (err : ErrorOutput E)
+    (status : ℕ) : Type 0 where
   pub image : ImageContents
-  pub meant : IsImageOf c.shared_words known image
-  pub fact : ReportSizes c image asked sizes text status
+  pub meant : IsImageOf e.config.shared_words e.file.bytes image
+  pub printed : PrintsFirst (problem_of e.config image e.asked) sizes out err status
 
--- Why they are not: the image is refused, or there is no memory for it; or the lines of the image that the file means
--- are not all printed.
-abbrev pub IsEveryRefused : Config → (asked : Asked) → (known : Option (List ℕ)) → (old new : Option (List ℕ)) →
-    Fault → Type 0
-IsEveryRefused c asked known old new (fault.Image e) = IsImageRefusal c.shared_words known e
-IsEveryRefused c asked known old new fault.Memory = Unit {0}
-IsEveryRefused c asked known old new other =
-    (image : ImageContents) × IsImageOf c.shared_words known image × AreSizesNotPrinted c image asked old new other
+-- The lines of the image that the file means are not all printed.
+pub record FailsImage {E : Type 0} (e : Exploration) (out : Output) (err : ErrorOutput E) (f : Fault) : Type 0 where
+  pub image : ImageContents
+  pub meant : IsImageOf e.config.shared_words e.file.bytes image
+  pub fails : FailsSizes (problem_of e.config image e.asked) out err f
 
--- The exit status is the greatest of those of all sizes, whose lines are printed; or it says a fault, which has its
--- cause.
-abbrev pub ReportsEverySize : Config → (asked : Asked) → (known : Option (List ℕ)) → (old new : Option (List ℕ)) →
+-- Nothing is printed or reported.
+abbrev pub IsSilent : {E : Type 0} → (out : Output) → (err : ErrorOutput E) → Type 0
+IsSilent out err = (out.new ≡ out.old) × (err.new ≡ err.old)
+
+-- Why the lines of every size are not printed: the image is refused, or there is no memory for it; or its lines are not
+-- all printed.
+abbrev pub FailsBefore : {E : Type 0} → (e : Exploration) → (out : Output) → (err : ErrorOutput E) → Fault → Type 0
+FailsBefore e out err (fault.Image r) = IsSilent out err × IsImageRefusal e.config.shared_words e.file.bytes r
+FailsBefore e out err fault.Memory = IsSilent out err ⊎ FailsImage e out err fault.Memory
+FailsBefore e out err other = FailsImage e out err other
+
+-- The exit status says a fault, which has its cause. It is reported after those of the sizes. It is that of the output
+-- or of the file exactly if a write or a read has failed.
+pub record FailsEverySize {E : Type 0} (e : Exploration) (out : Output) (err : ErrorOutput E)
+    (status : ℕ) : Type 0 where
+  pub why : Fault
+  pub tells : status ≡ status_of_fault why
+  pub before : E
+  pub cause : FailsBefore e out (errors_to err.contents err.old before) why
+  pub reported : IsReported (err.contents before) (err.contents err.new) why
+  pub unwritten : IsOfLink fault.Link out.has_failed why
+  pub unread : IsOfLink (fault.Image of_image.Link) e.file.has_failed why
+
+-- The exit status is the greatest of those of all sizes, whose lines are printed; or it says a fault.
+abbrev pub ReportsEverySize : {E : Type 0} → (e : Exploration) → (out : Output) → (err : ErrorOutput E) →
     (status : ℕ) → Type 0
-ReportsEverySize c asked known old new status =
-    Prints (PrintsEverySize c asked known status) old new
-    ⊎ ((fault : Fault) × IsEveryRefused c asked known old new fault × (status ≡ status_of_fault fault))
+ReportsEverySize e out err status = PrintsEverySize e out err status ⊎ FailsEverySize e out err status

@@ -42,12 +42,19 @@ abbrev pub LeadTo : (opening : MachineLists) → List FinalResult → (number : 
 LeadTo opening results zero steps = LeadToNoEnd opening steps
 LeadTo opening results (suc place) steps = IsSomeAnd (slice_get results place) (LeadToResult opening steps)
 
+-- What a way is wanted to: the result of this number of these, from 1, or for 0 to where no result can be reached.
+pub record Target : Type 0 where
+  pub results : List FinalResult
+  pub number : ℕ
+
+abbrev pub target : List FinalResult → (number : ℕ) → Target
+target results number = record { results = results; number = number }
+
 -- So does the machine of this size that opens on the image; and a trace can have the steps.
-pub record IsWitness (c : Config) (image : ImageContents) (results : List FinalResult) (number : ℕ)
-    (steps : List Step) : Type 0 where
+pub record IsWitness (c : Config) (image : ImageContents) (to : Target) (steps : List Step) : Type 0 where
   pub opening : MachineLists
   pub opens : IsOpening c image opening
-  pub leads : LeadTo opening results number steps
+  pub leads : LeadTo opening to.results to.number steps
   pub trace : IsTrace (trace_of c steps)
 
 -- ---- what a machine leaves

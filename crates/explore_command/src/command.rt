@@ -1,21 +1,24 @@
 //! The command.
 
 ghost use Rattle.std.specs.Prelude.{◌≡◌, ◌≤◌, ◌↔◌, true, false, IfOk, IfErr, IsErrOf, OnErr};
-ghost use Rattle.command_io.specs.Printing.{Prints};
+ghost use Rattle.command_io.specs.Links.{input, output};
+ghost use Rattle.command_io.specs.Printing.{Prints, ReportsRefusal};
 ghost use Rattle.trace_commands.specs.TraceReports.{IsWorking};
-ghost use Rattle.explore_command.specs.Causes.{IsRefused, IsReportedAs, ReportsFaultAs, status_of, unknown_line};
-ghost use Rattle.explore_command.specs.Explorations.{PrintsResults};
+ghost use Rattle.explore_command.specs.Causes.{ExploreFails, IsRefused, IsReportedAs, status_of, unknown_line};
+ghost use Rattle.explore_command.specs.Explorations.{PrintsResults, exploration_of};
+ghost use Rattle.explore_command.specs.TraceOutputs.{trace_output};
 
 use crate::refused::Refused;
 use crate::searching::explored;
 use arrayvec::ArrayString;
-use command_io::{Fault, REFUSED, SPENT, image_in, print, report_fault, write_error};
+use command_io::{Fault, REFUSED, SPENT, image_of, print, report_fault, write_error};
+use elf_image::ImageError;
 use exploration::SearchObserver;
 use flat_machine::Config;
 use itoa::Buffer;
-use link::LinkWrite;
+use link::{LinkRead, LinkWrite};
 use std::alloc::Global;
-use std::io::{Read, Write};
+use std::io::Write;
 
 /// What is asked of a search.
 #[derive(Clone, Copy, Debug, PartialEq, Eq, Drop)]
@@ -38,9 +41,9 @@ pub struct Asked {
 /// processor, or from a state no end can be reached, else that of the fault that is reported on standard error. A
 /// fault is reported in this order: of the image, of the machine's size, of the search, of the witness, of the trace,
 /// of standard output.
-pub fn explore_command<R: Read + Drop, T: LinkWrite, G: SearchObserver, W: LinkWrite, E: Write>(
+pub fn explore_command<R: LinkRead, T: LinkWrite, G: SearchObserver, W: LinkWrite, E: Write>(
     alloc: Global,
-    file: R,
+    file: &mut R,
     config: Config,
     asked: Asked,
     trace: &mut Option<T>,
@@ -48,16 +51,19 @@ pub fn explore_command<R: Read + Drop, T: LinkWrite, G: SearchObserver, W: LinkW
     out: &mut W,
     err: &mut E,
 ) -> u8
+    requires reads { R.has_failed file.old ≡ false }
     requires works { IsWorking T.has_failed trace.old }
     requires prints { W.has_failed out.old ≡ false }
     ensures printed { result ≤ 1 →
-        Prints (PrintsResults T.contents config asked asked.witness (R.remaining file) trace.old trace.new result)
-        (W.contents out.old) (W.contents out.new) }
-    ensures fault { 2 ≤ result → ReportsFaultAs W.has_failed
-        (IsRefused T.contents config asked asked.witness (R.remaining file) trace.old trace.new
-        (W.contents out.old) (W.contents out.new))
-        (IsReportedAs asked.witness (E.contents err.old) (E.contents err.new)) out.old out.new result }
+        Prints (PrintsResults (exploration_of config asked (input R.remaining R.has_failed file.old file.new))
+        (trace_output T.contents trace.old trace.new) result) (W.contents out.old) (W.contents out.new) }
+    ensures fault { 2 ≤ result → ReportsRefusal status_of
+        (ExploreFails (exploration_of config asked (input R.remaining R.has_failed file.old file.new))
+        (trace_output T.contents trace.old trace.new) (output W.contents W.has_failed out.old out.new))
+        (IsReportedAs asked.witness (E.contents err.old) (E.contents err.new)) result }
     ensures failed { W.has_failed out.new ≡ true → result ≡ 3 }
+    ensures unread { R.has_failed file.new ≡ true → result ≡ 3 }
+    ensures silent { 2 ≤ result → W.has_failed out.new ≡ false → out.new ≡ out.old }
     ensures quiet { result ≤ 1 → err.new ≡ err.old }
 {
     match execute(alloc, file, config, asked, trace, observer, out) {
@@ -101,28 +107,30 @@ fn unknown_line(number: u32) -> ArrayString<48>
 }
 
 /// Carries the command out.
-fn execute<R: Read + Drop, T: LinkWrite, G: SearchObserver, W: LinkWrite>(
+fn execute<R: LinkRead, T: LinkWrite, G: SearchObserver, W: LinkWrite>(
     alloc: Global,
-    file: R,
+    file: &mut R,
     config: Config,
     asked: Asked,
     trace: &mut Option<T>,
     observer: &mut G,
     out: &mut W,
 ) -> Result<u8, Refused>
+    requires reads { R.has_failed file.old ≡ false }
     requires works { IsWorking T.has_failed trace.old }
     requires prints { W.has_failed out.old ≡ false }
+    ensures unread { IsErrOf result (Refused.Fault (Fault.Image ImageError.Link)) ↔ (R.has_failed file.new ≡ true) }
     ensures failed { IsErrOf result (Refused.Fault Fault.Link) ↔ (W.has_failed out.new ≡ true) }
-    ensures printed { IfOk result (λ status. Prints (PrintsResults T.contents config asked asked.witness
-        (R.remaining file) trace.old trace.new status)
-        (W.contents out.old) (W.contents out.new)) }
+    ensures printed { IfOk result (λ status.
+        Prints (PrintsResults (exploration_of config asked (input R.remaining R.has_failed file.old file.new))
+        (trace_output T.contents trace.old trace.new) status) (W.contents out.old) (W.contents out.new)) }
     ensures low { IfOk result (λ status. status ≤ 1) }
     ensures fault { IfErr result
-        (IsRefused T.contents config asked asked.witness (R.remaining file) trace.old trace.new (W.contents out.old)
-        (W.contents out.new)) }
+        (IsRefused (exploration_of config asked (input R.remaining R.has_failed file.old file.new))
+        (trace_output T.contents trace.old trace.new) (output W.contents W.has_failed out.old out.new)) }
     ensures silent { OnErr result (W.has_failed out.new ≡ false → out.new ≡ out.old) }
 {
-    let image = image_in(alloc, file, &config)?;
+    let image = image_of(alloc, file, &config)?;
     let (text, status) = explored(alloc, image, config, asked, trace, observer)?;
     print(out, text.as_str())?;
     Ok(status)

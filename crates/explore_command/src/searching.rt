@@ -1,6 +1,8 @@
 //! The search, its lines and its witness.
 
-ghost use Rattle.std.specs.Prelude.{◌≡◌, ◌<◌, ◌≤◌, ◌^◌, false, not, IfOk, IfErr, OnOk, string_bytes};
+ghost use Rattle.std.specs.Prelude.{◌≡◌, ◌≢◌, ◌<◌, ◌≤◌, ◌^◌, None, false, not, IfOk, IfErr, IsErrOf, OnOk};
+ghost use Rattle.std.specs.Prelude.{string_bytes};
+ghost use Rattle.flat_machine.specs.Limits.{IsWithinLimits};
 ghost use Rattle.machine_steps.specs.Openings.{flat_state};
 ghost use Rattle.machine_steps.specs.Machines.{AreHome, IsIdle};
 ghost use Rattle.machine_steps.specs.Runs.{IsOpening};
@@ -9,7 +11,10 @@ ghost use Rattle.exploration.specs.States.{AreAllStates};
 ghost use Rattle.exploration.specs.state_graph.Laws.{IsTerminationOf};
 ghost use Rattle.trace_commands.specs.TraceReports.{IsWorking};
 ghost use Rattle.explore_command.specs.Causes.{IsNotFound, IsNotSaved, IsNotSearched};
-ghost use Rattle.explore_command.specs.Explorations.{AreExplored, AreResultsOf, IsWitnessed};
+ghost use Rattle.explore_command.specs.Explorations.{AreExplored, AreResultsOf, IsWitnessed, problem_of};
+ghost use Rattle.explore_command.specs.Explorations.{search_result};
+ghost use Rattle.explore_command.specs.Refusals.{HasWitness, fault_of_search};
+ghost use Rattle.explore_command.specs.TraceOutputs.{trace_output};
 
 use crate::command::Asked;
 use crate::lines::results_text;
@@ -36,10 +41,12 @@ pub(crate) fn explored<T: LinkWrite, G: SearchObserver>(
 ) -> Result<(String, u8), Refused>
     requires words { image.shared_words ≡ config.shared_words }
     requires works { IsWorking T.has_failed trace.old }
-    ensures lines { IfOk result (λ done. AreExplored T.contents config image asked asked.witness trace.old trace.new
-        (string_bytes done.0) done.1) }
+    ensures lines { IfOk result (λ done. AreExplored (problem_of config image asked)
+        (trace_output T.contents trace.old trace.new) (string_bytes done.0) done.1) }
     ensures low { IfOk result (λ done. done.1 ≤ 1) }
-    ensures refused { IfErr result (IsNotFound T.contents config image asked asked.witness trace.old trace.new) }
+    ensures size { (IsWithinLimits config → ⊥) → IsErrOf result (Refused.Fault Fault.Size) }
+    ensures refused { IfErr result
+        (IsNotFound (problem_of config image asked) (trace_output T.contents trace.old trace.new)) }
 {
     let machine = machine_of(alloc, image, config)?;
     explored_from(alloc, &machine, config, asked, trace, observer)
@@ -60,11 +67,11 @@ fn explored_from<T: LinkWrite, G: SearchObserver>(
     requires opens { IsOpening config machine.now.image machine.now }
     requires words { machine.now.image.shared_words ≡ config.shared_words }
     requires works { IsWorking T.has_failed trace.old }
-    ensures lines { IfOk result (λ done. AreExplored T.contents config machine.now.image asked asked.witness
-        trace.old trace.new (string_bytes done.0) done.1) }
+    ensures lines { IfOk result (λ done. AreExplored (problem_of config machine.now.image asked)
+        (trace_output T.contents trace.old trace.new) (string_bytes done.0) done.1) }
     ensures low { IfOk result (λ done. done.1 ≤ 1) }
     ensures refused { IfErr result
-        (IsNotFound T.contents config machine.now.image asked asked.witness trace.old trace.new) }
+        (IsNotFound (problem_of config machine.now.image asked) (trace_output T.contents trace.old trace.new)) }
 {
     let search = search_of(asked, trace.is_some());
     let found = found(alloc, machine, search, observer)?;
@@ -109,9 +116,18 @@ pub(crate) fn found<G: SearchObserver>(
     observer.over();
     match found {
         Ok(found) => Ok(found),
-        Err(Refusal::Memory) => Err(Fault::Memory),
-        Err(Refusal::States) => Err(Fault::States),
-        Err(Refusal::Alone) => Err(Fault::Alone),
+        Err(refusal) => Err(fault_of_search(refusal)),
+    }
+}
+
+/// The fault that says why a search is given up.
+fn fault_of_search(refusal: Refusal) -> Fault
+    ensures { result ≡ fault_of_search refusal }
+{
+    match refusal {
+        Refusal::Memory => Fault::Memory,
+        Refusal::States => Fault::States,
+        Refusal::Alone => Fault::Alone,
     }
 }
 
@@ -126,11 +142,13 @@ fn save_witness<T: LinkWrite>(
 ) -> Result<(), Refused>
     requires words { image.now.shared_words ≡ config.shared_words }
     requires works { IsWorking T.has_failed trace.old }
-    ensures saved { OnOk result
-        (IsWitnessed T.contents config image.now found.now.results.items asked.witness trace.old trace.new) }
-    ensures refused { IfErr result
-        (IsNotSaved T.contents config image.now found.now.results.items found.now.termination asked.witness trace.old
-        trace.new) }
+    ensures saved { OnOk result (IsWitnessed (problem_of config image.now asked) found.now.results.items
+        (trace_output T.contents trace.old trace.new)) }
+    ensures refused { IfErr result (IsNotSaved (problem_of config image.now asked)
+        (search_result found.now.classes.items found.now.results.items found.now.termination found.now.states)
+        (trace_output T.contents trace.old trace.new)) }
+    ensures unknown { trace.old ≢ None → (HasWitness found.now.results.items found.now.termination asked.witness → ⊥)
+        → IsErrOf result Refused.Unknown }
 {
     if trace.is_none() {
         return Ok(());

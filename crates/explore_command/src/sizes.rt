@@ -1,11 +1,14 @@
 //! The results of every size of a machine, a line for each.
 
-ghost use Rattle.std.specs.Prelude.{◌≡◌, ◌⊎◌, ◌++◌, ◌≤◌, false, max, Option, IfOk, IfErr, OnOk, length, string_bytes};
-ghost use Rattle.command_io.specs.Printing.{Prints};
-ghost use Rattle.explore_command.specs.Explorations.{IsFound};
-ghost use Rattle.explore_command.specs.Sizes.{AreSizesNotPrinted, AreSizesPrinted, IsEveryRefused, ReportsEverySize};
-ghost use Rattle.explore_command.specs.Sizes.{IsGreatestStatus, IsSizeRefused, IsSizeNotPrinted, ReportsSize};
-ghost use Rattle.explore_command.specs.Sizes.{PrintsEverySize, greatest_text, refusal_text, refused_line};
+ghost use Rattle.std.specs.Prelude.{◌≡◌, ◌↔◌, ◌++◌, ◌≤◌, true, false, max, Option, IfOk, IfErr, IsErrOf, OnErr, OnOk};
+ghost use Rattle.std.specs.Prelude.{length, string_bytes};
+ghost use Rattle.flat_machine.specs.Limits.{IsWithinLimits};
+ghost use Rattle.command_io.specs.ErrorOutputs.{errors_to};
+ghost use Rattle.command_io.specs.Links.{input, output};
+ghost use Rattle.explore_command.specs.Explorations.{IsFound, exploration_of, problem_of, search_result};
+ghost use Rattle.explore_command.specs.Sizes.{FailsBefore, FailsSize, FailsSizes, IsGreatestStatus, IsSizeLine};
+ghost use Rattle.explore_command.specs.Sizes.{IsSizeRefused, PrintsEverySize, PrintsFirst, PrintsSize};
+ghost use Rattle.explore_command.specs.Sizes.{ReportsEverySize, greatest_text, refusal_text, refused_line};
 ghost use Rattle.explore_command.specs.Sizes.{size_line, size_text, sizes};
 
 use crate::command::Asked;
@@ -13,14 +16,14 @@ use crate::greatest::greatest_status;
 use crate::lines::{push_count, push_schedules};
 use crate::searching::{found, search_of};
 use crate::status::exit_status;
-use command_io::{Fault, image_in, opened, print, push_status, report_fault};
-use elf_image::Image;
+use command_io::{Fault, image_of, opened, print, push_status, report_fault};
+use elf_image::{Image, ImageError};
 use exploration::{Explored, SearchObserver};
 use flat_machine::{Config, Status};
-use link::{LinkWrite, parts_make_a_beginning};
+use link::{LinkRead, LinkWrite, parts_make_a_beginning};
 use std::alloc::{AllocError, Global};
 use std::fmt::Write as Format;
-use std::io::{Read, Write};
+use std::io::Write;
 
 /// How many sizes there are: a machine has 0 to 6 stages of switches.
 const SIZES: u8 = 7;
@@ -33,17 +36,19 @@ const SIZES: u8 = 7;
 /// Answers the greatest exit status of all sizes, each as [`explore_command`](crate::explore_command) gives it; or, if
 /// the image is refused, a line cannot be printed, or there is no memory for it, that of the fault that is reported on
 /// standard error.
-pub fn explore_every_size<R: Read + Drop, G: SearchObserver, W: LinkWrite, E: Write>(
+pub fn explore_every_size<R: LinkRead, G: SearchObserver, W: LinkWrite, E: Write>(
     alloc: Global,
-    file: R,
+    file: &mut R,
     config: Config,
     asked: Asked,
     observer: &mut G,
     out: &mut W,
     err: &mut E,
 ) -> u8
+    requires reads { R.has_failed file.old ≡ false }
     requires prints { W.has_failed out.old ≡ false }
-    ensures fault { ReportsEverySize config asked (R.remaining file) (W.contents out.old) (W.contents out.new) result }
+    ensures fault { ReportsEverySize (exploration_of config asked (input R.remaining R.has_failed file.old file.new))
+        (output W.contents W.has_failed out.old out.new) (errors_to E.contents err.old err.new) result }
 {
     match print_every_size(alloc, file, config, asked, observer, out, err) {
         Ok(status) => status,
@@ -52,22 +57,27 @@ pub fn explore_every_size<R: Read + Drop, G: SearchObserver, W: LinkWrite, E: Wr
 }
 
 /// Prints the lines, and gives the greatest of their exit statuses.
-fn print_every_size<R: Read + Drop, G: SearchObserver, W: LinkWrite, E: Write>(
+fn print_every_size<R: LinkRead, G: SearchObserver, W: LinkWrite, E: Write>(
     alloc: Global,
-    file: R,
+    file: &mut R,
     config: Config,
     asked: Asked,
     observer: &mut G,
     out: &mut W,
     err: &mut E,
 ) -> Result<u8, Fault>
+    requires reads { R.has_failed file.old ≡ false }
     requires prints { W.has_failed out.old ≡ false }
-    ensures printed { IfOk result (λ status. Prints (PrintsEverySize config asked (R.remaining file) status)
-        (W.contents out.old) (W.contents out.new)) }
-    ensures refused { IfErr result (IsEveryRefused config asked (R.remaining file) (W.contents out.old)
-        (W.contents out.new)) }
+    ensures printed { IfOk result
+        (PrintsEverySize (exploration_of config asked (input R.remaining R.has_failed file.old file.new))
+        (output W.contents W.has_failed out.old out.new) (errors_to E.contents err.old err.new)) }
+    ensures refused { IfErr result
+        (FailsBefore (exploration_of config asked (input R.remaining R.has_failed file.old file.new))
+        (output W.contents W.has_failed out.old out.new) (errors_to E.contents err.old err.new)) }
+    ensures unwritten { IsErrOf result Fault.Link ↔ (W.has_failed out.new ≡ true) }
+    ensures unread { IsErrOf result (Fault.Image ImageError.Link) ↔ (R.has_failed file.new ≡ true) }
 {
-    let image = image_in(alloc, file, &config)?;
+    let image = image_of(alloc, file, &config)?;
     print_sizes(alloc, &image, config, asked, observer, out, err)
 }
 
@@ -84,10 +94,11 @@ fn print_sizes<G: SearchObserver, W: LinkWrite, E: Write>(
 ) -> Result<u8, Fault>
     requires words { image.now.shared_words ≡ config.shared_words }
     requires prints { W.has_failed out.old ≡ false }
-    ensures printed { IfOk result (λ status. AreSizesPrinted config image.now asked sizes status
-        (W.contents out.old) (W.contents out.new)) }
-    ensures refused { IfErr result (AreSizesNotPrinted config image.now asked (W.contents out.old)
-        (W.contents out.new)) }
+    ensures printed { IfOk result (PrintsFirst (problem_of config image.now asked) sizes
+        (output W.contents W.has_failed out.old out.new) (errors_to E.contents err.old err.new)) }
+    ensures refused { IfErr result (FailsSizes (problem_of config image.now asked)
+        (output W.contents W.has_failed out.old out.new) (errors_to E.contents err.old err.new)) }
+    ensures unwritten { IsErrOf result Fault.Link ↔ (W.has_failed out.new ≡ true) }
 {
     parts_make_a_beginning();
     let mut status = 0;
@@ -119,10 +130,12 @@ fn print_size<G: SearchObserver, W: LinkWrite, E: Write>(
     requires words { image.now.shared_words ≡ config.shared_words }
     requires few { config.k ≤ 6 }
     requires prints { W.has_failed out.old ≡ false }
-    ensures printed { IfOk result (λ status. Prints (λ line. ReportsSize config image.now asked line status)
-        (W.contents out.old) (W.contents out.new)) }
+    ensures printed { IfOk result (PrintsSize (problem_of config image.now asked)
+        (output W.contents W.has_failed out.old out.new) (errors_to E.contents err.old err.new)) }
     ensures works { OnOk result (W.has_failed out.new ≡ false) }
-    ensures refused { IfErr result (IsSizeNotPrinted config image.now asked (W.contents out.old) (W.contents out.new)) }
+    ensures refused { IfErr result (FailsSize (problem_of config image.now asked)
+        (output W.contents W.has_failed out.old out.new) (errors_to E.contents err.old err.new)) }
+    ensures unwritten { IsErrOf result Fault.Link ↔ (W.has_failed out.new ≡ true) }
 {
     let (line, status) = line_of(alloc, image, config, asked, observer, err)?;
     print(out, line.as_str())?;
@@ -140,7 +153,9 @@ fn line_of<G: SearchObserver, E: Write>(
 ) -> Result<(String, u8), AllocError>
     requires words { image.now.shared_words ≡ config.shared_words }
     requires few { config.k ≤ 6 }
-    ensures fault { IfOk result (λ done. ReportsSize config image.now asked (string_bytes done.0) done.1) }
+    ensures line { IfOk result (λ done. IsSizeLine (problem_of config image.now asked)
+        (errors_to E.contents err.old err.new) (string_bytes done.0) done.1) }
+    ensures quiet { OnErr result (err.new ≡ err.old) }
 {
     match explore_size(alloc, image, config, asked, observer) {
         Ok(explored) => Ok((
@@ -163,9 +178,10 @@ fn explore_size<G: SearchObserver>(
     observer: &mut G,
 ) -> Result<Explored, Fault>
     requires words { image.now.shared_words ≡ config.shared_words }
-    ensures found { IfOk result (λ found. IsFound config image.now asked found.classes.items found.results.items
-        found.termination found.states) }
-    ensures refused { IfErr result (IsSizeRefused config image.now asked.limit) }
+    ensures found { IfOk result (λ found. IsFound (problem_of config image.now asked)
+        (search_result found.classes.items found.results.items found.termination found.states)) }
+    ensures refused { IfErr result (IsSizeRefused (problem_of config image.now asked)) }
+    ensures size { (IsWithinLimits config → ⊥) → IsErrOf result Fault.Size }
 {
     let machine = opened(alloc, image, config)?;
     found(alloc, &machine, search_of(asked, false), observer)

@@ -1,10 +1,11 @@
 //! The log of a way: references of processors, one after another, each with what its processor does alone before it.
 
-ghost use Rattle.std.specs.Prelude.{◌≡◌, IfErr};
+ghost use Rattle.std.specs.Prelude.{◌≡◌, IfErr, IsErrOf};
+ghost use Rattle.flat_machine.specs.Limits.{IsWithinLimits};
 ghost use Rattle.explore_command.specs.Refusals.{IsNotTaken, IsOfSteps};
 
 use crate::refused::Refused;
-use command_io::opened;
+use command_io::{Fault, opened};
 use elf_image::Image;
 use flat_machine::Config;
 use machine_log::Logged;
@@ -26,6 +27,7 @@ pub(crate) fn log_of(
 ) -> Result<Logged, Refused>
     requires words { image.now.shared_words ≡ config.shared_words }
     ensures refused { IfErr result (IsNotTaken config) }
+    ensures size { (IsWithinLimits config → ⊥) → IsErrOf result (Refused.Fault Fault.Size) }
 {
     let mut log = Logged::new(alloc, opened(alloc, image, config)?);
     for p in way {

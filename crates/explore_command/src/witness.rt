@@ -1,10 +1,11 @@
 //! Steps that lead to a result, or to where no end can be reached.
 
-ghost use Rattle.std.specs.Prelude.{◌≡◌, ◌≤◌, ◌↔◌, ◌^◌, length, IfErr, IfOk, IsTrue, OnOk};
+ghost use Rattle.std.specs.Prelude.{◌≡◌, ◌≤◌, ◌↔◌, ◌^◌, length, IfErr, IfOk, IsErrOf, IsTrue, OnOk};
+ghost use Rattle.flat_machine.specs.Limits.{IsWithinLimits};
 ghost use Rattle.exploration.specs.Results.{AreOfTheMachine, IsOfTheMachine};
 ghost use Rattle.machine_steps.specs.Machines.{AreHome};
 ghost use Rattle.explore_command.specs.Refusals.{HasWitness, IsNoWitness, IsNotTaken, IsOfSteps};
-ghost use Rattle.explore_command.specs.Witnesses.{IsEnd, IsStuck, IsWitness};
+ghost use Rattle.explore_command.specs.Witnesses.{IsEnd, IsStuck, IsWitness, target};
 
 use crate::left::left_by;
 use crate::refused::Refused;
@@ -26,9 +27,9 @@ use trace_file::is_trace;
 ///
 /// # Errors
 ///
-/// [`Refused::Unknown`] where no result has the number, or, for 0, from each state that was found an end can be
-/// reached; [`Refused::Missed`] where the steps lead elsewhere, [`Fault::Full`] where there would be more than
-/// [`steps::MAX_STEPS`], [`Fault::Size`] where the size is out of its limits, and [`Fault::Memory`].
+/// [`Refused::Unknown`] exactly if no result has the number, or, for 0, from each state that was found an end can be
+/// reached; else [`Fault::Size`] exactly if the size is out of its limits, [`Refused::Missed`] where the steps lead
+/// elsewhere, [`Fault::Full`] where there would be more than [`steps::MAX_STEPS`], and [`Fault::Memory`].
 #[tactic(auto, using(crate::proofs::Refusing::not_taken))]
 pub fn witness_of(
     alloc: Global,
@@ -39,8 +40,13 @@ pub fn witness_of(
     limit: u32,
 ) -> Result<Logged, Refused>
     requires words { image.now.shared_words ≡ config.shared_words }
-    ensures witness { IfOk result (λ log. IsWitness config image.now explored.now.results.items number log.steps) }
+    ensures witness { IfOk result (λ log. IsWitness config image.now
+        (target explored.now.results.items number) log.steps) }
     ensures refused { IfErr result (IsNoWitness config explored.now.results.items explored.now.termination number) }
+    ensures unknown { (HasWitness explored.now.results.items explored.now.termination number → ⊥)
+        → IsErrOf result Refused.Unknown }
+    ensures size { HasWitness explored.now.results.items explored.now.termination number
+        → (IsWithinLimits config → ⊥) → IsErrOf result (Refused.Fault Fault.Size) }
 {
     let results = explored.results.as_slice();
     if !has_witness(results, explored.termination, number) {
@@ -76,7 +82,7 @@ fn check(
 ) -> Result<(), Refused>
     requires words { image.now.shared_words ≡ config.shared_words }
     requires room { length steps.now ≤ 4194304 }
-    ensures witness { OnOk result (IsWitness config image.now results.now number steps.now) }
+    ensures witness { OnOk result (IsWitness config image.now (target results.now number) steps.now) }
     ensures refused { IfErr result (IsNotTaken config) }
 {
     if !is_trace(&config, steps) || !are_of_the_machine(steps) {

@@ -323,27 +323,28 @@ fn explore_file<'a, R: Files + Clock + Eprint + AllocGlobal, W: LinkWrite, E: Wr
     if explore.witness.is_some() != explore.trace.is_some() {
         return Err(Refusal::Half);
     }
-    let file = open_beside(rt, explore.file, explore.trace, reason)?;
+    let mut file = Meter::new(open_beside(rt, explore.file, explore.trace, reason)?);
     let mut trace = trace_to(rt, explore.trace, reason);
-    Ok(explore_image(rt, file, explore, terminal, &mut trace, out, err))
+    Ok(explore_image(rt, &mut file, explore, terminal, &mut trace, out, err))
 }
 
 /// Explores an image. The progress of the search is reported on a terminal.
 fn explore_image<
-    F: Read + Drop,
+    F: LinkRead,
     T: LinkWrite,
     R: Clock + Eprint + AllocGlobal,
     W: LinkWrite,
     E: Write,
 >(
     rt: &R,
-    file: F,
+    file: &mut F,
     explore: &Explore<'_>,
     terminal: bool,
     trace: &mut Option<T>,
     out: &mut W,
     err: &mut E,
 ) -> u8
+    requires reads { F.has_failed file.old ≡ false }
     requires saves { IsWorking T.has_failed trace.old }
     requires works { W.has_failed out.old ≡ false }
 {
@@ -357,15 +358,16 @@ fn explore_image<
 }
 
 /// Explores an image, on a machine of one size or of every size.
-fn explore_watched<F: Read + Drop, T: LinkWrite, G: SearchObserver, W: LinkWrite, E: Write>(
+fn explore_watched<F: LinkRead, T: LinkWrite, G: SearchObserver, W: LinkWrite, E: Write>(
     alloc: Global,
-    file: F,
+    file: &mut F,
     explore: &Explore<'_>,
     trace: &mut Option<T>,
     observer: &mut G,
     out: &mut W,
     err: &mut E,
 ) -> u8
+    requires reads { F.has_failed file.old ≡ false }
     requires saves { IsWorking T.has_failed trace.old }
     requires works { W.has_failed out.old ≡ false }
 {

@@ -53,7 +53,7 @@ fn explore(alloc: Global, file: &[u8], config: Config, asked: Asked) -> Ran {
     let mut trace: Option<Meter<Vec<u8>>> = None;
     let status = explore_command(
         alloc,
-        file,
+        &mut Meter::new(file),
         config,
         asked,
         &mut trace,
@@ -74,7 +74,7 @@ fn explore_sizes(alloc: Global, file: &[u8], config: Config, asked: Asked) -> Ra
     let mut err = Vec::new(alloc);
     let status = explore_every_size(
         alloc,
-        file,
+        &mut Meter::new(file),
         config,
         asked,
         &mut NoProgress,

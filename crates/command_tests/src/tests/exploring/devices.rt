@@ -30,7 +30,7 @@ fn explored<R: Read + Drop, W: LinkWrite, E: Write>(
     let mut trace: Option<Meter<Vec<u8>>> = None;
     explore_command(
         alloc,
-        file,
+        &mut Meter::new(file),
         config_of(0),
         each(10),
         &mut trace,
@@ -72,7 +72,7 @@ fn explored_sizes<R: Read + Drop, W: LinkWrite, E: Write>(
 {
     explore_every_size(
         alloc,
-        file,
+        &mut Meter::new(file),
         config_of(0),
         each(limit),
         &mut NoProgress,

@@ -37,7 +37,7 @@ fn explored(alloc: Global, file: &[u8], k: u8, search: Asked, witness: u32) -> R
     let asked = Asked { witness, ..search };
     let status = explore_command(
         alloc,
-        file,
+        &mut Meter::new(file),
         config_of(k),
         asked,
         &mut trace,
