@@ -1,17 +1,17 @@
 -- Why a hunt prints nothing.
-use Rattle.std.proofs.Common.{◌≡◌, ◌⊎◌, inl, inr, ℕ, Bool, List, Option, Some, None}
-use Rattle.flat_machine.specs.declared.config.Config.{Config}
+use Rattle.std.proofs.Common.{◌≡◌, ◌⊎◌, inl, inr, ℕ, List, Option, Some, None}
+use Rattle.elf_image.specs.declared.error.ImageError.TheVariants as image_error
 use Rattle.elf_image.specs.Files.{IsImageOf}
 use Rattle.elf_image.specs.Images.{ImageContents}
 use Rattle.command_io.specs.declared.fault.Fault.{Fault}
 use Rattle.command_io.specs.declared.fault.Fault.TheVariants as fault
 use Rattle.command_io.specs.Files.{IsFaultOfImage, IsFaultOfSize}
+use Rattle.command_io.specs.Links.{Output}
 use Rattle.schedules.specs.Sweeps.{most_of}
-use Rattle.hunt_command.specs.declared.command.Hunt.{Hunt}
 use Rattle.hunt_command.specs.declared.refused.Refused.{Refused}
 use Rattle.hunt_command.specs.declared.refused.Refused.TheVariants as refused
 use Rattle.hunt_command.specs.Findings.{firsts}
-use Rattle.hunt_command.specs.Hunts.{HasNotSaved, HuntFails}
+use Rattle.hunt_command.specs.Hunts.{AskedHunt, HasNotSaved, HuntTraces, IsRefused}
 use Rattle.hunt_command.specs.Traces.{AreAsked, AreFree, AreNotSaved, AreNotWritten}
 
 asked_of : {T : Type 0} → (P : T → T → Type 0) (Q : Type 0) → ((t t' : T) → P t t' → Q) → (old new : Option T) → AreAsked P old new → Q
@@ -19,39 +19,47 @@ asked_of P Q f (Some old) (Some new) h = f old new h
 asked_of P Q f (Some old) None h = absurd h
 asked_of P Q f None new h = absurd h
 
-module _ {T W : Type 0} (finds : T → (number : ℕ) → (is_there : Bool) → Type 0) (opens : T → (number : ℕ) → W → T → Type 0)
-    (closes : T → W → T → Type 0) (has_failed : W → Bool) (contents : W → Option (List ℕ)) (c : Config) (hunt : Hunt)
-    (known : Option (List ℕ)) (traces traces' : Option T) (out out' : Option (List ℕ)) where
-  abbrev No : Refused → Type 0
-  No r = HuntFails finds opens closes has_failed contents c hunt known traces traces' out out' r
-
+module _ {T W : Type 0} (h : AskedHunt) (t : HuntTraces T W) (out : Output) where
   -- If a fault says why there is no image, and the traces are as before, the hunt fails with this fault.
-  pub of_image : (f : Fault) → traces' ≡ traces → IsFaultOfImage c.shared_words known f → No (refused.Fault f)
+  pub of_image : (f : Fault) → t.new ≡ t.old → IsFaultOfImage h.config.shared_words h.file.bytes f → IsRefused h t out (refused.Fault f)
   of_image (fault.Image e) same why = (same, why)
   of_image fault.Memory same why = inl same
   of_image other same why = absurd why
 
   -- If a fault says why there is no machine of this size, and the traces are as before, the hunt fails with this fault.
-  pub of_size : (image : ImageContents) → IsImageOf c.shared_words known image → (f : Fault) → traces' ≡ traces → IsFaultOfSize c f →
-      No (refused.Fault f)
+  pub of_size : (image : ImageContents) → IsImageOf h.config.shared_words h.file.bytes image → (f : Fault) → t.new ≡ t.old →
+      IsFaultOfSize h.config f → IsRefused h t out (refused.Fault f)
   of_size image meant fault.Size same why = (same, (image, meant), why)
   of_size image meant fault.Memory same why = inl same
   of_size image meant other same why = absurd why
 
   neither : (image : ImageContents) (most : ℕ) (numbers : List ℕ) (f : Fault) → (f ≡ fault.Memory → ⊥) →
-      ((t t' : T) → AreNotWritten opens closes has_failed contents c image most numbers t t' f → ⊥) →
-      AreNotSaved finds opens closes has_failed contents c image most numbers traces traces' (refused.Fault f) → ⊥
-  neither image most numbers f not_memory not_so = asked_of _ ⊥ by traces traces'
+      ((old new : T) → AreNotWritten t.store.opens t.store.closes t.store.has_failed t.store.contents h.config image most numbers old new f → ⊥) →
+      AreNotSaved t.store.finds t.store.opens t.store.closes t.store.has_failed t.store.contents h.config image most numbers t.old t.new
+      (refused.Fault f) → ⊥
+  neither image most numbers f not_memory not_so = asked_of _ ⊥ by t.old t.new
     where
-      by : (t t' : T) → ((t' ≡ t) × (f ≡ fault.Memory))
-          ⊎ (AreFree finds numbers t × AreNotWritten opens closes has_failed contents c image most numbers t t' f) → ⊥
-      by t t' (inl p) = not_memory p.1
-      by t t' (inr p) = not_so t t' p.1
+      by : (old new : T) → ((new ≡ old) × (f ≡ fault.Memory))
+          ⊎ (AreFree t.store.finds numbers old
+          × AreNotWritten t.store.opens t.store.closes t.store.has_failed t.store.contents h.config image most numbers old new f) → ⊥
+      by old new (inl p) = not_memory p.1
+      by old new (inr p) = not_so old new p.1
 
   -- If the traces of what is found are not saved, the hunt fails for the same reason.
-  pub of_traces : (r : Refused) → HasNotSaved finds opens closes has_failed contents c hunt known traces traces' r → No r
-  of_traces (refused.There n) h = h
-  of_traces (refused.Fault (fault.Trace e)) h = h
-  of_traces (refused.Fault fault.Memory) h = inr h
-  of_traces (refused.Fault other) h =
-      absurd (neither h.image (most_of hunt.budget) (firsts h.found) other (λ e. let bad : other ≡ fault.Memory = e in cc) (λ t t' why. why) h.so)
+  pub of_traces : (r : Refused) → HasNotSaved h t r → IsRefused h t out r
+  of_traces (refused.There n) why = why
+  of_traces (refused.Fault (fault.Trace e)) why = why
+  of_traces (refused.Fault fault.Memory) why = inr why
+  of_traces (refused.Fault other) why =
+      absurd (neither why.image (most_of h.hunt.budget) (firsts why.found) other (λ e. let bad : other ≡ fault.Memory = e in cc) (λ old new no. no)
+      why.unsaved)
+
+  -- None of these reasons is a failed read of the image.
+  pub not_unread : (image : ImageContents) (most : ℕ) (numbers : List ℕ) (r : Refused) →
+      AreNotSaved t.store.finds t.store.opens t.store.closes t.store.has_failed t.store.contents h.config image most numbers t.old t.new r →
+      r ≡ refused.Fault (fault.Image image_error.Link) → ⊥
+  not_unread image most numbers (refused.There n) why same = absurd (cc)
+  not_unread image most numbers (refused.Fault (fault.Trace e)) why same = absurd (cc)
+  not_unread image most numbers (refused.Fault fault.Memory) why same = absurd (cc)
+  not_unread image most numbers (refused.Fault other) why same =
+      neither image most numbers other (λ e. let bad : other ≡ fault.Memory = e in cc) (λ old new no. no) why

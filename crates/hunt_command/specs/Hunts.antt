@@ -1,8 +1,9 @@
 -- What a hunt prints: from the bytes of an image's file to the different results of its runs.
-use Rattle.std.specs.Prelude.{◌≡◌, ◌⊎◌, ℕ, ◌+◌, ◌%◌, ◌^◌, nat_lt, Bool, true, false, if◌then◌else◌, List, [], ◌∷◌, ◌++◌}
+use Rattle.std.specs.Prelude.{◌≡◌, ◌⊎◌, ℕ, ◌+◌, ◌%◌, ◌^◌, nat_lt, Bool, if◌then◌else◌, List, [], ◌∷◌, ◌++◌}
 use Rattle.std.specs.Prelude.{Option, Some, length, slice_get}
 use Rattle.flat_machine.specs.declared.config.Config.{Config}
 use Rattle.flat_machine.specs.Limits.{IsWithinLimits}
+use Rattle.elf_image.specs.declared.error.ImageError.TheVariants as of_image
 use Rattle.elf_image.specs.Files.{IsImageOf, IsImageRefusal}
 use Rattle.elf_image.specs.Images.{ImageContents}
 use Rattle.trace_file.specs.Traces.{IsTrace, trace_of}
@@ -17,6 +18,7 @@ use Rattle.hunt_command.specs.Runs.{IsRandomRun}
 use Rattle.command_io.specs.declared.fault.Fault.TheVariants as fault
 use Rattle.command_io.specs.Faults.{status_of_fault}
 use Rattle.command_io.specs.FaultTexts.{IsReported}
+use Rattle.command_io.specs.Links.{Input, IsOfLink, Output}
 use Rattle.command_io.specs.Printing.{PrintsPrefix}
 use Rattle.command_io.specs.Tallies.{TallyState}
 use Rattle.trace_commands.specs.Reports.{IsExitOf}
@@ -100,57 +102,93 @@ pub record AreFound (c : Config) (image : ImageContents) (most start runs : ℕ)
 
 -- ---- a hunt
 
--- In the runs of a hunt of the image that a file means this is found; of the image and the numbers of the first runs
--- to each result this is so.
-pub record HasFound (c : Config) (hunt : Hunt) (known : Option (List ℕ)) (is_so : ImageContents → (numbers : List ℕ) →
-    Type 0) : Type 0 where
+-- A hunt that is asked for: the machine's size, which runs it takes, and the image's file.
+pub record AskedHunt : Type 0 where
+  pub config : Config
+  pub hunt : Hunt
+  pub file : Input
+
+abbrev pub asked_hunt : Config → Hunt → Input → AskedHunt
+asked_hunt c hunt file = record { config = c; hunt = hunt; file = file }
+
+-- Where traces go, each under its number: what is found at a number, what is handed out for one and taken back; whether
+-- a writer has failed, and what it is known to have.
+pub record TraceStore (T W : Type 0) : Type 1 where
+  pub finds : T → (number : ℕ) → (is_there : Bool) → Type 0
+  pub opens : T → (number : ℕ) → W → T → Type 0
+  pub closes : T → W → T → Type 0
+  pub has_failed : W → Bool
+  pub contents : W → Option (List ℕ)
+
+abbrev pub trace_store : {T W : Type 0} → (finds : T → (number : ℕ) → (is_there : Bool) → Type 0) →
+    (opens : T → (number : ℕ) → W → T → Type 0) → (closes : T → W → T → Type 0) → (has_failed : W → Bool) →
+    (contents : W → Option (List ℕ)) → TraceStore T W
+trace_store finds opens closes has_failed contents =
+    record { finds = finds; opens = opens; closes = closes; has_failed = has_failed; contents = contents }
+
+-- Where traces go, if they are asked for, before and after a hunt.
+pub record HuntTraces (T W : Type 0) : Type 1 where
+  pub store : TraceStore T W
+  pub old : Option T
+  pub new : Option T
+
+abbrev pub hunt_traces : {T W : Type 0} → TraceStore T W → (old new : Option T) → HuntTraces T W
+hunt_traces store old new = record { store = store; old = old; new = new }
+
+-- This is found in the runs of a hunt of the image that the file means, and this is the greatest of their exit
+-- statuses.
+pub record HasFound (h : AskedHunt) (image : ImageContents) (found : List FindingState) (status : ℕ) : Type 0 where
+  pub meant : IsImageOf h.config.shared_words h.file.bytes image
+  pub are : AreFound h.config image (most_of h.hunt.budget) h.hunt.start h.hunt.runs found status
+
+-- The traces of the first runs to each result are written, where traces are asked for, and no other.
+abbrev pub HasSaved : {T W : Type 0} → AskedHunt → HuntTraces T W → ImageContents → List FindingState → Type 0
+HasSaved h t image found =
+    WhereAsked (AreSaved t.store.finds t.store.opens t.store.closes t.store.has_failed t.store.contents h.config image
+    (most_of h.hunt.budget) (firsts found)) t.old t.new
+
+-- This is to be printed of a hunt of the image that the file means, and this is its exit status. The traces are
+-- written.
+pub record IsHunt {T W : Type 0} (h : AskedHunt) (t : HuntTraces T W) (status : ℕ) (text : List ℕ) : Type 0 where
   pub image : ImageContents
-  pub meant : IsImageOf c.shared_words known image
+  pub found : List FindingState
+  pub has_found : HasFound h image found status
+  pub saved : HasSaved h t image found
+  pub lines : text ≡ findings_lines found
+
+-- the same, with whatever exit status
+abbrev pub IsSomeHunt : {T W : Type 0} → AskedHunt → HuntTraces T W → (text : List ℕ) → Type 0
+IsSomeHunt h t text = (status : ℕ) × IsHunt h t status text
+
+-- The traces of what is found are written in part, or none is, as this refusal says.
+pub record HasNotSaved {T W : Type 0} (h : AskedHunt) (t : HuntTraces T W) (r : Refused) : Type 0 where
+  pub image : ImageContents
   pub found : List FindingState
   pub status : ℕ
-  pub are : AreFound c image (most_of hunt.budget) hunt.start hunt.runs found status
-  pub so : is_so image (firsts found)
+  pub has_found : HasFound h image found status
+  pub unsaved : AreNotSaved t.store.finds t.store.opens t.store.closes t.store.has_failed t.store.contents h.config
+      image (most_of h.hunt.budget) (firsts found) t.old t.new r
 
--- What is said of where traces go: what is found at a number, what is handed out for one and taken back; whether a
--- writer has failed, and what it is known to have.
-module _ {T W : Type 0} (finds : T → (number : ℕ) → (is_there : Bool) → Type 0) (opens : T → (number : ℕ) → W → T →
-    Type 0)
-    (closes : T → W → T → Type 0) (has_failed : W → Bool) (contents : W → Option (List ℕ)) (c : Config) (hunt : Hunt)
-    (known : Option (List ℕ)) (traces traces' : Option T) where
-  -- This is to be printed of a hunt of the image that a file means, and this is its exit status. Where traces are
-  -- asked for, that of the first run to each result that is printed is written, and no other.
-  pub record IsHunt (status : ℕ) (text : List ℕ) : Type 0 where
-    pub image : ImageContents
-    pub meant : IsImageOf c.shared_words known image
-    pub found : List FindingState
-    pub are : AreFound c image (most_of hunt.budget) hunt.start hunt.runs found status
-    pub saved : WhereAsked (AreSaved finds opens closes has_failed contents c image (most_of hunt.budget)
-        (firsts found)) traces traces'
-    pub lines : text ≡ findings_lines found
+-- Why nothing is printed: the image is refused; the machine's size is out of its limits; a trace is there already, or
+-- cannot be written; or what is to be printed cannot be. Of a lack of memory no more is said than which traces are
+-- written then: none, or the first.
+abbrev pub IsRefused : {T W : Type 0} → AskedHunt → HuntTraces T W → Output → Refused → Type 0
+IsRefused h t out (refused.There n) = HasNotSaved h t (refused.There n)
+IsRefused h t out (refused.Fault (fault.Image e)) =
+    (t.new ≡ t.old) × IsImageRefusal h.config.shared_words h.file.bytes e
+IsRefused h t out (refused.Fault fault.Size) =
+    (t.new ≡ t.old) × ((image : ImageContents) × IsImageOf h.config.shared_words h.file.bytes image)
+    × (IsWithinLimits h.config → ⊥)
+IsRefused h t out (refused.Fault (fault.Trace e)) = HasNotSaved h t (refused.Fault (fault.Trace e))
+IsRefused h t out (refused.Fault fault.Link) = PrintsPrefix (IsSomeHunt h t) out.old out.new
+IsRefused h t out (refused.Fault fault.Memory) = (t.new ≡ t.old) ⊎ HasNotSaved h t (refused.Fault fault.Memory)
+IsRefused h t out (refused.Fault other) = ⊥
 
-  -- the same, with whatever exit status
-  abbrev pub IsSomeHunt : (text : List ℕ) → Type 0
-  IsSomeHunt text = (status : ℕ) × IsHunt status text
-
-  -- The traces of what is found are written in part, or none is, as this refusal says.
-  abbrev pub HasNotSaved : Refused → Type 0
-  HasNotSaved r =
-      HasFound c hunt known
-      (λ image numbers. AreNotSaved finds opens closes has_failed contents c image
-      (most_of hunt.budget) numbers traces traces' r)
-
-  -- Why nothing is printed: the image is refused; the machine's size is out of its limits; a trace is there already,
-  -- or cannot be written; or what is to be printed cannot be. Of a lack of memory no more is said than which traces are
-  -- written then: none, or the first.
-  abbrev pub HuntFails : (out out' : Option (List ℕ)) → Refused → Type 0
-  HuntFails out out' (refused.There n) = HasNotSaved (refused.There n)
-  HuntFails out out' (refused.Fault (fault.Image e)) = (traces' ≡ traces) × IsImageRefusal c.shared_words known e
-  HuntFails out out' (refused.Fault fault.Size) =
-      (traces' ≡ traces) × ((image : ImageContents) × IsImageOf c.shared_words known image) × (IsWithinLimits c → ⊥)
-  HuntFails out out' (refused.Fault (fault.Trace e)) = HasNotSaved (refused.Fault (fault.Trace e))
-  HuntFails out out' (refused.Fault fault.Link) = PrintsPrefix IsSomeHunt out out'
-  HuntFails out out' (refused.Fault fault.Memory) = (traces' ≡ traces) ⊎ HasNotSaved (refused.Fault fault.Memory)
-  HuntFails out out' (refused.Fault other) = ⊥
+-- Why the command fails: the refusal has its cause, and is that of a link exactly if the link has failed.
+pub record HuntFails {T W : Type 0} (h : AskedHunt) (t : HuntTraces T W) (out : Output) (r : Refused) : Type 0 where
+  pub cause : IsRefused h t out r
+  pub unread : IsOfLink (refused.Fault (fault.Image of_image.Link)) h.file.has_failed r
+  pub unprinted : IsOfLink (refused.Fault fault.Link) out.has_failed r
 
 -- ---- the exit status
 
@@ -163,15 +201,3 @@ status_of (refused.There n) = 2
 abbrev pub IsRefusalReported : (bytes bytes' : Option (List ℕ)) → Refused → Type 0
 IsRefusalReported bytes bytes' (refused.Fault f) = IsReported bytes bytes' f
 IsRefusalReported bytes bytes' (refused.There n) = Unit {0}
-
--- The exit status says why, which has its cause and is reported. A failed write to the output is reported as the
--- output's fault; where no write failed, the output is as it was.
-pub record ReportsFaultAs {W : Type 0} (has_failed : W → Bool) (is_cause is_reported : Refused →
-    Type 0) (old new : W) (status : ℕ) : Type 0 where
-  pub why : Refused
-  pub tells : status ≡ status_of why
-  pub cause : is_cause why
-  pub reported : is_reported why
-  pub failed : has_failed new ≡ true → why ≡ refused.Fault fault.Link
-  pub source : why ≡ refused.Fault fault.Link → has_failed new ≡ true
-  pub silent : has_failed new ≡ false → new ≡ old

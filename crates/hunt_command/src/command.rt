@@ -1,25 +1,26 @@
 //! `ultra hunt`: from the bytes of an image to the lines of what its runs come to.
 
-ghost use Rattle.std.specs.Prelude.{◌≡◌, ◌≤◌, ◌↔◌, ℕ, List, Option, true, false, IfOk, IfErr, IsErrOf, OnErr, OnOk};
+ghost use Rattle.std.specs.Prelude.{◌≡◌, ◌≤◌, ◌↔◌, true, false, IfOk, IfErr, IsErrOf, OnErr, OnOk};
 ghost use Rattle.flat_machine.specs.Limits.{IsWithinLimits};
 ghost use Rattle.elf_image.specs.Files.{IsImageOf};
-ghost use Rattle.command_io.specs.FaultTexts.{IsReported};
 ghost use Rattle.schedules.specs.Sweeps.{most_of};
 ghost use Rattle.command_io.specs.Files.{IsFaultOfSize};
-ghost use Rattle.command_io.specs.Printing.{Prints};
-ghost use Rattle.hunt_command.specs.Hunts.{AreFound, IsHunt, HuntFails, IsRefusalReported, ReportsFaultAs, status_of};
+ghost use Rattle.command_io.specs.Links.{Input, input, output};
+ghost use Rattle.command_io.specs.Printing.{Prints, ReportsRefusal};
+ghost use Rattle.hunt_command.specs.Hunts.{AreFound, IsHunt, HuntFails, IsRefusalReported, IsRefused, asked_hunt};
+ghost use Rattle.hunt_command.specs.Hunts.{hunt_traces, status_of, trace_store};
 
 use crate::findings::{Findings, findings_text};
 use crate::observer::HuntObserver;
 use crate::refused::Refused;
 use crate::runs::findings_of;
 use crate::saving::{Traces, save_all};
-use command_io::{Fault, REFUSED, image_in, print, report_fault};
-use elf_image::Image;
+use command_io::{Fault, REFUSED, image_of, print, report_fault};
+use elf_image::{Image, ImageError};
 use flat_machine::Config;
-use link::LinkWrite;
+use link::{LinkRead, LinkWrite};
 use std::alloc::Global;
-use std::io::{Read, Write};
+use std::io::Write;
 
 /// Which runs a hunt takes.
 #[derive(Clone, Copy, Debug, PartialEq, Eq, Drop)]
@@ -40,9 +41,9 @@ pub struct Hunt {
 /// Answers the exit status: 0 where all is printed, 1 where it is and a processor is faulted in a run, else that of
 /// what is reported on standard error. That is reported in this order: of the image, of the machine's size, of a trace
 /// that is there, of one that cannot be written, of standard output.
-pub fn hunt_command<R: Read + Drop, T: Traces, G: HuntObserver, W: LinkWrite, E: Write>(
+pub fn hunt_command<R: LinkRead, T: Traces, G: HuntObserver, W: LinkWrite, E: Write>(
     alloc: Global,
-    file: R,
+    file: &mut R,
     config: Config,
     hunt: Hunt,
     traces: &mut Option<T>,
@@ -50,16 +51,20 @@ pub fn hunt_command<R: Read + Drop, T: Traces, G: HuntObserver, W: LinkWrite, E:
     out: &mut W,
     err: &mut E,
 ) -> u8
-    requires { W.has_failed out.old ≡ false }
+    requires reads { R.has_failed file.old ≡ false }
+    requires prints { W.has_failed out.old ≡ false }
     ensures printed { result ≤ 1 →
-        Prints (IsHunt T.finds T.opens T.closes T.Writer.has_failed T.Writer.contents config hunt (R.remaining file)
-        traces.old traces.new result) (W.contents out.old) (W.contents out.new) }
-    ensures fault { 2 ≤ result →
-        ReportsFaultAs W.has_failed
-        (HuntFails T.finds T.opens T.closes T.Writer.has_failed T.Writer.contents config hunt
-        (R.remaining file) traces.old traces.new (W.contents out.old) (W.contents out.new))
-        (IsRefusalReported (E.contents err.old) (E.contents err.new)) out.old out.new result }
+        Prints (IsHunt (asked_hunt config hunt (input R.remaining R.has_failed file.old file.new))
+        (hunt_traces (trace_store T.finds T.opens T.closes T.Writer.has_failed T.Writer.contents) traces.old traces.new)
+        result) (W.contents out.old) (W.contents out.new) }
+    ensures fault { 2 ≤ result → ReportsRefusal status_of
+        (HuntFails (asked_hunt config hunt (input R.remaining R.has_failed file.old file.new))
+        (hunt_traces (trace_store T.finds T.opens T.closes T.Writer.has_failed T.Writer.contents) traces.old traces.new)
+        (output W.contents W.has_failed out.old out.new))
+        (IsRefusalReported (E.contents err.old) (E.contents err.new)) result }
     ensures failed { W.has_failed out.new ≡ true → result ≡ 3 }
+    ensures unread { R.has_failed file.new ≡ true → result ≡ 3 }
+    ensures silent { 2 ≤ result → W.has_failed out.new ≡ false → out.new ≡ out.old }
     ensures quiet { result ≤ 1 → err.new ≡ err.old }
 {
     match execute(alloc, file, config, hunt, traces, observer, out) {
@@ -85,27 +90,31 @@ fn tell_refused<T: Traces, E: Write>(refused: Refused, traces: &Option<T>, err: 
 }
 
 /// Carries the command out.
-fn execute<R: Read + Drop, T: Traces, G: HuntObserver, W: LinkWrite>(
+fn execute<R: LinkRead, T: Traces, G: HuntObserver, W: LinkWrite>(
     alloc: Global,
-    file: R,
+    file: &mut R,
     config: Config,
     hunt: Hunt,
     traces: &mut Option<T>,
     observer: &mut G,
     out: &mut W,
 ) -> Result<u8, Refused>
-    requires { W.has_failed out.old ≡ false }
+    requires reads { R.has_failed file.old ≡ false }
+    requires prints { W.has_failed out.old ≡ false }
+    ensures unread { IsErrOf result (Refused.Fault (Fault.Image ImageError.Link)) ↔ (R.has_failed file.new ≡ true) }
     ensures failed { IsErrOf result (Refused.Fault Fault.Link) ↔ (W.has_failed out.new ≡ true) }
-    ensures printed { IfOk result
-        (λ status. Prints (IsHunt T.finds T.opens T.closes T.Writer.has_failed T.Writer.contents config hunt
-        (R.remaining file) traces.old traces.new status) (W.contents out.old) (W.contents out.new)) }
+    ensures printed { IfOk result (λ status.
+        Prints (IsHunt (asked_hunt config hunt (input R.remaining R.has_failed file.old file.new))
+        (hunt_traces (trace_store T.finds T.opens T.closes T.Writer.has_failed T.Writer.contents) traces.old traces.new)
+        status) (W.contents out.old) (W.contents out.new)) }
     ensures low { IfOk result (λ status. status ≤ 1) }
-    ensures fault { IfErr result (HuntFails T.finds T.opens T.closes T.Writer.has_failed T.Writer.contents config hunt
-        (R.remaining file)
-        traces.old traces.new (W.contents out.old) (W.contents out.new)) }
+    ensures fault { IfErr result
+        (IsRefused (asked_hunt config hunt (input R.remaining R.has_failed file.old file.new))
+        (hunt_traces (trace_store T.finds T.opens T.closes T.Writer.has_failed T.Writer.contents) traces.old traces.new)
+        (output W.contents W.has_failed out.old out.new)) }
     ensures silent { OnErr result (W.has_failed out.new ≡ false → out.new ≡ out.old) }
 {
-    let image = image_in(alloc, file, &config)?;
+    let image = image_of(alloc, file, &config)?;
     hunt_image(alloc, &image, config, hunt, traces, observer, out)
 }
 
@@ -123,16 +132,17 @@ fn hunt_image<T: Traces, G: HuntObserver, W: LinkWrite>(
     requires works { W.has_failed out.old ≡ false }
     requires words { image.now.shared_words ≡ config.shared_words }
     ensures failed { IsErrOf result (Refused.Fault Fault.Link) ↔ (W.has_failed out.new ≡ true) }
-    ensures printed { IfOk result (λ status. (known : Option (List ℕ)) → IsImageOf config.shared_words known image.now
-        → Prints
-        (IsHunt T.finds T.opens T.closes T.Writer.has_failed T.Writer.contents config hunt known traces.old traces.new
-        status)
-        (W.contents out.old) (W.contents out.new)) }
+    ensures unread { IsErrOf result (Refused.Fault (Fault.Image ImageError.Link)) → ⊥ }
+    ensures printed { IfOk result (λ status. (file : Input) → IsImageOf config.shared_words file.bytes image.now
+        → Prints (IsHunt (asked_hunt config hunt file)
+        (hunt_traces (trace_store T.finds T.opens T.closes T.Writer.has_failed T.Writer.contents) traces.old traces.new)
+        status) (W.contents out.old) (W.contents out.new)) }
     ensures low { IfOk result (λ status. status ≤ 1) }
-    ensures fault { IfErr result (λ refused. (known : Option (List ℕ)) → IsImageOf config.shared_words known image.now
-        → HuntFails T.finds T.opens T.closes T.Writer.has_failed T.Writer.contents config hunt known traces.old
-        traces.new
-        (W.contents out.old) (W.contents out.new) refused) }
+    ensures size { (IsWithinLimits config → ⊥) → IsErrOf result (Refused.Fault Fault.Size) }
+    ensures fault { IfErr result (λ refused. (file : Input) → IsImageOf config.shared_words file.bytes image.now
+        → IsRefused (asked_hunt config hunt file)
+        (hunt_traces (trace_store T.finds T.opens T.closes T.Writer.has_failed T.Writer.contents) traces.old traces.new)
+        (output W.contents W.has_failed out.old out.new) refused) }
     ensures silent { OnErr result (W.has_failed out.new ≡ false → out.new ≡ out.old) }
 {
     let (findings, status) = watched(alloc, image, config, hunt, observer)?;
@@ -155,6 +165,7 @@ fn watched<G: HuntObserver>(
         (most_of hunt.budget) hunt.start hunt.runs done.0.found done.1) }
     ensures low { IfOk result (λ done. done.1 ≤ 1) }
     ensures limits { OnOk result (IsWithinLimits config) }
+    ensures size { (IsWithinLimits config → ⊥) → IsErrOf result Fault.Size }
     ensures refused { IfErr result (IsFaultOfSize config) }
 {
     if !config.is_within_limits() {

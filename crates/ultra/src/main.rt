@@ -396,7 +396,7 @@ fn hunt_file<'a, R: Files + Clock + Eprint + AllocGlobal, W: LinkWrite, E: Write
 ) -> Result<u8, Refusal<'a>>
     requires works { W.has_failed out.old ≡ false }
 {
-    let file = open(rt, hunt.file, reason)?;
+    let mut file = Meter::new(open(rt, hunt.file, reason)?);
     let config = config_of(&hunt.sizes);
     let runs = Hunted {
         budget: hunt.budget,
@@ -418,7 +418,7 @@ fn hunt_file<'a, R: Files + Clock + Eprint + AllocGlobal, W: LinkWrite, E: Write
         let mut observer = HuntProgress::new(rt, rt);
         hunt_command(
             alloc,
-            file,
+            &mut file,
             config,
             runs,
             &mut traces,
@@ -430,7 +430,7 @@ fn hunt_file<'a, R: Files + Clock + Eprint + AllocGlobal, W: LinkWrite, E: Write
         let mut observer = NoHuntProgress;
         hunt_command(
             alloc,
-            file,
+            &mut file,
             config,
             runs,
             &mut traces,

@@ -116,7 +116,7 @@ fn hunted(image: &[u8], config: Config, start: u32, runs: u32, kept: Kept) -> Ra
     let mut err = Vec::new(alloc);
     let status = hunt_command(
         alloc,
-        image,
+        &mut Meter::new(image),
         config,
         hunt,
         &mut traces,

@@ -46,11 +46,11 @@ fn writes_that_fail(rt: HostRuntime) {
         }
         let mut out = Meter::new(Sink::new(Vec::new(alloc), fails_at));
         let mut err = Sink::new(Vec::new(alloc), 0);
-        let file = EBREAK.as_slice();
+        let mut file = Meter::new(EBREAK.as_slice());
         let observer = &mut NoHuntProgress;
         let status = hunt_command(
             alloc,
-            file,
+            &mut file,
             size(0),
             HUNT,
             &mut traces,
@@ -70,11 +70,11 @@ fn short_of_memory(rt: HostRuntime) -> Result<(), Fail> {
     let mut traces: Option<Kept> = None;
     let mut out = Meter::new(Sink::new(Vec::with_capacity(alloc, 128)?, 0));
     let mut err = Sink::new(Vec::with_capacity(alloc, 128)?, 0);
-    let file = EBREAK.as_slice();
+    let mut file = Meter::new(EBREAK.as_slice());
     let observer = &mut NoHuntProgress;
     let status = hunt_command(
         alloc,
-        file,
+        &mut file,
         size(0),
         HUNT,
         &mut traces,
