@@ -13,7 +13,7 @@ use Rattle.explore_command.specs.declared.refused.Refused.{Refused}
 use Rattle.explore_command.specs.declared.refused.Refused.TheVariants as refused
 use Rattle.explore_command.specs.Causes.{IsNotFound, IsNotSaved, IsNotSearched, IsRefused}
 use Rattle.explore_command.specs.Explorations.{AreResultsOf, Exploration, Problem, SearchResult, problem_of}
-use Rattle.explore_command.specs.TraceOutputs.{TraceOutput}
+use Rattle.trace_commands.specs.TraceReports.{TraceOutput}
 
 module _ {T : Type 0} (p : Problem) (trace : TraceOutput T) (opening : MachineLists) (opens : IsOpening p.config p.image opening) where
   -- If a machine's results are not searched, its image's results are not found, with the same fault.

@@ -26,7 +26,7 @@ use Rattle.exploration.specs.state_graph.Laws.{IsTerminationOf}
 use Rattle.explore_command.specs.declared.refused.Refused.{Refused}
 use Rattle.explore_command.specs.declared.refused.Refused.TheVariants as refused
 use Rattle.explore_command.specs.Refusals.{HasWitness}
-use Rattle.explore_command.specs.TraceOutputs.{HasPartSaved, TraceOutput}
+use Rattle.trace_commands.specs.TraceReports.{HasPartSaved, TraceOutput}
 use Rattle.explore_command.specs.Witnesses.{IsWitness, target}
 use Rattle.explore_command.specs.Explorations.{AreResultsOf, Exploration, PrintsSomeResults, Problem, SearchResult}
 use Rattle.explore_command.specs.Explorations.{problem_of}

@@ -17,7 +17,7 @@ use Rattle.exploration.specs.state_graph.declared.termination.Termination.{Termi
 use Rattle.exploration.specs.state_graph.declared.termination.Termination.TheVariants as fact
 use Rattle.exploration.specs.state_graph.Laws.{IsTerminationOf}
 use Rattle.explore_command.specs.declared.command.Asked.{Asked}
-use Rattle.explore_command.specs.TraceOutputs.{HasSaved, TraceOutput}
+use Rattle.trace_commands.specs.TraceReports.{HasSaved, TraceOutput}
 use Rattle.explore_command.specs.Witnesses.{IsWitness, target}
 use Rattle.explore_command.specs.Lines.{results_lines}
 

@@ -4,4 +4,3 @@ pub mod Causes
 pub mod Sizes
 pub mod Witnesses
 pub mod Refusals
-pub mod TraceOutputs

@@ -6,7 +6,7 @@ ghost use Rattle.command_io.specs.Printing.{Prints, ReportsRefusal};
 ghost use Rattle.trace_commands.specs.TraceReports.{IsWorking};
 ghost use Rattle.explore_command.specs.Causes.{ExploreFails, IsRefused, IsReportedAs, status_of, unknown_line};
 ghost use Rattle.explore_command.specs.Explorations.{PrintsResults, exploration_of};
-ghost use Rattle.explore_command.specs.TraceOutputs.{trace_output};
+ghost use Rattle.trace_commands.specs.TraceReports.{trace_output};
 
 use crate::refused::Refused;
 use crate::searching::explored;

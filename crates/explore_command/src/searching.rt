@@ -14,7 +14,7 @@ ghost use Rattle.explore_command.specs.Causes.{IsNotFound, IsNotSaved, IsNotSear
 ghost use Rattle.explore_command.specs.Explorations.{AreExplored, AreResultsOf, IsWitnessed, problem_of};
 ghost use Rattle.explore_command.specs.Explorations.{search_result};
 ghost use Rattle.explore_command.specs.Refusals.{HasWitness, fault_of_search};
-ghost use Rattle.explore_command.specs.TraceOutputs.{trace_output};
+ghost use Rattle.trace_commands.specs.TraceReports.{trace_output};
 
 use crate::command::Asked;
 use crate::lines::results_text;

@@ -3,7 +3,7 @@ use Rattle.flat_machine.specs.declared.config.Config.{Config}
 use Rattle.exploration.specs.Endings.{AreSingle}
 use Rattle.exploration.specs.local_reduction.Results.{FinalResult}
 use Rattle.explore_command.specs.Explorations.{IsExitOf, IsWitnessed, problem_of}
-use Rattle.explore_command.specs.TraceOutputs.{trace_output}
+use Rattle.trace_commands.specs.TraceReports.{trace_output}
 use Rattle.explore_command.specs.Lines.{results_lines}
 use Rattle.explore_command.proofs.searching.explored_from.Goals as goal
 
