@@ -6,13 +6,11 @@ ghost use Rattle.machine_steps.specs.Machines.{IsIdle};
 ghost use Rattle.machine_steps.specs.Runs.{flat_state};
 ghost use Rattle.debug_session.specs.Answers.{ending_of, poke_of, Continues, Sets, StepsOnce, Writes};
 
-use crate::laws::runs_are_in_order;
 use crate::runner::Runner;
 use debug_lines::{Command, Written};
 use debug_replies::{Breaks, Error, is_running};
 use flat_machine::{Poke, SHARED_START};
-use machine_log::{LockRefusal, Logged, log_is_well_formed};
-use machine_steps::flat_states_are_read;
+use machine_log::{LockRefusal, Logged};
 
 /// The most bytes that a line writes.
 const MOST_BYTES: usize = 512;
@@ -27,8 +25,8 @@ pub(crate) fn set(log: &mut Logged, processor: u32, register: u32, value: u32) -
     if register == 0 {
         return Ok(());
     }
-    log_is_well_formed(log);
-    flat_states_are_read();
+    machine_log::laws::log_is_well_formed(log);
+    machine_steps::laws::flat_states_are_read();
     map_refusal(log.pokes(&[Poke::Register {
         processor: processor as u8,
         register: register as u8,
@@ -48,8 +46,8 @@ pub(crate) fn write(
     ensures writes { Writes log.old processor address bytes.now result log.new }
     ensures idle { IsIdle log.new.machine }
 {
-    log_is_well_formed(log);
-    flat_states_are_read();
+    machine_log::laws::log_is_well_formed(log);
+    machine_steps::laws::flat_states_are_read();
     let mut pokes = [Poke::Shared {
         address: 0,
         value: 0,
@@ -84,8 +82,8 @@ pub(crate) fn step(log: &mut Logged, processor: u32) -> Result<(), Error>
     ensures steps { StepsOnce log.old processor result log.new }
     ensures idle { IsIdle log.new.machine }
 {
-    log_is_well_formed(log);
-    flat_states_are_read();
+    machine_log::laws::log_is_well_formed(log);
+    machine_steps::laws::flat_states_are_read();
     if !is_running(log.machine(), processor) {
         return Ok(());
     }
@@ -106,10 +104,10 @@ pub(crate) fn go_on<C: Runner>(
     ensures goes_on { Continues (C.spec budget) breaks.now log.old result log.new }
     ensures idle { IsIdle log.new.machine }
 {
-    runs_are_in_order();
-    log_is_well_formed(log);
+    crate::laws::runs_are_in_order();
+    machine_log::laws::log_is_well_formed(log);
     let ran = runner.run(log, breaks, budget);
-    log_is_well_formed(log);
+    machine_log::laws::log_is_well_formed(log);
     map_refusal(ran)
 }
 

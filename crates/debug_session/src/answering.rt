@@ -13,7 +13,7 @@ use arrayvec::ArrayVec;
 use debug_lines::Command;
 use debug_replies::{Breaks, Error, Faults, error_of, named_stop, show, show_stop};
 use machine_log::Logged;
-use machine_steps::flat_states_are_read;
+use machine_steps::laws;
 
 /// Carries a command out, and puts the reply to it into the text, in place of what it had.
 pub(crate) fn answer<C: Runner>(
@@ -29,7 +29,7 @@ pub(crate) fn answer<C: Runner>(
         (session log.new breaks.new) }
     ensures idle { IsIdle log.new.machine }
 {
-    flat_states_are_read();
+    laws::flat_states_are_read();
     let before = Faults::of(log.machine());
     match carry_out(command, log, breaks, runner, budget) {
         Ok(()) => reply(command, log, breaks, &before, text),

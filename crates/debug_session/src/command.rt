@@ -12,7 +12,7 @@ use crate::sweep::Sweep;
 use command_io::{Fault, image_in, machine_of, report_fault};
 use flat_machine::Config;
 use link::{Failed, LinkWrite};
-use machine_log::{Logged, log_is_well_formed};
+use machine_log::{Logged, laws};
 use std::alloc::Global;
 use std::io::{Read, Write};
 use std::sync::Wait;
@@ -67,6 +67,6 @@ fn session<F: Read + Drop, C: Connect>(
         Err(Failed) => return Err(Fault::Link),
     };
     let end = serve(rt, &mut reader, &mut writer, &mut log, &mut Sweep, budget);
-    log_is_well_formed(&log);
+    laws::log_is_well_formed(&log);
     Ok((end, log))
 }

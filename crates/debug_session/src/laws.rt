@@ -8,8 +8,7 @@ ghost use Rattle.machine_steps.specs.Runs.{flat_state, passed};
 ghost use Rattle.machine_log.specs.Logs.{IsWellFormed, Log};
 ghost use Rattle.debug_session.specs.Runs.{HasDriven};
 
-use machine_log::{Logged, log_is_well_formed};
-use machine_steps::runs_are_serialized;
+use machine_log::Logged;
 
 /// Whatever steps a runner takes, after them the machine is the flat machine after the serial order of just
 /// these steps, from where it stood before.
@@ -17,12 +16,12 @@ pub fn runs_are_in_order()
     ensures { (old new : Log) → IsWellFormed old → IsWellFormed new → IsIdle old.machine → (run : HasDriven old new) →
         flat_state new.machine ≡ flat_run (flat_state old.machine) (passed old.machine run.more).order }
 {
-    runs_are_serialized();
+    machine_steps::laws::runs_are_serialized();
 }
 
 /// Each log has a trace: whatever its steps did, there is a record of each, also of those that wrote from outside.
 pub(crate) fn log_has_trace(log: &Logged)
     ensures { IsTrace (trace_of log.now.machine.config log.now.steps) }
 {
-    log_is_well_formed(log);
+    machine_log::laws::log_is_well_formed(log);
 }

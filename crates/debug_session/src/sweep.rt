@@ -13,9 +13,9 @@ ghost use Rattle.debug_session.specs.Sweeps.{HasContinued, HasSwept, IsUnderWay,
 use crate::runner::Runner;
 use debug_replies::Breaks;
 use flat_machine::{Cause, Status};
-use machine_log::{LockRefusal, Logged, ReservedLog, reserved_log_is_well_formed};
-use machine_steps::{Machine, any_runs, machine_is_well_formed, replays_are_cut};
-use schedules::{Round, rounds_go_on, sweeps_write_nothing};
+use machine_log::{LockRefusal, Logged, ReservedLog};
+use machine_steps::{Machine, any_runs};
+use schedules::Round;
 use steps::{Outcome, Step};
 
 /// The most processors that a machine has.
@@ -60,13 +60,13 @@ fn sweep_and_drain(log: &mut ReservedLog, breaks: &Breaks, budget: u32)
     ensures ran { HasDriven log.old.log log.new.log }
     ensures continued { HasContinued breaks.now budget log.old.log log.new.log }
 {
-    replays_are_cut();
-    sweeps_write_nothing();
-    reserved_log_is_well_formed(log);
+    machine_steps::laws::replays_are_cut();
+    schedules::laws::sweeps_write_nothing();
+    machine_log::laws::reserved_log_is_well_formed(log);
     let limit = log.steps().len() + budget as usize;
     follow(log, breaks, limit);
     log.drain();
-    reserved_log_is_well_formed(log);
+    machine_log::laws::reserved_log_is_well_formed(log);
 }
 
 /// Follows the sweep until it ends, or the log has this many steps.
@@ -77,7 +77,7 @@ fn follow(log: &mut ReservedLog, breaks: &Breaks, limit: usize)
     ensures config { log.new.log.machine.config ≡ log.old.log.machine.config }
     ensures capacity_left { KeepsCapacity log.old log.new }
 {
-    reserved_log_is_well_formed(log);
+    machine_log::laws::reserved_log_is_well_formed(log);
     let mut retired = none_retired();
     // While a processor runs, a round enters a step, or ends the sweep.
     while log.steps().len() < limit {
@@ -116,8 +116,8 @@ fn take_round(
     ensures config { log.new.log.machine.config ≡ log.old.log.machine.config }
     ensures capacity_left { KeepsCapacity log.old log.new }
 {
-    rounds_go_on();
-    sweeps_write_nothing();
+    schedules::laws::rounds_go_on();
+    schedules::laws::sweeps_write_nothing();
     let mut round = Round::new(log.machine().config().k);
     while log.steps().len() < limit {
         let Some(step) = round.next(log.machine()) else {
@@ -128,7 +128,7 @@ fn take_round(
         }
         let outcome = log.step(step);
         mark_retired(retired, &step, &outcome);
-        reserved_log_is_well_formed(log);
+        machine_log::laws::reserved_log_is_well_formed(log);
         if is_fault(&outcome) {
             return true;
         }
@@ -155,7 +155,7 @@ fn meets_break(
 fn is_at_break(p: u8, machine: &Machine, breaks: &Breaks, retired: &[bool; MOST_PROCESSORS]) -> bool
     ensures { IsTrue result ↔ IsAtBreak machine.now breaks.now retired.now p }
 {
-    machine_is_well_formed(machine);
+    machine_steps::laws::machine_is_well_formed(machine);
     let Some(pc) = machine.pc(p) else {
         return false;
     };

@@ -20,7 +20,7 @@ use command_io::{Fault, image_of, opened, print, push_status, report_fault};
 use elf_image::{Image, ImageError};
 use exploration::{Explored, SearchObserver};
 use flat_machine::{Config, Status};
-use link::{LinkRead, LinkWrite, parts_make_a_beginning};
+use link::{LinkRead, LinkWrite, laws};
 use std::alloc::{AllocError, Global};
 use std::fmt::Write as Format;
 use std::io::Write;
@@ -100,7 +100,7 @@ fn print_sizes<G: SearchObserver, W: LinkWrite, E: Write>(
         (output W.contents W.has_failed out.old out.new) (errors_to E.contents err.old err.new)) }
     ensures unwritten { IsErrOf result Fault.Link ↔ (W.has_failed out.new ≡ true) }
 {
-    parts_make_a_beginning();
+    laws::parts_make_a_beginning();
     let mut status = 0;
     for k in 0..SIZES {
         let size = Config { k, ..config };

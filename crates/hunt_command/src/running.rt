@@ -13,7 +13,7 @@ ghost use Rattle.trace_file.specs.Traces.{HaveRecords};
 
 use crate::schedule::Schedule;
 use command_io::{Fault, Tally};
-use machine_log::{LockRefusal, Logged, ReservedLog, reserved_log_is_well_formed};
+use machine_log::{LockRefusal, Logged, ReservedLog, laws};
 use machine_steps::any_runs;
 use schedules::{MAX_BUDGET, SweepEnd, is_over, most_steps};
 use steps::{NoObserver, Outcome, Step, StepObserver};
@@ -80,10 +80,10 @@ fn run(log: &mut ReservedLog, number: u32, most: u32) -> SweepEnd
     ensures records { HaveRecords log.old.log.machine.config.k log.old.log.steps →
         HaveRecords log.new.log.machine.config.k log.new.log.steps }
 {
-    reserved_log_is_well_formed(log);
+    laws::reserved_log_is_well_formed(log);
     let Ok(end) = asked(log, number, most, &mut NoObserver);
     log.drain();
-    reserved_log_is_well_formed(log);
+    laws::reserved_log_is_well_formed(log);
     end
 }
 
@@ -110,7 +110,7 @@ fn asked<N: StepObserver>(
     ensures config { log.new.log.machine.config ≡ log.old.log.machine.config }
     ensures room { length log.new.log.steps + log.new.capacity_left ≡ length log.old.log.steps + log.old.capacity_left }
 {
-    reserved_log_is_well_formed(log);
+    laws::reserved_log_is_well_formed(log);
     let limit = log.steps().len() + most as usize;
     let mut schedule = Schedule::new(log.machine().config().k, number, most);
     ask(log, &mut schedule, limit, observer)
@@ -138,7 +138,7 @@ fn ask<N: StepObserver>(
     ensures config { log.new.log.machine.config ≡ log.old.log.machine.config }
     ensures room { length log.new.log.steps + log.new.capacity_left ≡ length log.old.log.steps + log.old.capacity_left }
 {
-    reserved_log_is_well_formed(log);
+    laws::reserved_log_is_well_formed(log);
     if !any_runs(log.machine()) {
         return Ok(SweepEnd::Over);
     }

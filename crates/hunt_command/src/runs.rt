@@ -15,7 +15,7 @@ use crate::running::{observed_run, random_run};
 use command_io::{Fault, Tally, opened};
 use elf_image::Image;
 use flat_machine::Config;
-use machine_log::{Logged, log_is_well_formed};
+use machine_log::{Logged, laws};
 use machine_steps::Machine;
 use schedules::SweepEnd;
 use std::alloc::Global;
@@ -43,7 +43,7 @@ pub(crate) fn run_of(
         // A new log has room for the longest run, so memory is all that it can want.
         return Err(Fault::Memory);
     };
-    log_is_well_formed(&log);
+    laws::log_is_well_formed(&log);
     Ok((log, end))
 }
 
@@ -66,7 +66,7 @@ fn result_of(
     let mut tally = Tally::new(alloc, machine.config().processors())?;
     let mut log = Logged::new(alloc, machine);
     let end = observed_run(&mut log, number, budget, &mut tally)?;
-    log_is_well_formed(&log);
+    laws::log_is_well_formed(&log);
     let (machine, _, _) = log.into_parts();
     drained_result(alloc, machine, end, tally)
 }

@@ -5,7 +5,7 @@ ghost use Rattle.std.specs.Prelude.{length};
 ghost use Rattle.schedules.specs.Choices.{choices};
 ghost use Rattle.hunt_command.specs.Schedules.{favoured_processor, schedule};
 
-use schedules::{choice_at, choices_are_of_the_network, first_state, next_state};
+use schedules::{choice_at, first_state, laws, next_state};
 use std::marker::Model;
 use steps::Step;
 
@@ -81,7 +81,7 @@ fn capacity_left(k: u8) -> u32
     ensures count { result ≡ 2 * k * 2 ^ k + 2 ^ k }
     ensures all { result ≡ length (choices k) }
 {
-    choices_are_of_the_network();
+    laws::choices_are_of_the_network();
     let wires = 1_u32 << k;
     2 * u32::from(k) * wires + wires
 }

@@ -7,10 +7,6 @@ ghost use Rattle.trace_commands.specs.TraceReports.{IsReportedRun};
 ghost use Rattle.command_io.specs.Links.{known_input};
 ghost use Rattle.run_command.specs.SweepRuns.{by_sweep, sweep_run};
 
-use elf_image::input_means_one_layout;
-use schedules::runs_have_one_log;
-use trace_commands::steps_have_one_report;
-
 /// The steps of a run, its report and its exit status are a function of the machine's size, the budget and
 /// the bytes of the image's file: the same run comes out each time.
 pub fn runs_have_one_report()
@@ -20,7 +16,7 @@ pub fn runs_have_one_report()
         IsReportedRun (by_sweep (sweep_run c budget (known_input file))) others other another →
         (steps ≡ others) × (text ≡ other) × (status ≡ another) }
 {
-    input_means_one_layout();
-    runs_have_one_log();
-    steps_have_one_report();
+    elf_image::laws::input_means_one_layout();
+    schedules::laws::runs_have_one_log();
+    trace_commands::laws::steps_have_one_report();
 }

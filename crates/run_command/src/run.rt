@@ -13,9 +13,8 @@ use elf_image::ImageError;
 use flat_machine::Config;
 use ghost_map::NewTable;
 use link::LinkRead;
-use machine_lock::{PassState, Run, events_are_listed, stopped_are_shut};
-use machine_log::{Logged, log_is_well_formed};
-use machine_steps::runs_are_serialized;
+use machine_lock::{PassState, Run};
+use machine_log::Logged;
 use processor_threads::{Gate, RunFault, run_threads};
 use schedules::Shuffled;
 use std::alloc::{AllocError, Global};
@@ -93,10 +92,10 @@ fn run_on_threads<N: Run + Send + Sync, G: Gate + Sync, R: Threads + Wait + Sync
     ensures fault { IfErr result IsOfRun }
 {
     let ended = run_threads::<N, Shuffled, G, R>(rt, alloc, room, log, arbiters, gate, budget);
-    log_is_well_formed(&ended.logged);
-    runs_are_serialized();
-    events_are_listed();
-    stopped_are_shut();
+    machine_log::laws::log_is_well_formed(&ended.logged);
+    machine_steps::laws::runs_are_serialized();
+    machine_lock::laws::events_are_listed();
+    machine_lock::laws::stopped_are_shut();
     match ended.fault {
         None => Ok(Finished {
             log: ended.logged,

@@ -15,7 +15,7 @@ use command_io::{Fault, image_of, machine_of, report_outcome};
 use elf_image::ImageError;
 use flat_machine::Config;
 use link::{LinkRead, LinkWrite};
-use machine_log::{Logged, log_is_well_formed};
+use machine_log::{Logged, laws};
 use schedules::{SweepEnd, follow_sweep};
 use std::alloc::Global;
 use std::io::Write;
@@ -101,7 +101,7 @@ fn run_to_log<R: LinkRead>(
     let image = image_of(alloc, file, &config)?;
     let mut log = Logged::new(alloc, machine_of(alloc, image, config)?);
     let ended = run_to_end(&mut log, budget);
-    log_is_well_formed(&log);
+    laws::log_is_well_formed(&log);
     match ended {
         Ok(()) => Ok(log),
         Err(fault) => Err(fault),

@@ -10,10 +10,10 @@ ghost use Rattle.machine_steps.specs.Answers.{answers_of};
 ghost use Rattle.trace_commands.specs.Longest.{AreLongest};
 
 use crate::longest::look;
-use machine_steps::{Machine, answers_go_on, machine_is_well_formed};
-use run_counts::{Counts, Longest, counts_go_on};
+use machine_steps::Machine;
+use run_counts::{Counts, Longest};
 use std::alloc::{AllocError, Global};
-use steps::{Groups, Outcome, Step, groups_go_on};
+use steps::{Groups, Outcome, Step};
 
 /// Takes these steps, and counts what they do. Finds the longest queues and wait buffers of the networks that the
 /// machine passes, where it begins with an empty one.
@@ -31,10 +31,10 @@ pub fn counted(
         AreLongest machine.old steps.now found.1) }
     ensures run { OnOk result (IsRun machine.old steps.now machine.new) }
 {
-    machine_is_well_formed(machine);
-    answers_go_on();
-    groups_go_on();
-    counts_go_on();
+    machine_steps::laws::machine_is_well_formed(machine);
+    machine_steps::laws::answers_go_on();
+    steps::laws::groups_go_on();
+    run_counts::laws::counts_go_on();
     let mut groups = Groups::new(alloc)?;
     let mut counts = Counts::new(alloc)?;
     let mut longest = Longest::none();

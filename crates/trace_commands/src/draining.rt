@@ -11,7 +11,7 @@ use command_io::{Fault, opened};
 use elf_image::Image;
 use flat_machine::Config;
 use machine_log::replay;
-use machine_steps::{Machine, machine_is_well_formed, runs_are_serialized};
+use machine_steps::{Machine, laws};
 use std::alloc::{AllocError, Global};
 use steps::Step;
 
@@ -33,13 +33,13 @@ pub fn drained_steps(
     ensures refused { IfErr result (IsNotTaken config image.now steps.now) }
 {
     let mut machine = opened(alloc, image, config)?;
-    machine_is_well_formed(&machine);
+    laws::machine_is_well_formed(&machine);
     if let Err(stalled) = replay(&mut machine, steps) {
         return Err(Fault::Stalled(stalled.place));
     }
     let mut all = Vec::from_slice(alloc, steps)?;
     push_drain(&mut machine, &mut all)?;
-    runs_are_serialized();
+    laws::runs_are_serialized();
     Ok(all)
 }
 

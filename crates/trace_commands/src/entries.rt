@@ -8,7 +8,7 @@ ghost use Rattle.machine_steps.specs.Runs.{flat_state};
 ghost use Rattle.trace_commands.specs.Taking.{HasTaken};
 
 use flat_machine::{Entry, Poke};
-use machine_steps::{Machine, flat_states_are_read, machine_is_well_formed};
+use machine_steps::{Machine, laws};
 use steps::{Outcome, Step};
 
 /// Takes an entry: a processor's next instruction, whole, or a poke. No reference is open, and no core away.
@@ -30,6 +30,6 @@ pub(crate) fn execute(machine: &mut Machine, entry: Entry) -> Outcome
 fn lawful_alike(machine: &Machine, poke: Poke)
     ensures { is_lawful_poke machine.now.config poke ≡ is_lawful (flat_state machine.now) poke }
 {
-    machine_is_well_formed(machine);
-    flat_states_are_read();
+    laws::machine_is_well_formed(machine);
+    laws::flat_states_are_read();
 }

@@ -19,8 +19,8 @@ use machine_steps::{Machine, flat_pc, flat_registers, flat_shared_words, flat_wo
 use std::alloc::{AllocError, Global};
 use steps::Outcome;
 use trace_lines::{
-    Choice, Reference, lines_go_on, processor_of_poke, push_poke, push_turn, turns_have_lines,
-    word_of_instruction, word_of_poke,
+    Choice, Reference, laws, processor_of_poke, push_poke, push_turn, word_of_instruction,
+    word_of_poke,
 };
 
 /// The lines of these entries that are chosen, in the flat machine that takes one after another. Both machines are that
@@ -41,7 +41,7 @@ pub fn order_text(
     ensures both { OnOk result (AreBoth (flat_run (flat_state before.old) entries.now) before.new after.new) }
     ensures config { OnOk result (before.new.config ≡ before.old.config) }
 {
-    lines_go_on();
+    laws::lines_go_on();
     let mut text = String::new(alloc);
     for (number, entry) in entries.iter().enumerate() {
         push_entry(alloc, &mut text, before, after, number, *entry, choice)?;
@@ -165,7 +165,7 @@ fn word_of_turn(before: &Machine, p: u8, outcome: Outcome) -> Option<u32>
     requires moves { outcome ≡ Outcome.Stalled → ⊥ }
     ensures { result ≡ word_of (flat_state before.now) (entries.Processor p) }
 {
-    turns_have_lines();
+    laws::turns_have_lines();
     let Outcome::Retired(retired) = outcome else {
         return None;
     };

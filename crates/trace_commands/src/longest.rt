@@ -5,7 +5,7 @@ ghost use Rattle.machine_steps.specs.messages.Network.{Net};
 ghost use Rattle.omega_network.specs.Networks.{net_of};
 ghost use Rattle.trace_commands.specs.Longest.{count_of, longest_after, most_of, raised};
 
-use machine_steps::{Machine, machine_is_well_formed};
+use machine_steps::{Machine, laws};
 use omega_network::Network;
 use run_counts::{Held, Longest};
 use steps::Step;
@@ -28,7 +28,7 @@ pub fn look(longest: &mut Longest, machine: &Machine, step: &Step)
 fn raise(longest: &mut Longest, machine: &Machine, held: Held, stage: u8)
     ensures { longest.new ≡ raised machine.now.config.k (net_of machine.now.network) held stage longest.old }
 {
-    machine_is_well_formed(machine);
+    laws::machine_is_well_formed(machine);
     let stages = machine.config().k;
     if stage < stages {
         let before = longest.at(held, stage);

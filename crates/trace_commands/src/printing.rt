@@ -12,7 +12,7 @@ use crate::taking::replay_counted;
 use command_io::{Fault, opened, print};
 use link::LinkWrite;
 use machine_log::Logged;
-use machine_steps::machine_is_well_formed;
+use machine_steps::laws;
 use std::alloc::Global;
 
 /// Writes the trace of a run, where one is asked for, and prints its report: those of a log, once all of it is there.
@@ -63,7 +63,7 @@ fn reported(
 {
     let machine = log.machine();
     let mut again = opened(alloc, machine.image(), machine.config())?;
-    machine_is_well_formed(&again);
+    laws::machine_is_well_formed(&again);
     let tally = replay_counted(alloc, &mut again, log.steps())?;
     Ok(report_with_status(alloc, &again, &tally, consoles)?)
 }

@@ -14,7 +14,7 @@ use command_io::{Fault, opened};
 use elf_image::Image;
 use flat_machine::Config;
 use link::{LinkRead, LinkWrite};
-use machine_steps::machine_is_well_formed;
+use machine_steps::laws;
 use std::alloc::Global;
 use std::io;
 use std::io::Write;
@@ -75,7 +75,7 @@ impl TraceReport for Report {
         steps: &[Step],
     ) -> Result<(String, u8), Fault> {
         let mut machine = opened(alloc, image, config)?;
-        machine_is_well_formed(&machine);
+        laws::machine_is_well_formed(&machine);
         let mut tally = replay_counted(alloc, &mut machine, steps)?;
         drained(&mut machine, &mut tally)?;
         Ok(report_with_status(alloc, &machine, &tally, None)?)

@@ -16,7 +16,7 @@ ghost use Rattle.trace_commands.specs.CountedReplays.{IsReplayCounted};
 
 use crate::states::exit_status;
 use command_io::{Shown, Tally, push_processor, push_shared_word};
-use machine_steps::{Machine, machine_is_well_formed, runs_are_serialized};
+use machine_steps::{Machine, laws};
 use std::alloc::{AllocError, Global};
 
 /// The report of a machine that has taken steps, in which its processors have shown this, and its exit status. The
@@ -41,8 +41,8 @@ pub(crate) fn report_with_status(
         → IsReportOf c image steps (string_bytes done.0) done.1) }
     ensures low { IfOk result (λ done. done.1 ≤ 1) }
 {
-    machine_is_well_formed(machine);
-    runs_are_serialized();
+    laws::machine_is_well_formed(machine);
+    laws::runs_are_serialized();
     let text = report(alloc, machine, tally, consoles)?;
     Ok((text, exit_status(machine)))
 }

@@ -9,7 +9,7 @@ ghost use Rattle.trace_commands.specs.CountedReplays.{IsReplayCounted, IsNotReta
 use crate::tally_in_memory::TallyInMemory;
 use command_io::{Fault, Tally};
 use machine_log::replay_observed;
-use machine_steps::{Machine, machine_is_well_formed};
+use machine_steps::{Machine, laws};
 use std::alloc::{AllocError, Global};
 use steps::Step;
 
@@ -45,7 +45,7 @@ pub fn drained(machine: &mut Machine, tally: &mut Tally) -> Result<(), AllocErro
         IsReplayCounted opening steps machine.old tally.old →
         IsReplayCounted opening (steps ++ drain_steps machine.old) machine.new tally.new) }
 {
-    machine_is_well_formed(machine);
+    laws::machine_is_well_formed(machine);
     machine.drain_observed(tally)?;
     Ok(())
 }

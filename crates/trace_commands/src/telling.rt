@@ -5,10 +5,10 @@ ghost use Rattle.machine_steps.specs.Runs.{IsRun};
 ghost use Rattle.machine_steps.specs.Answers.{answers_of};
 ghost use Rattle.trace_lines.specs.StoryLines.{story_of};
 
-use machine_steps::{Machine, answers_go_on};
+use machine_steps::Machine;
 use std::alloc::{AllocError, Global};
-use steps::{Groups, Step, groups_go_on};
-use trace_lines::{push_line, stories_go_on};
+use steps::{Groups, Step};
+use trace_lines::push_line;
 
 /// Takes these steps, and makes the line of each of what it answers.
 ///
@@ -23,9 +23,9 @@ pub fn story_text(
     ensures story { IfOk result (λ text. string_bytes text ≡ story_of (answers_of machine.old steps.now)) }
     ensures run { OnOk result (IsRun machine.old steps.now machine.new) }
 {
-    answers_go_on();
-    groups_go_on();
-    stories_go_on();
+    machine_steps::laws::answers_go_on();
+    steps::laws::groups_go_on();
+    trace_lines::laws::stories_go_on();
     let mut groups = Groups::new(alloc)?;
     let mut text = String::new(alloc);
     for (number, step) in steps.iter().enumerate() {
