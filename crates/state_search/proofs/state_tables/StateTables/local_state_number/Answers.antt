@@ -29,11 +29,9 @@ bare_on live all a false h bare = λ i low.
     by i (inr here) = subst (IsBare live) (sym (last i here)) bare
 
 pub invariant_of-self-2 : goal.invariant_of-self-2
-invariant_of-self-2 c = (
-  subst (AreBare c.self.inside.live) (sym c.in-Ok-insert_full.ensures.keys)
-      (bare_on c.self.inside.live c.self.inside.local_states.keys c.in-Ok.saved _ c.self.invariant.0 c.in-Ok.ensures.bare),
-  c.self.invariant.1,
-)
+invariant_of-self-2 c =
+    subst (AreBare c.self.inside.live) (sym c.in-Ok-insert_full.ensures.keys)
+    (bare_on c.self.inside.live c.self.inside.local_states.keys c.in-Ok.saved _ c.self.invariant c.in-Ok.ensures.bare)
 
 pub returns-clause-same : goal.returns-clause-same
 returns-clause-same c =

@@ -72,8 +72,8 @@ returns-clause-next g c =
     })
     c.moves_are_of_any.ensures.any c.moves_are_of_what_is_kept.ensures.made c.dead_registers_can_be_forgotten.ensures.forgotten c.requires.live
 
-pub rewritten-requires-clause-known : goal.rewritten-requires-clause-known
-rewritten-requires-clause-known g c =
+pub list_after_write-requires-clause-known : goal.list_after_write-requires-clause-known
+list_after_write-requires-clause-known g c =
     lists_kept c.args.self.now c.state_after_reference.new.self c.args.transition_caches.now.lists c.in_ok-after.ensures.kept c.requires.lists
 
 pub returns-clause-local_states : goal.returns-clause-local_states
