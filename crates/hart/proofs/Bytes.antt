@@ -17,7 +17,7 @@ byte_of (suc (suc zero)) word h = refl
 byte_of (suc (suc (suc zero))) word h = refl
 byte_of (suc (suc (suc (suc n)))) word h = absurd (omega arith)
 
--- A part of a word that lies within its four bytes is the number of its bytes there.
+-- A part that lies within a word's four bytes is the number of its bytes there.
 pub read : PartsAreBytes
 unfolding part_of number_at
 read zero offset word h = omega arith
@@ -64,7 +64,7 @@ one_byte (suc (suc (suc zero))) word value h =
     rw (a, b, d, e) refl
 one_byte (suc (suc (suc (suc n)))) word value h = absurd (omega arith)
 
--- ---- several
+-- ---- several bytes written
 
 nothing : (offset word value : ℕ) → with_part 0 offset word value ≡ word
 unfolding with_part
@@ -74,7 +74,7 @@ nothing offset word value =
     let none : word / 2 ^ (8 * offset) * 2 ^ (8 * offset) + 0 * 2 ^ (8 * offset) ≡ word / 2 ^ (8 * offset) * 2 ^ (8 * offset) = omega arith in
     rw (upto, gone, none) (shr_split word (8 * offset))
 
--- the lowest byte is written first, and then the others
+-- Writing the lowest byte first, and then the others, writes the whole part.
 one_then_rest : (size offset word value : ℕ) →
     with_part size (offset + 1) (with_part 1 offset word value) (value / 256) ≡ with_part (suc size) offset word value
 unfolding with_part
@@ -113,7 +113,7 @@ written (suc size) offset word value h =
 
 -- ---- the word afterwards
 
--- it is below 2^32, as the value of a function whose masks are words
+-- The word with a new part is below 2^32, as the value of a function whose masks are words.
 small : (size offset word value : ℕ) → offset + size ≤ 4 → word < 2 ^ 32 → with_part size offset word value < 2 ^ 32
 unfolding store_phi
 small size offset word value fits h =
@@ -127,14 +127,14 @@ small size offset word value fits h =
     let below : apply (store_phi size offset value) word < 2 ^ 32 = stored_small _ _ word (omega arith) h in
     rw same at below
 
--- a word is the number of its bytes
+-- A word is the number of its bytes.
 number_of_bytes : (word : ℕ) → word < 2 ^ 32 → word ≡ number_at (word_bytes word) 0 4
 unfolding part_of
 number_of_bytes word h =
     let whole : word ≡ word / 1 % 2 ^ 32 = omega arith in
     whole ∙ read 4 0 word (omega arith)
 
--- A word with another number in one of its parts is a word, and has the bytes of that number there.
+-- A word with one part replaced by a number is a word, and has the bytes of that number there.
 pub all_written : NewPartsAreNewBytes
 all_written size offset word value fits h =
     let bytes : word_bytes (with_part size offset word value) ≡ with_number (word_bytes word) offset size value = written size offset word value fits in

@@ -4,7 +4,7 @@ use Rattle.hart.specs.declared.decision.Decision.{Decision}
 use Rattle.hart.specs.declared.decision.Decision.TheVariants.{Local, Refer, Halt, Fault}
 use Rattle.hart.specs.Deciding.{Allows, Decides}
 
--- If a decision is right for a turn, the call that follows the decision fits the turn.
+-- If a decision is right for a turn, the turn fits the call that follows the decision.
 pub allowed : (d : Decision) (t : Turn) → Decides d t → Allows d t
 allowed Local (Retires after retired) d = tt
 allowed Local (Reaches word change after) d = absurd d

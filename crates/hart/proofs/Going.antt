@@ -1,4 +1,4 @@
--- A run of local instructions so far, how it goes on, and how it ends.
+-- A run of local instructions so far, one step further, and at its end.
 use Rattle.std.proofs.Common.{◌≡◌, ℕ, ◌+◌, ◌<◌, List, [], ◌∷◌, ◌++◌, length, Option, Some, None, All}
 use Rattle.std.proofs.Common.{refl, sym, ap, ◌∙◌, subst, append_assoc, append-nil, length-append}
 use Rattle.std.proofs.lemmas.List.Elements.{All-nil, All-cons, All-append}
@@ -20,18 +20,18 @@ all_more : (taken : List Retired) (retired : Retired) → All IsQuiet taken → 
 all_more taken retired quiet silent =
     All-append IsQuiet taken (retired ∷ []) quiet (All-cons IsQuiet retired [] silent (All-nil IsQuiet))
 
--- a run of which no instruction has given the console a byte
+-- A run so far, none of whose instructions has written to the console.
 pub record HasGone (code : List ℕ) (old new : CoreState) (before after : RetirementList) : Type 0 where
-  -- the instructions that it has taken
+  -- the instructions taken so far
   pub taken : List Retired
   pub turns : TakesLocal old.setting code old.state taken new.state
-  -- what the core knows of its machine is as before
+  -- The setting has not changed.
   pub setting : new.setting ≡ old.setting
-  -- The list may have as many retirements as before.
+  -- The list's capacity has not changed.
   pub most : after.most ≡ before.most
-  -- The list has the retirements of these instructions at its end.
+  -- The list has the retirements of these instructions appended.
   pub listed : after.items ≡ before.items ++ taken
-  -- none of the instructions gives the console a byte
+  -- None of the instructions writes to the console.
   pub quiet : All IsQuiet taken
 
 -- A run that has taken no instruction leaves the core and the list as they are.
@@ -86,15 +86,15 @@ module _ (code : List ℕ) (old new now : CoreState) (before after list : Retire
   not_most None e = absurd (cc)
   not_most (Some given) e = absurd (cc)
 
-  -- If the next instruction is taken and gives the console no byte, the run has gone on by it.
+  -- If the next instruction is taken and writes nothing to the console, the run so far extends by it.
   pub gone_on : HasTaken code new now after list None → HasGone code old now before list
   gone_on next = goes_on None next (quiet_by next.retired.out next.ends)
 
-  -- If the next instruction is taken and gives the console no byte, the list has one retirement more.
+  -- If the next instruction is taken and writes nothing to the console, the list has one more retirement.
   pub one_more : HasTaken code new now after list None → length list.items ≡ length after.items + 1
   one_more next = ap (λ (l : RetirementList). length l.items) next.list ∙ length-append after.items (next.retired ∷ [])
 
-  -- If the list has room, and the next instruction ends the run or is not taken, the whole run ends so.
+  -- If the list has room, and the run ends after the next instruction or before it, the whole run ends like this.
   pub ended : (end : LocalEnd) → length after.items < after.most → HasTaken code new now after list (Some end) → HasRunLocally code old now before list end
   ended (Out byte) room next = gives (Some (Out byte)) next byte (out_by byte next.retired.out next.ends)
   ended Most room next = absurd (not_most next.retired.out next.ends)
@@ -111,7 +111,7 @@ module _ (code : List ℕ) (old new now : CoreState) (before after list : Retire
     );
   }
 
--- A run ends if the list is full.
+-- A run whose list is full has ended.
 pub full : (code : List ℕ) (old new : CoreState) (before after : RetirementList) → HasGone code old new before after → length after.items ≡ after.most →
     HasRunLocally code old new before after Most
 full code old new before after gone all =

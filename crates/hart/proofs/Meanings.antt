@@ -63,12 +63,12 @@ pub swap_meaning : (v x : ℕ) → apply (Bits 0 v) x ≡ amo_value amo.Swap x v
 unfolding amo_value
 swap_meaning v x = constant_meaning v x
 
--- A mask of ones, and then an exclusive or with v, mean what AMOXOR makes of a word.
+-- A mask of ones and then an exclusive or with v mean what AMOXOR makes of a word.
 pub xor_meaning : (v x : ℕ) → x < 2 ^ 32 → apply (Bits (2 ^ 32 - 1) v) x ≡ amo_value amo.Xor x v
 unfolding apply amo_value
 xor_meaning v x hx = ap (λ y. bit_xor y v) (kept x hx)
 
--- A mask that clears the bits of v, and then an exclusive or with v, mean what AMOOR makes of a word.
+-- A mask that clears the bits of v and then an exclusive or with v mean what AMOOR makes of a word.
 pub or_meaning : (v x : ℕ) → v < 2 ^ 32 → x < 2 ^ 32 → apply (Bits (2 ^ 32 - 1 - v) v) x ≡ amo_value amo.Or x v
 unfolding apply amo_value
 or_meaning v x hv hx = or_by_xor x v hx hv
@@ -100,7 +100,7 @@ pub maxu_meaning : (v x : ℕ) (r : UnsignedEnds) → r.lo ≡ v → r.hi ≡ 2 
 unfolding apply amo_value
 maxu_meaning v x r low high hx = rw (low, high) (grind arith)
 
--- an AMO makes a word of a word
+-- An AMO maps words to words.
 pub amo_small : (op : AmoOp) (old v : ℕ) → old < 2 ^ 32 → v < 2 ^ 32 → amo_value op old v < 2 ^ 32
 unfolding amo_value plus
 amo_small amo.Add old v h g = omega arith
@@ -122,12 +122,12 @@ store_meaning size offset v x fits h =
     let e = rw whole at (masked (8 * offset) (8 * size) (32 - 8 * size - 8 * offset) x v) in
     rw upto at (e h)
 
--- a mask and a turning of words give a word
+-- A mask and an exclusive or with a word map words to words.
 pub stored_small : (and xor x : ℕ) → xor < 2 ^ 32 → x < 2 ^ 32 → apply (Bits and xor) x < 2 ^ 32
 unfolding apply
 stored_small and xor x h g = xor_lt 32 _ _ (omega (arith, and_le_l x and)) h
 
--- what the code makes of ones, by shifts and masks
+-- The masks that the code computes by shifts are those of the table.
 pub stored : (size offset v : ℕ) → offset + size ≤ 4 →
     Bits (2 ^ 32 - 1 - (2 ^ 32 - 1) / 2 ^ (32 - 8 * size) * 2 ^ (8 * offset) % 2 ^ 32)
     (bit_and v ((2 ^ 32 - 1) / 2 ^ (32 - 8 * size)) * 2 ^ (8 * offset) % 2 ^ 32) ≡ store_phi size offset v

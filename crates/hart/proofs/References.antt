@@ -1,4 +1,4 @@
--- References to shared words: they are aligned, and a whole word is its own part.
+-- References to shared words: they are aligned, and the part of all four bytes is the whole word.
 use Rattle.std.proofs.Common.{◌≡◌, ℕ, ◌+◌, ◌%◌, ◌^◌, ◌<◌, ◌≤◌, ◌∙◌, List, Some, Result, Ok, Err, refl, arith, Bool, true, false, eqb, cond, rules}
 use Rattle.std.specs.Prelude.{not}
 use Rattle.rv_table.specs.declared.insn.Insn.{Insn}
@@ -38,7 +38,7 @@ module _ (code : List ℕ) (p : Processor) (insn : Insn) (size address rd : ℕ)
       let e : eqb (address % size) 0 ≡ true = no_fault (eqb (address % size) 0) _ h in
       search rules
 
-  -- what a reference leaves
+  -- what a reference does after its reply
   leaves : (reply : ℕ) (r : Result Region Fault) → IsReference (accessed code p insn size address rd value change writes r) →
       let old = part_of size (address % 4) reply in
       after_reply (accessed code p insn size address rd value change writes r) reply
@@ -61,7 +61,7 @@ amo_aligned : (s : Setting) (code : List ℕ) (p : Processor) (insn : Insn) (op 
     IsReference (performed s code p insn (does.Amo op rd address value)) → address % 4 ≡ 0
 amo_aligned s code p insn op rd address value h = aligned code p insn 4 address rd (λ old. old) (λ old. amo_value op old value) true s h
 
--- what a change of a whole word makes of it
+-- Changing the part of all four bytes changes the whole word.
 pub whole_change : (change : ℕ → ℕ) (offset x : ℕ) → offset ≡ 0 → x < 2 ^ 32 → change x < 2 ^ 32 → with_part 4 offset x (change (part_of 4 offset x)) ≡ change x
 whole_change change offset x at h small =
     let part : part_of 4 0 x ≡ x = whole_part x h in

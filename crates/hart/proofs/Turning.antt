@@ -19,7 +19,7 @@ set_same [] k x e = absurd (cc)
 set_same (z ∷ zs) zero x e = let same : z ≡ x = cc in ap (λ v. v ∷ zs) (sym same)
 set_same (z ∷ zs) (suc k) x e = ap (λ vs. z ∷ vs) (set_same zs k x e)
 
--- the machine with another processor k
+-- the machine with processor k replaced
 abbrev with_other : FlatState → ℕ → Processor → FlatState
 with_other m k p = record m { processors = slice_set m.processors k p }
 
@@ -36,8 +36,8 @@ module _ (k : ℕ) where
   setting_kept : (m : FlatState) (p : Processor) → setting_of (with_other m k p) k ≡ setting_of m k
   setting_kept m p = ap (λ n. record { number = k; processors = n; shared_words = length m.shared }) (length-set m.processors k p)
 
-  -- Local instructions that processor k takes by itself are its next turns on the flat machine: these leave k as the
-  -- instructions do, change nothing else, and show what retired.
+  -- The local instructions that processor k takes by itself are its next turns on the flat machine: these leave k in
+  -- the same state, change nothing else, and show what retired.
   pub are_turns : (m : FlatState) (p last : Processor) (rs : List Retired) → slice_get m.processors k ≡ Some p →
       TakesLocal (setting_of m k) m.code p rs last →
       (flat_run m (turns_of k (length rs)) ≡ with_other m k last) × (flat_events m (turns_of k (length rs)) ≡ shown_by k rs)

@@ -1,4 +1,4 @@
--- What a decision says of a turn.
+-- What a decision says about a turn.
 use Rattle.std.specs.Prelude.{◌≡◌, ℕ, ◌+◌, ◌%◌, ◌^◌, ◌<◌, ◌≤◌, Option, Some, None}
 use Rattle.phi_algebra.specs.Functions.{apply}
 use Rattle.hart.specs.Table.{load_phi, store_phi, amo_phi}
@@ -21,7 +21,7 @@ use Rattle.hart.specs.declared.decision.Taken.TheVariants as taken
 
 -- ---- turns
 
--- The decision is the turn's kind. A reference names the turn's word, and its phi means what becomes of the word.
+-- The decision has the turn's kind. A reference names the turn's word, and its phi changes the word as the turn does.
 abbrev pub Decides : Decision → Turn → Type 0
 Decides Local (Retires after retired) = Unit {0}
 Decides (Refer word phi shape) (Reaches reached change after) = (word ≡ reached)
@@ -30,20 +30,20 @@ Decides (Halt byte) (Stops cause) = cause ≡ because.Halt byte
 Decides (Fault fault) (Stops cause) = cause ≡ because.Fault fault
 Decides _ _ = ⊥
 
--- the call that may follow a decision: what is local is taken, and a reference retires
+-- The turn is one that may follow the decision: a local turn is taken, and a reference retires.
 abbrev pub Allows : Decision → Turn → Type 0
 Allows Local turn = IsLocal turn
 Allows (Refer word phi shape) turn = IsReference turn
 Allows _ turn = Unit {0}
 
--- what such a turn leaves, once the word before is known
+-- the processor after a reference and what retired, given the word's old value
 abbrev pub after_reply : Turn → (reply : ℕ) → Option (Processor × Retired)
 after_reply (Reaches word change after) reply = Some (after reply)
 after_reply _ reply = None
 
 -- ---- decisions
 
--- A reference is the effect's: its phi is that of the table, and its shape names the operation.
+-- If the decision is a reference, its phi is the table's for the effect, and its shape names the operation.
 abbrev pub IsOfEffect : Decision → Effect → Type 0
 IsOfEffect (Refer word phi kind) (does.Load op rd address) = (phi ≡ load_phi) × (kind ≡ shape.Load op)
 IsOfEffect (Refer word phi kind) (does.Store op address value) = (phi ≡ store_phi (store_size op) (address % 4) value)
@@ -52,14 +52,14 @@ IsOfEffect (Refer word phi kind) (does.Amo op rd address value) = (phi ≡ amo_p
 IsOfEffect (Refer word phi kind) _ = ⊥
 IsOfEffect _ _ = Unit {0}
 
--- a reference is to a word that there is
+-- A reference names a shared word of the machine.
 abbrev pub NamesWord : Decision → Setting → Type 0
 NamesWord (Refer word phi shape) s = word < s.shared_words
 NamesWord _ s = Unit {0}
 
 -- ---- turns that a core takes
 
--- What came of a turn, and the processor before and after: it has taken what is local whole, and of all else nothing.
+-- The processor has taken a local turn as a whole, and has not begun any other; the result names the turn.
 abbrev pub IsTaken : Taken → (old new : Processor) → Turn → Type 0
 IsTaken (taken.Retired retired) old new (Retires after fact) = (new ≡ after) × (retired ≡ fact)
 IsTaken (taken.Refers word phi) old new (Reaches reached change after) = (new ≡ old) × (word ≡ reached)
@@ -68,7 +68,7 @@ IsTaken (taken.Halts byte) old new (Stops cause) = (new ≡ old) × (cause ≡ b
 IsTaken (taken.Faults fault) old new (Stops cause) = (new ≡ old) × (cause ≡ because.Fault fault)
 IsTaken _ old new _ = ⊥
 
--- a reference has the phi of the table
+-- A reference has the table's phi for the effect.
 abbrev pub HasPhiOf : Taken → Effect → Type 0
 HasPhiOf (taken.Refers word phi) (does.Load op rd address) = phi ≡ load_phi
 HasPhiOf (taken.Refers word phi) (does.Store op address value) = phi ≡ store_phi (store_size op) (address % 4) value
@@ -78,18 +78,18 @@ HasPhiOf _ _ = Unit {0}
 
 -- ---- regions
 
--- the bytes of an access lie in its region, and in one word where that is shared
+-- The bytes of an access lie within its region, and within one word if the region is shared memory.
 abbrev pub IsInside : (size address : ℕ) → Region → Type 0
 IsInside size address (region.Shared word) = address % 4 + size ≤ 4
 IsInside size address (region.Local place) = place + size ≤ 2 ^ 16
 IsInside size address (region.Code place) = place + size ≤ 2 ^ 16
 
--- a shared word is one that there is
+-- A shared word is one of the machine's.
 abbrev pub IsThere : Setting → Region → Type 0
 IsThere s (region.Shared word) = word < s.shared_words
 IsThere s _ = Unit {0}
 
--- code is not written
+-- The region is not code.
 abbrev pub IsWritable : Region → Type 0
 IsWritable (region.Code place) = ⊥
 IsWritable _ = Unit {0}

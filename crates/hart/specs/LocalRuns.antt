@@ -15,36 +15,36 @@ use Rattle.hart.specs.Deciding.{IsLocal}
 use Rattle.hart.specs.declared.run.LocalEnd.{LocalEnd}
 use Rattle.hart.specs.declared.run.LocalEnd.TheVariants.{Out, Most, Other}
 
--- instructions that retired, and how many there may be
+-- instructions that retired, and the most that the list may hold
 pub record RetirementList : Type 0 where
   pub most : ℕ
   pub items : List Retired
 
 -- ---- local instructions
 
--- The processor runs, and its next turn is a local instruction, which retires like this and leaves it so.
+-- The processor runs, and its next turn is a local instruction with this retirement, after which it is `after`.
 pub record TakesOne (s : Setting) (code : List ℕ) (before : Processor) (retired : Retired)
     (after : Processor) : Type 0 where
   pub runs : is_running before.status ≡ true
   pub turn : turn_of s code before ≡ Retires after retired
 
--- The processor takes local instructions, which retire like these, one after another.
+-- The processor takes local instructions one after another, with these retirements.
 abbrev pub TakesLocal : Setting → (code : List ℕ) → (before : Processor) → List Retired → (after : Processor) → Type 0
 TakesLocal s code before [] after = after ≡ before
 TakesLocal s code before (retired ∷ later) after = (next : Processor) × TakesOne s code before retired next
     × TakesLocal s code next later after
 
--- It does not run, or what it does next is no local instruction.
+-- The processor is not running, or its next turn is not local.
 abbrev pub TakesNoMore : Setting → (code : List ℕ) → Processor → Type 0
 TakesNoMore s code p = is_running p.status ≡ true → IsLocal (turn_of s code p) → ⊥
 
--- the instruction gives the console nothing
+-- The instruction writes nothing to the console.
 abbrev pub IsQuiet : Retired → Type 0
 IsQuiet retired = retired.out ≡ None
 
 -- ---- a run
 
--- The last of these instructions, and no other, gave the byte to the console.
+-- The last of these instructions, and no other, wrote to the console: it wrote this byte.
 pub record GivesAtLast (taken : List Retired) (byte : ℕ) : Type 0 where
   pub earlier : List Retired
   pub last : Retired
@@ -52,14 +52,14 @@ pub record GivesAtLast (taken : List Retired) (byte : ℕ) : Type 0 where
   pub quiet : All IsQuiet earlier
   pub gives : last.out ≡ Some byte
 
--- Where a run ends that has taken these instructions, and leaves the processor and the list like this. A byte for the
--- console ends it first, then the list that is full.
+-- Why a run ends that has taken these instructions, with this processor and this list at its end. A byte for the
+-- console takes precedence over a full list.
 abbrev pub EndsAt : LocalEnd → Setting → (code : List ℕ) → (taken : List Retired) → Processor → RetirementList → Type 0
 EndsAt (Out byte) s code taken p list = GivesAtLast taken byte
 EndsAt Most s code taken p list = All IsQuiet taken × (length list.items ≡ list.most)
 EndsAt Other s code taken p list = All IsQuiet taken × (length list.items < list.most) × TakesNoMore s code p
 
--- A run of local instructions, each of which was listed.
+-- A run takes local instructions and lists each of them, up to the end that it reports.
 pub record HasRunLocally (code : List ℕ) (old new : CoreState) (before after : RetirementList)
     (end : LocalEnd) : Type 0 where
   pub taken : List Retired
@@ -69,13 +69,13 @@ pub record HasRunLocally (code : List ℕ) (old new : CoreState) (before after :
   pub listed : after.items ≡ before.items ++ taken
   pub ends : EndsAt end old.setting code taken new.state after
 
--- ---- one instruction of it
+-- ---- one instruction of a run
 
 abbrev pub end_of : Option ℕ → Option LocalEnd
 end_of (Some byte) = Some (Out byte)
 end_of None = None
 
--- The next instruction is taken and listed.
+-- The run takes and lists the next instruction.
 pub record IsListed (code : List ℕ) (old new : CoreState) (before after : RetirementList)
     (end : Option LocalEnd) : Type 0 where
   pub retired : Retired
@@ -84,7 +84,7 @@ pub record IsListed (code : List ℕ) (old new : CoreState) (before after : Reti
   pub list : after ≡ record before { items = before.items ++ retired ∷ [] }
   pub ends : end ≡ end_of retired.out
 
--- It is, or the run ends before it.
+-- The run takes and lists the next instruction, or ends before it.
 abbrev pub HasTaken : (code : List ℕ) → (old new : CoreState) → (before after : RetirementList) → Option LocalEnd →
     Type 0
 HasTaken code old new before after (Some Other) = (new ≡ old) × (after ≡ before)
@@ -93,7 +93,7 @@ HasTaken code old new before after end = IsListed code old new before after end
 
 -- ---- the law
 
--- this many turns of processor k
+-- `count` turns of processor k
 abbrev pub turns_of : (k count : ℕ) → List Entry
 turns_of k count = replicate count (entry.Processor k)
 
@@ -101,8 +101,8 @@ turns_of k count = replicate count (entry.Processor k)
 abbrev pub shown_by : ℕ → List Retired → List (ℕ × Event)
 shown_by k taken = map (λ (retired : Retired). (k, event.Retired retired)) taken
 
--- Local instructions that a processor takes by itself are its next turns on the flat machine: these leave it so,
--- change nothing else, and show what retired.
+-- The local instructions that a processor takes by itself are its next turns on the flat machine: these leave the
+-- processor in the same state, change nothing else, and show what retired.
 abbrev pub LocalRunsAreTurns : Type 0
 LocalRunsAreTurns = (m : FlatState) (k : ℕ) (before after : Processor) (taken : List Retired) →
     slice_get m.processors k ≡ Some before →

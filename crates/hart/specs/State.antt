@@ -1,4 +1,4 @@
--- What a core is seen as.
+-- The model of a core.
 use Rattle.std.specs.Prelude.{◌≡◌, ℕ, List, replicate}
 use Rattle.flat_machine.specs.declared.setting.Setting.{Setting}
 use Rattle.flat_machine.specs.declared.event.Status.{Status}
@@ -18,18 +18,18 @@ pub record ContextState : Type 0 where
   pub registers : List ℕ
   pub status : Status
 
--- the processor that has a local memory besides
+-- the processor with this context and this local memory
 abbrev pub processor_of : ContextState → (local : List ℕ) → Processor
 processor_of c local = record { pc = c.pc; registers = c.registers; local = local; status = c.status }
 
--- a core that has done nothing: its registers are 0, and its local memory begins with some bytes
+-- a core that has taken no turn: its registers are 0, and its local memory begins with the given bytes
 abbrev pub new_core : Setting → (pc : ℕ) → (local : List ℕ) → CoreState
 new_core setting pc local = record {
   setting = setting;
   state = record { pc = pc; registers = replicate 32 0; local = region_of_bytes local; status = Running };
 }
 
--- Two cores know the same of their machine, stand at the same instruction and do the same.
+-- Two cores have the same setting, the same pc and the same status.
 pub record IsStandingAs (a b : CoreState) : Type 0 where
   pub setting : a.setting ≡ b.setting
   pub pc : a.state.pc ≡ b.state.pc

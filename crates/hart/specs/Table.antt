@@ -1,4 +1,4 @@
--- The function of each instruction that refers to a shared word: of the word before, it is the word after.
+-- The function of each instruction that refers to a shared word: it maps the old word to the new one.
 --
 -- Source: the manual's "Load and Store Instructions" and "Atomic Memory Operations". `v` is x[rs2].
 use Rattle.std.specs.Prelude.{ℕ, ◌-◌, ◌*◌, ◌%◌, ◌^◌, pos, negsuc}
@@ -12,7 +12,7 @@ use Rattle.phi_algebra.specs.declared.phi.Phi.TheVariants.{Add, Bits, Clamp, Cla
 unfoldable pub load_phi : Phi
 load_phi = Bits (2 ^ 32 - 1) 0
 
--- a store of `size` bytes: ones outside the bytes stored, and the low bytes of the value moved there
+-- A store of `size` bytes keeps the bits outside the bytes stored, and puts the low bytes of the value there.
 unfoldable pub store_phi : (size offset v : ℕ) → Phi
 store_phi size offset v =
     Bits (2 ^ 32 - 1 - (2 ^ (8 * size) - 1) * 2 ^ (8 * offset)) (v % 2 ^ (8 * size) * 2 ^ (8 * offset))

@@ -14,8 +14,8 @@ use flat_machine::{Cause, Retired, Setting, Status};
 use rv_table::{Insn, Register};
 use std::marker::Model;
 
-/// A processor's registers, its `pc` and its status, and what it knows of its machine. What its next turn is depends on
-/// nothing else.
+/// A processor's registers, its `pc` and its status, and what it knows of its machine. The kind of its next turn
+/// depends on nothing else.
 #[derive(Drop)]
 pub(crate) struct Context {
     setting: Setting,
@@ -41,7 +41,7 @@ impl Model for Context {
 }
 
 impl Context {
-    /// A processor that runs from `pc`, with every register 0.
+    /// A running processor at `pc`, with every register 0.
     pub(crate) fn new(setting: Setting, pc: u32) -> Self
         requires words { setting.shared_words ≤ 262144 }
         requires aligned { pc % 4 ≡ 0 }
@@ -55,7 +55,7 @@ impl Context {
         }
     }
 
-    /// An equal one.
+    /// Returns an equal context.
     pub(crate) fn copy(&self) -> Self
         ensures { result ≡ self.now }
     {
@@ -67,7 +67,7 @@ impl Context {
         }
     }
 
-    /// Makes it equal to another.
+    /// Makes this context equal to another.
     pub(crate) fn copy_from(&mut self, other: &Self)
         ensures { self.new ≡ other.now }
     {
@@ -77,7 +77,7 @@ impl Context {
         self.status = other.status;
     }
 
-    /// Whether both are equal.
+    /// Returns whether both are equal.
     pub(crate) fn equals(&self, other: &Self) -> bool
         ensures { IsTrue result ↔ (self.now ≡ other.now) }
     {
@@ -128,7 +128,7 @@ impl Context {
         }
     }
 
-    /// Writes a register, and goes on elsewhere.
+    /// Writes a register, and sets the `pc` to `target`.
     #[tactic(auto, unfolding(flat_machine::specs::Effects::with_register))]
     pub(crate) fn go(&mut self, insn: Insn, rd: Register, value: u32, target: u32) -> Retired
         requires { target % 4 ≡ 0 }
@@ -153,7 +153,7 @@ impl Context {
         }
     }
 
-    /// Goes on elsewhere, at an address divisible by 4.
+    /// Sets the `pc`, to an address divisible by 4.
     pub(crate) fn set_pc(&mut self, value: u32)
         requires { value % 4 ≡ 0 }
         ensures { self.new ≡ record self.old { pc = value } }

@@ -15,7 +15,7 @@ pub enum Shape {
 /// What a processor's next turn is.
 #[derive(Clone, Copy, Debug, PartialEq, Eq, Drop)]
 pub enum Decision {
-    /// An instruction that needs nothing but what the core has.
+    /// An instruction that needs only the core itself.
     Local,
     /// An instruction that refers to a shared word.
     Refer {
@@ -28,16 +28,16 @@ pub enum Decision {
     },
     /// An environment call that halts the processor, with this byte.
     Halt(u8),
-    /// An instruction that is not carried out, or none that can be fetched.
+    /// The instruction faults, or none can be fetched.
     Fault(Fault),
 }
 
-/// What a turn came to that a core took as far as it can alone.
+/// How far a core got with a turn on its own.
 #[derive(Clone, Copy, Debug, PartialEq, Eq, Drop)]
 pub enum Taken {
-    /// The instruction is done.
+    /// The instruction retired.
     Retired(Retired),
-    /// The instruction refers to a shared word, and nothing is done yet.
+    /// The instruction refers to a shared word. Nothing is done yet.
     Refers {
         /// The word's number, from 0, below the number of shared words.
         word: u32,
@@ -46,6 +46,6 @@ pub enum Taken {
     },
     /// An environment call that halts the processor, with this byte. Nothing is done yet.
     Halts(u8),
-    /// An instruction that is not carried out, or none that can be fetched. Nothing is done yet.
+    /// The instruction faults, or none can be fetched. Nothing is done yet.
     Faults(Fault),
 }

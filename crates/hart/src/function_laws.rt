@@ -1,8 +1,8 @@
-//! Laws of the functions of instructions: each is the contract of a function that does nothing.
+//! Laws of the functions of instructions. Each is the contract of a function that does nothing.
 
 ghost use Rattle.hart.specs.Bytes.{NewPartsAreNewBytes, PartsAreBytes};
 
-/// The parts of a word, by division, are its bytes as they stand in memory, the lowest first.
+/// The parts of a word that division gives are its bytes in memory, the lowest first.
 pub fn parts_are_bytes()
     ensures read { PartsAreBytes }
     ensures written { NewPartsAreNewBytes }

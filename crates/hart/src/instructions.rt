@@ -48,7 +48,7 @@ pub fn store_word(value: u32) -> Phi
     Phi::constant(value)
 }
 
-/// The store of this operation of `value` at the byte `offset` of the word.
+/// The given store of `value` at the byte `offset` of the word.
 pub fn store(op: StoreOp, offset: u32, value: u32) -> Phi
     requires { offset + store_size op ≤ 4 }
     ensures table { result ≡ store_phi (store_size op) offset value }
@@ -88,7 +88,7 @@ pub fn amo_xor(value: u32) -> Phi
     bits(u32::MAX, value)
 }
 
-/// AMOOR of `value`: its ones are cleared and then turned.
+/// AMOOR of `value`: it clears the bits of `value`, and then flips them.
 #[tactic(auto, using(crate::proofs::Meanings::or_meaning), unfolding(crate::specs::Table::amo_phi))]
 pub fn amo_or(value: u32) -> Phi
     ensures table { result ≡ amo_phi amo.Or value }
@@ -142,7 +142,7 @@ pub fn amo_maxu(value: u32) -> Phi
     Phi::ClampU(UnsignedRange::new(value, u32::MAX))
 }
 
-/// The AMO of this operation with `value`. What it makes of a word is a word again.
+/// The given AMO with `value`. Its result is again a 32-bit word.
 #[tactic(auto, using(crate::proofs::Meanings::amo_small))]
 pub fn amo(op: AmoOp, value: u32) -> Phi
     ensures table { result ≡ amo_phi op value }
@@ -162,7 +162,7 @@ pub fn amo(op: AmoOp, value: u32) -> Phi
     }
 }
 
-/// The function that keeps the ones of `and` and then turns the ones of `xor`.
+/// The function that keeps the bits set in `and`, and then flips those set in `xor`.
 fn bits(and: u32, xor: u32) -> Phi
     ensures { result ≡ Bits and xor }
 {

@@ -1,4 +1,4 @@
-//! What holds of this crate's values: each is the contract of a function that does nothing.
+//! What holds of this crate's values. Each law is the contract of a function that does nothing.
 
 pub use crate::function_laws::parts_are_bytes;
 pub use crate::processor::core_has_registers;

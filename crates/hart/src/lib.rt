@@ -1,24 +1,23 @@
 //! One processor's core: its registers, its local memory, and what its next instruction does.
 //!
-//! [`Core::decide`] says what the next turn is. [`Core::take_local`] takes a turn that needs only what the core has. A
-//! turn that acts on a shared word is a [`Decision::Refer`]: the word's number, and the function that its value goes
-//! through. Whoever has the word applies the function, and [`Core::retire`] takes the value that the word had before;
-//! between the two nothing else of the core changes. [`Core::stop`] records a turn that stops the processor.
-//! [`Core::take`] decides and takes in one call. What a turn does is the flat machine's definition (`flat_machine`,
-//! `specs/Turns.antt`).
+//! [`Core::decide`] says what the next turn is. [`Core::take_local`] takes a turn that needs only the core itself. A
+//! turn that acts on a shared word is a [`Decision::Refer`]: the word's number, and the function to apply to its value.
+//! Whoever has the word applies the function, and then [`Core::retire`] takes the word's old value. The core does not
+//! change in between. [`Core::stop`] records why the processor stopped. [`Core::take`] decides and takes in one call.
+//! The flat machine defines what a turn does (`flat_machine`, `specs/Turns.antt`).
 //!
-//! `instructions` has the function of each load, store and AMO of a shared word: fetch-and-phi. `specs/Table.antt`
-//! says it as a table.
+//! `instructions` gives the function of each load, store and AMO of a shared word: fetch-and-phi. `specs/Table.antt`
+//! is the same as a table.
 //!
-//! [`run_local`] takes many local instructions with a core that is away from its machine, and lists what retired, in
-//! room that was made before ([`Retirements`]). That these are the turns that the flat machine takes is a law
+//! [`run_local`] runs many local instructions on a core that is away from its machine. It lists what retired in a
+//! buffer allocated beforehand ([`Retirements`]). A law shows that these are turns of the flat machine
 //! ([`local_runs_are_turns`]).
 //!
 //! [`Core::save`] saves a core in as much memory as it needs ([`SavedCore`]). A core itself has room for all of its
 //! local memory.
 //!
-//! A core holds no word of shared memory. Only [`Core::new`], [`Core::copy`], [`Core::save`], [`SavedCore::restore`]
-//! and [`Retirements::new`] take memory.
+//! A core holds no shared word. Only [`Core::new`], [`Core::copy`], [`Core::save`], [`SavedCore::restore`] and
+//! [`Retirements::new`] allocate memory.
 //!
 //! Source: The RISC-V Instruction Set Manual, Volume I (Unprivileged ISA), "Load and Store Instructions" and "Atomic
 //! Memory Operations".

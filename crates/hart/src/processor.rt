@@ -1,4 +1,4 @@
-//! A core, and what can be read of it and written to it from outside.
+//! A core, and what can be read and written from outside.
 
 ghost use Rattle.std.specs.Prelude.{◌≡◌, ◌↔◌, ◌<◌, ◌≤◌, ◌^◌, ◌%◌, Ok, true, length, IfOk, IsTrue};
 ghost use Rattle.flat_machine.specs.Effects.{effect_of};
@@ -38,8 +38,7 @@ impl Model for Core {
 }
 
 impl Core {
-    /// A core that runs from `pc`, with every register 0. Its local memory begins with the bytes
-    /// given, and is zero after them.
+    /// A running core at `pc`, with every register 0. Its local memory begins with the given bytes; the rest is zero.
     pub fn new(alloc: Global, setting: Setting, pc: u32, local: &[u8]) -> Result<Self, AllocError>
         requires words { setting.shared_words ≤ 262144 }
         requires aligned { pc % 4 ≡ 0 }
@@ -52,7 +51,7 @@ impl Core {
         })
     }
 
-    /// A core that is equal to this one.
+    /// Returns a core equal to this one.
     pub fn copy(&self) -> Result<Self, AllocError>
         ensures { IfOk result (λ core. core ≡ self.now) }
     {
@@ -62,7 +61,7 @@ impl Core {
         })
     }
 
-    /// Makes the core equal to another. No memory is taken.
+    /// Makes this core equal to another, without allocating memory.
     pub fn copy_from(&mut self, other: &Self)
         ensures { self.new ≡ other.now }
     {
@@ -77,21 +76,21 @@ impl Core {
         Ok(SavedCore::new(self.context.copy(), SavedLocal::new(&self.local)?))
     }
 
-    /// The core that has these parts.
+    /// The core with this context and this local memory.
     pub(crate) fn of_parts(context: Context, local: Local) -> Self
         ensures { result ≡ record { setting = context.setting; state = processor_of context local } }
     {
         Core { context, local }
     }
 
-    /// Whether both are equal.
+    /// Returns whether both are equal.
     pub fn equals(&self, other: &Self) -> bool
         ensures { IsTrue result ↔ (self.now ≡ other.now) }
     {
         self.context.equals(&other.context) && self.local.equals(&other.local)
     }
 
-    /// Whether both know the same of their machine, stand at the same instruction and do the same.
+    /// Returns whether both have the same setting, the same `pc` and the same status.
     pub fn stands_as(&self, other: &Self) -> bool
         ensures { IsTrue result ↔ IsStandingAs self.now other.now }
     {
@@ -100,8 +99,8 @@ impl Core {
             && self.status() == other.status()
     }
 
-    /// What the next turn of the processor is, where it runs. One that is local may be taken ([`Core::take_local`]),
-    /// and a reference may retire ([`Core::retire`]).
+    /// What the processor's next turn is if it runs. A local turn may then be taken ([`Core::take_local`]), and a
+    /// reference may retire ([`Core::retire`]).
     pub fn decide(&self, code: &Code) -> Decision
         ensures turn { Decides result (turn_of self.now.setting code.now self.now.state) }
         ensures table { (i : Insn) → fetched code.now self.now.state.pc ≡ Ok i
@@ -145,7 +144,7 @@ impl Core {
     ///
     /// # Errors
     ///
-    /// [`Fault::NoRegion`] where the address is outside local memory.
+    /// [`Fault::NoRegion`] if the address is outside local memory.
     pub fn byte(&self, address: u32) -> Result<u8, Fault>
         ensures { result ≡ load_of self.now.state.local 1 address (in_local address) }
     {
@@ -163,7 +162,7 @@ impl Core {
         self.context.set_register(register, value);
     }
 
-    /// Goes on elsewhere, at an address divisible by 4.
+    /// Sets the `pc` from outside, to an address divisible by 4.
     pub fn set_pc(&mut self, value: u32)
         requires { value % 4 ≡ 0 }
         ensures { self.new ≡ record self.old { state = with_poked_register PC value self.old.state } }
@@ -181,7 +180,7 @@ impl Core {
             .set_number(address % REGION_BYTES, Size::Byte, u32::from(value));
     }
 
-    /// Sets the number that the processor reads as its own, below 64.
+    /// Sets the number, below 64, that the processor reads as its own.
     pub fn set_number(&mut self, number: u8)
         ensures { self.new ≡ record self.old { setting = record self.old.setting { number = number } } }
     {
@@ -196,7 +195,7 @@ impl Core {
     }
 }
 
-/// A core has 32 registers: each proof about one may cite it, at the cost of nothing.
+/// A core has 32 registers. Proofs can cite this at no run-time cost.
 pub fn core_has_registers(core: &Core)
     ensures { length core.now.state.registers ≡ 32 }
 {

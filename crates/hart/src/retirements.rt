@@ -1,4 +1,4 @@
-//! What local instructions retired.
+//! The list of the instructions that a local run retired.
 
 ghost use Rattle.std.specs.Prelude.{◌≡◌, ◌<◌, ◌≤◌, [], ◌∷◌, ◌++◌, length, IfOk};
 
@@ -6,7 +6,7 @@ use flat_machine::Retired;
 use std::alloc::{AllocError, Global};
 use std::marker::Model;
 
-/// Instructions that retired, in order, with room for a number of them that is settled when the list is made.
+/// Instructions that retired, in order. The list's capacity is fixed when it is made.
 #[derive(Drop)]
 pub struct Retirements {
     items: Vec<Retired>,
@@ -26,11 +26,11 @@ impl Model for Retirements {
 }
 
 impl Retirements {
-    /// A list with nothing in it, and with room for `most` instructions.
+    /// An empty list with room for `most` instructions.
     ///
     /// # Errors
     ///
-    /// [`AllocError`] where there is no memory for them.
+    /// [`AllocError`] if out of memory.
     pub fn new(alloc: Global, most: u32) -> Result<Self, AllocError>
         ensures { IfOk result (λ list. list ≡ record { most = most; items = [] }) }
     {
@@ -39,7 +39,7 @@ impl Retirements {
         Ok(Retirements { items, most })
     }
 
-    /// How many there are.
+    /// How many instructions the list has.
     pub fn len(&self) -> usize
         ensures value { result ≡ length self.now.items }
         ensures few { result ≤ self.now.most }
@@ -47,7 +47,7 @@ impl Retirements {
         self.items.len()
     }
 
-    /// How many there may be.
+    /// How many instructions the list has room for.
     pub fn most(&self) -> usize
         ensures { result ≡ self.now.most }
     {
@@ -61,7 +61,7 @@ impl Retirements {
         self.items.as_slice()
     }
 
-    /// Appends an instruction. There is room for it.
+    /// Appends an instruction to a list that is not full.
     pub(crate) fn push(&mut self, retired: &Retired)
         requires room { length self.old.items < self.old.most }
         ensures { self.new ≡ record self.old { items = self.old.items ++ retired.now ∷ [] } }
@@ -81,7 +81,7 @@ impl Retirements {
     }
 }
 
-/// What holds of every list: each proof about one may cite it, at the cost of nothing.
+/// No list has more instructions than it has room for. Proofs can cite this at no run-time cost.
 pub fn retirements_are_few(list: &Retirements)
     ensures { length list.now.items ≤ list.now.most }
 {

@@ -12,18 +12,16 @@ use local_memory::Code;
 /// Why a run of local instructions ended.
 #[derive(Clone, Copy, Debug, PartialEq, Eq, Drop)]
 pub enum LocalEnd {
-    /// Its last instruction has given this byte to the console.
+    /// Its last instruction wrote this byte to the console.
     Out(u8),
-    /// There is room for no more retirements.
+    /// The list of retirements is full.
     Most,
-    /// The core does not run, or what it would do next is no local instruction: a reference to a shared word, or a
-    /// stop.
+    /// The core is not running, or its next turn is not local: it is a reference to a shared word, or a stop.
     Other,
 }
 
-/// Takes instructions of a core one after another, and lists what each retired, up to the first that gives the console
-/// a byte. It ends before one that is not local, and where the list is full. Nothing else of the core changes, and no
-/// memory is taken.
+/// Runs a core's local instructions one after another, and lists what each retired. The run ends after the first that
+/// writes a byte to the console, before the first that is not local, and when the list is full. It allocates no memory.
 pub fn run_local(core: &mut Core, code: &Code, retirements: &mut Retirements) -> LocalEnd
     ensures { HasRunLocally code.now core.old core.new retirements.old retirements.new result }
 {
@@ -35,8 +33,8 @@ pub fn run_local(core: &mut Core, code: &Code, retirements: &mut Retirements) ->
     LocalEnd::Most
 }
 
-/// Takes the next instruction where it is local, and lists it. Answers how the run ends with it or before it; None
-/// where it goes on.
+/// Takes the next instruction if it is local, and lists it. Returns how the run ends, before or after this instruction,
+/// or None if the run goes on.
 #[inline(always)]
 fn take_next(core: &mut Core, code: &Code, retirements: &mut Retirements) -> Option<LocalEnd>
     requires room { length retirements.old.items < retirements.old.most }
@@ -54,7 +52,7 @@ fn take_next(core: &mut Core, code: &Code, retirements: &mut Retirements) -> Opt
     }
 }
 
-/// How a run ends with this instruction: by the byte that it gave to the console, if it gave one.
+/// How a run ends after this instruction: with the byte that it wrote to the console, if any.
 fn end_of(retired: &Retired) -> Option<LocalEnd>
     ensures { result ≡ end_of retired.now.out }
 {

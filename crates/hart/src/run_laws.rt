@@ -2,8 +2,8 @@
 
 ghost use Rattle.hart.specs.LocalRuns.{LocalRunsAreTurns};
 
-/// Local instructions that a processor takes by itself are its next turns on the flat machine, which
-/// change nothing else and show what retired.
+/// The local instructions that a processor takes by itself are its next turns on the flat machine. These turns change
+/// nothing else, and show what retired.
 pub fn local_runs_are_turns()
     ensures turns { LocalRunsAreTurns }
 {}

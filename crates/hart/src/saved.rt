@@ -1,4 +1,4 @@
-//! A core that is saved.
+//! A saved core.
 
 ghost use Rattle.std.specs.Prelude.{◌≡◌, ◌↔◌, Ok, length, IfOk, IsTrue};
 ghost use Rattle.flat_machine.specs.Effects.{effect_of};
@@ -15,8 +15,8 @@ use local_memory::{Code, SavedLocal};
 use std::alloc::AllocError;
 use std::marker::Model;
 
-/// A core that is saved ([`Core::save`]). It takes no turns, and only as much memory as its local memory has bytes up
-/// to the last one that is not zero.
+/// A saved core ([`Core::save`]). It takes no turns. Of its local memory it stores only the bytes up to the last one
+/// that is not zero.
 #[derive(Drop)]
 pub struct SavedCore {
     context: Context,
@@ -32,28 +32,28 @@ impl Model for SavedCore {
 }
 
 impl SavedCore {
-    /// The saved core that has these parts.
+    /// The saved core with this context and this local memory.
     pub(crate) fn new(context: Context, local: SavedLocal) -> Self
         ensures { result ≡ record { setting = context.setting; state = processor_of context local } }
     {
         SavedCore { context, local }
     }
 
-    /// The core that was saved.
+    /// Returns the core that was saved.
     pub fn restore(&self) -> Result<Core, AllocError>
         ensures { IfOk result (λ core. core ≡ self.now) }
     {
         Ok(Core::of_parts(self.context.copy(), self.local.restore()?))
     }
 
-    /// Whether both are equal.
+    /// Returns whether both are equal.
     pub fn equals(&self, other: &Self) -> bool
         ensures { IsTrue result ↔ (self.now ≡ other.now) }
     {
         self.context.equals(&other.context) && self.local.equals(&other.local)
     }
 
-    /// What the next turn of the processor is, where it runs, as of [`Core::decide`].
+    /// What the processor's next turn is if it runs, as [`Core::decide`] says it.
     pub fn decide(&self, code: &Code) -> Decision
         ensures turn { Decides result (turn_of self.now.setting code.now self.now.state) }
         ensures table { (i : Insn) → fetched code.now self.now.state.pc ≡ Ok i

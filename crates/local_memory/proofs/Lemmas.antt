@@ -1,4 +1,4 @@
 -- The lemmas that crates above may cite: they name no other file of these proofs.
 
--- A byte of a region, and of the zeros after its bytes.
+-- Reading a byte of padded bytes, and of zeros.
 pub use Rattle.local_memory.proofs.Padded.{byte_of_padded, zero_of_replicate}

@@ -1,4 +1,4 @@
--- Bytes of a region, and the zeros after them: the region's bytes one by one, written over or after, and when two are the same.
+-- Bytes padded with zeros to a region: how they are read and written, and when two such regions are equal.
 use Rattle.std.proofs.Common.{◌≡◌, ℕ, zero, suc, ◌+◌, ◌-◌, ◌<◌, ◌≤◌, List, [], ◌∷◌, ◌++◌, length, append_assoc, take}
 use Rattle.std.proofs.Common.{add-one, refl, sym, ap, ◌∙◌, arith, inl, inr}
 use Rattle.std.specs.Prelude.{replicate, slice_index, slice_set}
@@ -11,13 +11,13 @@ use Rattle.local_memory.specs.Accesses.{padded}
 
 -- ---- one byte
 
--- What is read of a list of zeros, also past its end, is 0.
+-- Every read from a list of zeros gives 0, even past its end.
 pub zero_of_replicate : (n i : ℕ) → slice_index (replicate n 0) i ≡ 0
 zero_of_replicate zero i = refl
 zero_of_replicate (suc n) zero = refl
 zero_of_replicate (suc n) (suc i) = zero_of_replicate n i
 
--- Zeros at the end of a list of bytes change no byte that is read.
+-- Padding a list of bytes with zeros changes no byte that is read.
 pub byte_of_padded : (n : ℕ) (bytes : List ℕ) (i : ℕ) → slice_index (padded n bytes) i ≡ slice_index bytes i
 unfolding padded
 byte_of_padded n bytes i =
@@ -30,7 +30,7 @@ byte_of_padded n bytes i =
 
 -- ---- writing
 
--- a zero after them is one that is there already
+-- Appending a zero to bytes does not change what they are padded to.
 pub one_more : (n : ℕ) (bytes : List ℕ) → length bytes < n → padded n (bytes ++ 0 ∷ []) ≡ padded n bytes
 unfolding padded
 one_more n bytes less =
@@ -38,7 +38,7 @@ one_more n bytes less =
     let next : suc (n - length (bytes ++ 0 ∷ [])) ≡ n - length bytes = omega (arith, long, less) in
     append_assoc bytes (0 ∷ []) (replicate (n - length (bytes ++ 0 ∷ [])) 0) ∙ ap (λ k. bytes ++ replicate k 0) next
 
--- A zero at the end of some bytes is one of the zeros that they are padded with.
+-- Dropping a zero from the end of some bytes does not change what they are padded to.
 pub one_less : (n : ℕ) (bytes : List ℕ) (k : ℕ) → k < length bytes → length bytes ≤ n → slice_index bytes k ≡ 0 →
     padded n (take k bytes) ≡ padded n (take (k + 1) bytes)
 one_less n bytes k there few none =
@@ -46,7 +46,7 @@ one_less n bytes k there few none =
     sym (ap (padded n) (rw add-one (take-suc bytes k 0 there) ∙ ap (λ byte. take k bytes ++ byte ∷ []) none)
     ∙ one_more n (take k bytes) (omega (arith, front, there, few)))
 
--- A byte within a list can be written before the list is padded with zeros or after that.
+-- Writing a byte within a list before padding gives the same as writing it after padding.
 pub set_padded : (n : ℕ) (bytes : List ℕ) (place byte : ℕ) → place < length bytes → length (slice_set bytes place byte) ≡ length bytes →
     padded n (slice_set bytes place byte) ≡ slice_set (padded n bytes) place byte
 unfolding padded
@@ -55,7 +55,7 @@ set_padded n bytes place byte less same =
 
 -- ---- two regions
 
--- what is zero after them is what they are padded with
+-- Dropping zeros from the end of some bytes does not change what they are padded to.
 pub padded_on : (n : ℕ) (front back : List ℕ) → length (front ++ back) ≤ n → back ≡ replicate (length back) 0 → padded n (front ++ back) ≡ padded n front
 unfolding padded
 padded_on n front back few zeros =
@@ -65,7 +65,7 @@ padded_on n front back few zeros =
     ∙ ap (λ xs. front ++ xs) (replicate-append-replicate (length back) (n - length (front ++ back)) 0)
     ∙ ap (λ k. front ++ replicate k 0) (omega (arith, long, few))
 
--- bytes that are the same one by one
+-- Two lists of the same length that read the same at every place are equal.
 alike : (xs ys : List ℕ) → length xs ≡ length ys → ((i : ℕ) → slice_index xs i ≡ slice_index ys i) → xs ≡ ys
 alike [] [] e same = refl
 alike [] (y ∷ ys) e same = absurd (omega (arith, e))
@@ -75,7 +75,7 @@ alike (x ∷ xs) (y ∷ ys) e same =
     let rest = alike xs ys (omega (arith, e)) (λ i. same (suc i)) in
     λ i. first i ∷ rest i
 
--- Where the longer are padded to the same, they begin with the shorter, and are zero after them.
+-- If two lists are padded to the same bytes, the longer one begins with the shorter one.
 pub front_is : (n : ℕ) (short front back : List ℕ) → length front ≡ length short → padded n short ≡ padded n (front ++ back) → front ≡ short
 front_is n short front back e same = alike front short e (λ i. one i)
   where
@@ -88,7 +88,7 @@ front_is n short front back e same = alike front short e (λ i. one i)
       | inr past ↦ get_or_past front i 0 past ∙ sym (get_or_past short i 0 (omega (arith, past, e)))
     ]
 
--- If a list is padded to the same bytes as another that has a front of its length and a back, the back is zeros.
+-- If two lists are padded to the same bytes, the longer one is zero after the length of the shorter one.
 pub back_is : (n : ℕ) (short front back : List ℕ) → length front ≡ length short → padded n short ≡ padded n (front ++ back) →
     back ≡ replicate (length back) 0
 back_is n short front back e same =

@@ -10,11 +10,11 @@ use flat_machine::Size;
 use std::alloc::{AllocError, Global};
 use std::marker::Model;
 
-/// How many bytes a region has.
+/// The number of bytes of a region.
 const REGION_LENGTH: usize = 0x1_0000;
 
-/// The 65,536 bytes of a region, by their places from its first address. Those after the last one that was written are
-/// zero, and are not stored, so a copy takes as long as what is used. There is room for all, so that a write takes no
+/// The 65,536 bytes of a region, by their places from its first address. The bytes after the last one written are zero
+/// and not stored, so the time of a copy depends on what is used. The buffer has room for all, so a write allocates no
 /// memory.
 #[derive(Drop)]
 pub struct RegionBytes {
@@ -43,30 +43,30 @@ impl RegionBytes {
         Ok(RegionBytes { written })
     }
 
-    /// An equal region.
+    /// Returns an equal region.
     pub fn copy(&self) -> Result<Self, AllocError>
         ensures { IfOk result (λ r. r ≡ self.now) }
     {
         RegionBytes::new(*self.written.allocator(), self.written.as_slice())
     }
 
-    /// Makes the region equal to another. No memory is taken.
+    /// Makes this region equal to another, without allocating memory.
     pub fn copy_from(&mut self, other: &Self)
         ensures { self.new ≡ other.now }
     {
         self.written.clear();
-        // (there is room)
+        // The buffer has room for all bytes of a region, so this cannot fail.
         let _ = self.written.extend_from_slice(other.written.as_slice());
     }
 
-    /// Whether both have the same bytes.
+    /// Returns whether both have the same bytes.
     pub fn equals(&self, other: &Self) -> bool
         ensures { IsTrue result ↔ (self.now ≡ other.now) }
     {
         are_equal(self.written.as_slice(), other.written.as_slice())
     }
 
-    /// The bytes up to the last one that is not zero, in memory for these alone.
+    /// Returns the bytes up to the last one that is not zero, in a vector of just that size.
     pub fn used(&self) -> Result<Vec<u8>, AllocError>
         ensures same { IfOk result (λ bytes. region_of_bytes bytes.items ≡ self.now) }
         ensures few { IfOk result (λ bytes. vec_len bytes ≤ 2 ^ 16) }
@@ -128,7 +128,7 @@ impl RegionBytes {
     }
 }
 
-/// Writes the low byte of a number over one that was written.
+/// Writes the low byte of a number over a stored byte.
 fn set_byte(written: &mut Vec<u8>, place: usize, value: u32)
     requires { place < vec_len written.old }
     ensures set { region_of_bytes written.new.items
@@ -139,7 +139,7 @@ fn set_byte(written: &mut Vec<u8>, place: usize, value: u32)
     written[place] = (value % 256) as u8;
 }
 
-/// Writes zeros after the bytes, up to a number of bytes, if they are fewer. There is room for them.
+/// Appends zeros until at least `count` bytes are stored. There is room for them.
 fn write_up_to(written: &mut Vec<u8>, count: usize)
     requires old { vec_len written.old ≤ 2 ^ 16 }
     requires new { count ≤ 2 ^ 16 }
@@ -154,7 +154,7 @@ fn write_up_to(written: &mut Vec<u8>, count: usize)
     }
 }
 
-/// A copy of the bytes up to the last one that is not zero.
+/// Copies the bytes up to the last one that is not zero.
 fn used(alloc: Global, bytes: &[u8]) -> Result<Vec<u8>, AllocError>
     requires { length bytes.now ≤ 2 ^ 16 }
     ensures same { IfOk result (λ used. region_of_bytes used.items ≡ region_of_bytes bytes.now) }
@@ -167,7 +167,7 @@ fn used(alloc: Global, bytes: &[u8]) -> Result<Vec<u8>, AllocError>
     Vec::from_slice(alloc, &bytes[..count])
 }
 
-/// Whether regions that begin with these bytes are the same.
+/// Returns whether two regions are equal that begin with these bytes and are zero after them.
 pub fn are_equal(one: &[u8], other: &[u8]) -> bool
     requires one { length one.now ≤ 2 ^ 16 }
     requires other { length other.now ≤ 2 ^ 16 }
@@ -180,7 +180,7 @@ pub fn are_equal(one: &[u8], other: &[u8]) -> bool
     }
 }
 
-/// Whether the longer bytes are those of the shorter, with zeros after them.
+/// Returns whether `long` is `short` followed by zeros.
 fn pads(short: &[u8], long: &[u8]) -> bool
     requires shorter { length short.now ≤ length long.now }
     requires few { length long.now ≤ 2 ^ 16 }

@@ -14,11 +14,10 @@ use rv_table::Insn;
 use std::alloc::{AllocError, Global};
 use std::marker::Model;
 
-/// How many words code has.
+/// The number of words of code.
 const CODE_WORDS: u32 = 0x4000;
 
-/// Code, seen as its bytes from [`CODE_START`]. Nothing changes it, so each word is decoded once,
-/// when the code is made.
+/// Code, as its bytes from [`CODE_START`]. It never changes, so each word is decoded once, when the code is made.
 #[derive(Drop)]
 pub struct Code {
     bytes: RegionBytes,
@@ -37,7 +36,7 @@ impl Model for Code {
 }
 
 impl Code {
-    /// Code that begins with these bytes, and is zero after them.
+    /// Code that begins with these bytes; the rest is zero.
     pub fn new(alloc: Global, bytes: &[u8]) -> Result<Self, AllocError>
         requires { length bytes.now ≤ 2 ^ 16 }
         ensures { IfOk result (λ c. c ≡ region_of_bytes bytes.now) }
@@ -51,8 +50,8 @@ impl Code {
     ///
     /// # Errors
     ///
-    /// [`Fault::FetchOutsideCode`] where `pc` is outside code, else [`Fault::NoRow`] where the word
-    /// there spells no instruction.
+    /// [`Fault::FetchOutsideCode`] if `pc` is outside code; otherwise [`Fault::NoRow`] if the word there spells no
+    /// instruction.
     #[tactic(auto, unfolding(flat_machine::specs::Turns::fetched))]
     pub fn fetch(&self, pc: u32) -> Result<Insn, Fault>
         requires { pc % 4 ≡ 0 }
@@ -80,8 +79,8 @@ impl Code {
     ///
     /// # Errors
     ///
-    /// [`Fault::AddressNotAligned`] where the address is not divisible by the size, else
-    /// [`Fault::NoRegion`] where it is outside code.
+    /// [`Fault::AddressNotAligned`] if the address is not divisible by the size; otherwise [`Fault::NoRegion`] if it is
+    /// outside code.
     pub fn load(&self, address: u32, size: Size) -> Result<u32, Fault>
         ensures value { result ≡ load_of self.now (bytes_of size) address (in_code address) }
         ensures small { IfOk result (λ number. number < 2 ^ (8 * bytes_of size)) }
@@ -96,7 +95,7 @@ impl Code {
     }
 }
 
-/// What each word of code spells.
+/// Decodes each word of code.
 fn decode_all(alloc: Global, bytes: &RegionBytes) -> Result<Vec<Option<Insn>>, AllocError>
     ensures { IfOk result (λ insns. AreDecoded bytes.now insns.items (2 ^ 14)) }
 {

@@ -1,4 +1,4 @@
-//! A processor's own memory.
+//! A processor's local memory.
 
 ghost use Rattle.std.specs.Prelude.{◌≡◌, ◌↔◌, ◌<◌, ◌≤◌, ◌^◌, ◌*◌, ◌+◌, ◌%◌, length, IfOk, IsTrue, OnOk, OnErr, vec_len};
 ghost use Rattle.flat_machine.specs.Memory.{in_local, number_at, with_number};
@@ -10,7 +10,7 @@ use flat_machine::{Fault, LOCAL_START, REGION_BYTES, Size};
 use std::alloc::{AllocError, Global};
 use std::marker::Model;
 
-/// The local memory of one processor, seen as its bytes from [`LOCAL_START`].
+/// The local memory of one processor, as its bytes from [`LOCAL_START`].
 #[derive(Drop)]
 pub struct Local {
     bytes: RegionBytes,
@@ -25,7 +25,7 @@ impl Model for Local {
 }
 
 impl Local {
-    /// A memory that begins with these bytes, and is zero after them.
+    /// A memory that begins with these bytes; the rest is zero.
     pub fn new(alloc: Global, bytes: &[u8]) -> Result<Self, AllocError>
         requires { length bytes.now ≤ 2 ^ 16 }
         ensures { IfOk result (λ l. l ≡ region_of_bytes bytes.now) }
@@ -35,7 +35,7 @@ impl Local {
         })
     }
 
-    /// A memory with the same bytes.
+    /// Returns a memory with the same bytes.
     pub fn copy(&self) -> Result<Self, AllocError>
         ensures { IfOk result (λ l. l ≡ self.now) }
     {
@@ -44,21 +44,21 @@ impl Local {
         })
     }
 
-    /// Makes the memory equal to another. No memory of the host is taken.
+    /// Makes this memory equal to another, without allocating memory of the host.
     pub fn copy_from(&mut self, other: &Self)
         ensures { self.new ≡ other.now }
     {
         self.bytes.copy_from(&other.bytes);
     }
 
-    /// Whether both have the same bytes.
+    /// Returns whether both have the same bytes.
     pub fn equals(&self, other: &Self) -> bool
         ensures { IsTrue result ↔ (self.now ≡ other.now) }
     {
         self.bytes.equals(&other.bytes)
     }
 
-    /// The bytes up to the last one that is not zero, in memory for these alone.
+    /// Returns the bytes up to the last one that is not zero, in a vector of just that size.
     pub(crate) fn used(&self) -> Result<Vec<u8>, AllocError>
         ensures same { IfOk result (λ bytes. region_of_bytes bytes.items ≡ self.now) }
         ensures few { IfOk result (λ bytes. vec_len bytes ≤ 2 ^ 16) }
@@ -87,8 +87,8 @@ impl Local {
     ///
     /// # Errors
     ///
-    /// [`Fault::AddressNotAligned`] where the address is not divisible by the size, else
-    /// [`Fault::NoRegion`] where it is outside local memory.
+    /// [`Fault::AddressNotAligned`] if the address is not divisible by the size; otherwise [`Fault::NoRegion`] if it is
+    /// outside local memory.
     pub fn load(&self, address: u32, size: Size) -> Result<u32, Fault>
         ensures value { result ≡ load_of self.now (bytes_of size) address (in_local address) }
         ensures small { IfOk result (λ number. number < 2 ^ (8 * bytes_of size)) }
@@ -106,7 +106,7 @@ impl Local {
     ///
     /// # Errors
     ///
-    /// Those of [`load`](Local::load), with nothing written.
+    /// Those of [`load`](Local::load). Nothing is written then.
     pub fn store(&mut self, address: u32, size: Size, value: u32) -> Result<(), Fault>
         ensures fault { result ≡ access_of (bytes_of size) address (in_local address) }
         ensures stored { OnOk result (self.new ≡ with_number self.old (address % 2 ^ 16) (bytes_of size) value) }

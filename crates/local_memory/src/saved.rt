@@ -1,4 +1,4 @@
-//! A processor's own memory, saved.
+//! A saved local memory.
 
 ghost use Rattle.std.specs.Prelude.{◌≡◌, ◌↔◌, IfOk, IsTrue};
 ghost use Rattle.local_memory.specs.Accesses.{region_of_bytes};
@@ -8,8 +8,8 @@ use crate::local::Local;
 use std::alloc::AllocError;
 use std::marker::Model;
 
-/// A local memory that is saved: it takes as much of the host's memory as there are bytes up to the last one that is
-/// not zero. Nothing reads or writes it by address.
+/// A saved local memory. It stores only the bytes up to the last one that is not zero, and cannot be read or written by
+/// address.
 #[derive(Drop)]
 pub struct SavedLocal {
     used: Vec<u8>,
@@ -36,21 +36,21 @@ impl SavedLocal {
         })
     }
 
-    /// The local memory that was saved.
+    /// Returns the local memory that was saved.
     pub fn restore(&self) -> Result<Local, AllocError>
         ensures { IfOk result (λ local. local ≡ self.now) }
     {
         Local::new(*self.used.allocator(), self.used.as_slice())
     }
 
-    /// Whether both have the same bytes.
+    /// Returns whether both have the same bytes.
     pub fn equals(&self, other: &Self) -> bool
         ensures { IsTrue result ↔ (self.now ≡ other.now) }
     {
         are_equal(self.used.as_slice(), other.used.as_slice())
     }
 
-    /// The bytes that are kept. Those after them are zero.
+    /// The bytes that are stored. All bytes after them are zero.
     pub fn kept(&self) -> &[u8]
         ensures { region_of_bytes result.now ≡ self.now }
     {

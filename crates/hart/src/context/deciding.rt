@@ -1,4 +1,4 @@
-//! What the next turn is.
+//! What a processor's next turn is.
 
 ghost use Rattle.std.specs.Prelude.{◌≡◌, ℕ, List, Ok};
 ghost use Rattle.flat_machine.specs.Effects.{effect_of};
@@ -16,7 +16,7 @@ use local_memory::Code;
 use rv_table::{AmoOp, LoadOp, StoreOp};
 
 impl Context {
-    /// What the next turn of the processor is, if it runs, whatever its local memory holds.
+    /// What the processor's next turn is if it runs. It does not depend on the contents of local memory.
     #[tactic(auto, using(crate::proofs::Decisions::allowed))]
     pub(crate) fn decide(&self, code: &Code) -> Decision
         ensures turn { (local : List ℕ) →

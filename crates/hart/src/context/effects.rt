@@ -1,4 +1,4 @@
-//! What an instruction asks for, once its registers are read.
+//! What an instruction does, given the values of its registers.
 
 ghost use Rattle.std.specs.Prelude.{◌≡◌};
 ghost use Rattle.flat_machine.specs.Effects.{call_of, effect_of, register_of};
@@ -88,7 +88,7 @@ impl Context {
         }
     }
 
-    /// A register's value and an offset of twelve bits: an address.
+    /// The address that is the sum of a register and a 12-bit offset.
     fn address(&self, rs1: Register, imm: Immediate<12>) -> u32
         ensures { result ≡ plus (register_of self.now.registers rs1) (extended 12 imm) }
     {

@@ -1,4 +1,4 @@
-//! Where an access of memory goes.
+//! Where a memory access goes.
 
 ghost use Rattle.std.specs.Prelude.{◌≡◌, IfOk, IsTrue};
 ghost use Rattle.flat_machine.specs.Memory.{region_of};
@@ -14,9 +14,8 @@ impl Context {
     ///
     /// # Errors
     ///
-    /// [`Fault::AddressNotAligned`] where the address is not divisible by the size, else
-    /// [`Fault::NoRegion`] where it is in no region, and [`Fault::StoreToCode`] where a write is to
-    /// code.
+    /// [`Fault::AddressNotAligned`] if the address is not divisible by the size; otherwise [`Fault::NoRegion`] if it is
+    /// in no region, and [`Fault::StoreToCode`] if a write is to code.
     #[tactic(auto, unfolding(flat_machine::specs::Memory::region_of))]
     pub(crate) fn region(&self, size: Size, address: u32, writes: bool) -> Result<Region, Fault>
         ensures value { result ≡ region_of self.now.setting (bytes_of size) address writes }

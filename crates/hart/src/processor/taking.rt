@@ -1,4 +1,4 @@
-//! Turns that are taken: alone, or with the word that a reference read.
+//! Taking turns: local ones, and references after their reply.
 
 ghost use Rattle.std.specs.Prelude.{◌≡◌, ◌%◌, ℕ, List, Ok, Some};
 ghost use Rattle.rv_table.specs.declared.insn.Insn.{Insn};
@@ -15,7 +15,7 @@ use local_memory::Code;
 use rv_table::{AmoOp, Insn, LoadOp, Register, StoreOp};
 
 impl Core {
-    /// Takes a turn that needs nothing but what the core has.
+    /// Takes a local turn: one that needs only the core itself.
     pub fn take_local(&mut self, code: &Code) -> Retired
         requires { IsLocal (turn_of self.old.setting code.now self.old.state) }
         ensures turn { turn_of self.old.setting code.now self.old.state ≡ Retires self.new.state result }
@@ -30,10 +30,9 @@ impl Core {
         }
     }
 
-    /// Takes the next turn of a processor that runs, where it needs nothing but what the core has, and
-    /// says what it came to. The instruction is read once, where [`Core::decide`] and
-    /// [`Core::take_local`] read it twice.
-    // What it answers is large, and is written only where the caller reads it.
+    /// Takes the next turn of a running processor if the turn is local, and returns what happened. It decodes the
+    /// instruction once; [`Core::decide`] followed by [`Core::take_local`] decodes it twice.
+    // Inlined, so that the large result is written only if the caller reads it.
     #[inline(always)]
     pub fn take(&mut self, code: &Code) -> Taken
         ensures turn { IsTaken result self.old.state self.new.state (turn_of self.old.setting code.now self.old.state) }
@@ -50,7 +49,7 @@ impl Core {
         }
     }
 
-    /// Does what the effect says, where it needs nothing but what the core has.
+    /// Carries out an effect if it needs only the core itself.
     fn take_effect(&mut self, code: &Code, insn: Insn, effect: Effect) -> Taken
         ensures turn { IsTaken result self.old.state self.new.state
             (performed self.old.setting code.now self.old.state insn effect) }
@@ -75,7 +74,7 @@ impl Core {
         self.context.decision(effect)
     }
 
-    /// Takes a turn that refers to a shared word, once the word's value before it is known.
+    /// Completes a turn that refers to a shared word, given the word's old value.
     #[inline(always)]
     pub fn retire(&mut self, code: &Code, reply: u32) -> Retired
         requires { IsReference (turn_of self.old.setting code.now self.old.state) }
@@ -92,7 +91,7 @@ impl Core {
         }
     }
 
-    /// Does what the effect says, which needs nothing but what the core has.
+    /// Carries out an effect that needs only the core itself.
     fn perform(&mut self, code: &Code, insn: Insn, effect: Effect) -> Retired
         requires { IsLocal (performed self.old.setting code.now self.old.state insn effect) }
         ensures turn { performed self.old.setting code.now self.old.state insn effect ≡ Retires self.new.state result }
@@ -151,7 +150,7 @@ impl Core {
         }
     }
 
-    /// Changes a local word, and gives the word before.
+    /// Applies an AMO to a word of local memory, and writes its old value to `rd`.
     fn amo(
         &mut self,
         code: &Code,
@@ -177,7 +176,7 @@ impl Core {
         }
     }
 
-    /// What a reference leaves, once the word is known.
+    /// Completes a reference, given the word's old value.
     #[tactic(auto, using(crate::proofs::References::amo_leaves))]
     fn finish(&mut self, code: &Code, insn: Insn, effect: Effect, reply: u32) -> Retired
         requires { IsReference (performed self.old.setting code.now self.old.state insn effect) }
@@ -196,7 +195,7 @@ impl Core {
         }
     }
 
-    /// Writes a register, and goes on with the next instruction.
+    /// Writes a register, and advances to the next instruction.
     #[tactic(auto, unfolding(flat_machine::specs::Words::plus))]
     fn go_on(&mut self, insn: Insn, rd: Register, value: u32) -> Retired
         ensures gone { self.new ≡ record self.old { state = gone_to (next_pc self.old.state) rd value self.old.state } }
@@ -206,7 +205,7 @@ impl Core {
         self.go(insn, rd, value, next)
     }
 
-    /// Writes a register, and goes on elsewhere.
+    /// Writes a register, and sets the `pc` to `target`.
     fn go(&mut self, insn: Insn, rd: Register, value: u32, target: u32) -> Retired
         requires { target % 4 ≡ 0 }
         ensures gone { self.new ≡ record self.old { state = gone_to target rd value self.old.state } }

@@ -2,7 +2,7 @@ use Rattle.std.proofs.Common.{◌≡◌, ◌≤◌, length, take}
 use Rattle.local_memory.specs.Accesses.{region_of_bytes}
 use Rattle.local_memory.proofs.bytes.used.Given as goal
 
--- those from `count` on are zero
+-- The bytes from `count` on are zeros of the padding.
 abbrev pub invariant-loop-count : goal.invariant-loop-count
 invariant-loop-count l = record {
   few : l.count ≤ length l.bytes;
