@@ -1,4 +1,4 @@
--- A result of the flat machine is one of the machine: whole instructions, one after another.
+-- Every result of the flat machine is one of the machine, which takes whole instructions one after another.
 use Rattle.std.proofs.Common.{◌≡◌, ◌⊎◌, inl, inr, ℕ, zero, suc, ◌<◌, ◌^◌, Bool, true, false, List, [], ◌∷◌, ◌++◌}
 use Rattle.std.proofs.Common.{Option, Some, None, map, refl, sym, ap, ap₂, subst, ◌∙◌, nat_lt, append_assoc, lt-ltb}
 use Rattle.std.specs.Prelude.{slice_get, slice_index, slice_index_or}
@@ -71,7 +71,7 @@ of_named N (theory.Poke q) h = absurd h
 abbrev one_events : FlatState → ℕ → List (ℕ × Event)
 one_events F k = with_processor_number (entry.Processor k) (flat_event F (entry.Processor k))
 
--- where a processor takes no turn, the flat machine stays
+-- If a processor is not running, its turn leaves the flat machine unchanged.
 no_turn : (F : FlatState) (k : ℕ) → ((p : Processor) → slice_get F.processors k ≡ Some p → is_running p.status ≡ false) →
     (flat_step F (entry.Processor k) ≡ F) × (one_events F k ≡ [])
 unfolding flat_step flat_event
@@ -93,7 +93,7 @@ rests (Stops cause) true e = absurd (cc)
 module _ (c : Config) (code : List ℕ) (limits : IsWithinLimits c) (bytes : AreBelow 256 code) where
   -- ---- one instruction, by steps of the machine
 
-  -- steps enter one turn of processor k, and leave no reference open
+  -- The steps add one turn of processor k to the serial order, and leave no reference open.
   pub record IsTurn (k : ℕ) (N : theory.Machine ObservedCore) (steps : List Step) : Type 0 where
     pub own : AreOfTheMachine steps
     pub order : (passes (sizes_of c) (program c code) (map named steps) (from_machine N)).order ≡ turns (k ∷ [])
@@ -102,7 +102,7 @@ module _ (c : Config) (code : List ℕ) (limits : IsWithinLimits c) (bytes : Are
   abbrev Loned : ℕ → Passed ObservedCore → List theory.Step → Type 0
   Loned k h sts = IsLone ObservedCore (sizes_of c) (program c code) k (passes (sizes_of c) (program c code) sts h) × AreOfTheMachine (map step_of sts)
 
-  -- a drain brings k's reference back, and no other
+  -- A drain completes k's reference, and no other.
   drained_alone : (n k : ℕ) (h : Passed ObservedCore) → IsLone ObservedCore (sizes_of c) (program c code) k h →
       Loned k h (draining.drain_steps (sizes_of c) (program c code) n h.machine)
   unfolding draining.drain_steps passes
@@ -143,7 +143,7 @@ module _ (c : Config) (code : List ℕ) (limits : IsWithinLimits c) (bytes : Are
       shut = λ p. ap (λ (r : theory.Result ObservedCore). r.machine.is_open p) e ∙ shut p;
     }
 
-    -- after the turn and all steps of a drain
+    -- the same after the turn and a whole drain
     drained : (lone : IsLone ObservedCore (sizes_of c) (program c code) k first_of) → (sts : List theory.Step) →
         sts ≡ draining.drain_steps (sizes_of c) (program c code) (draining.drain_bound (sizes_of c)) first_of.machine → Loned k first_of sts →
         IsTurn k N (step.Turn k ∷ map step_of sts)
@@ -183,7 +183,7 @@ module _ (c : Config) (code : List ℕ) (limits : IsWithinLimits c) (bytes : Are
 
   -- ---- one turn of both machines
 
-  -- The machine is the flat machine, and no reference is open.
+  -- The machine matches the flat machine, and no reference is open.
   pub record IsFlat (N : theory.Machine ObservedCore) (F : FlatState) (events : List (ℕ × Event)) : Type 0 where
     pub matches : Matches c N F events
     pub shut : (p : ℕ) → N.is_open p ≡ false
@@ -219,7 +219,7 @@ module _ (c : Config) (code : List ℕ) (limits : IsWithinLimits c) (bytes : Are
     sound_then : IsSoundFlat c code (flat_step F (entry.Processor k))
     sound_then = run_sound c code (means_change c code limits.stages bytes) (turns (k ∷ [])) F (turns_lawful c (k ∷ [])) h.sound
 
-    -- where steps enter the turn
+    -- If the steps add the turn to the serial order, the machine still matches after it.
     by_steps : (steps : List Step) → IsTurn k (forget N) steps → IsFlat (all_after c code N steps) (flat_step F (entry.Processor k)) (events ++ one_events F k)
     by_steps steps t = record {
       matches = record {
@@ -276,7 +276,7 @@ module _ (c : Config) (code : List ℕ) (limits : IsWithinLimits c) (bytes : Are
         steady_then : (role : ℕ → Role) × Steady (sizes_of c) (program c code) (theory.machine_after (sizes_of c) (program c code) (map named steps) N) role
         steady_then = steady_after (sizes_of c) (program c code) (map named steps) N h.role h.steady
 
-    -- where there is no turn to take
+    -- If there is no turn to take, the processor is not running.
     stands_still : (nat_lt k (2 ^ c.k) ≡ false) ⊎ (kind_of (is_running (N.core k).state.status) (next c code k (N.core k).state) ≡ Rests) →
         (p : Processor) → slice_get F.processors k ≡ Some p → is_running p.status ≡ false
     stands_still (inl past) p there =
@@ -335,7 +335,7 @@ begins m is idle = record {
   sound = sound m is;
 }
 
--- If no reference is open in a machine, each result of the flat machine that it is is a result of the machine.
+-- If no reference is open in a machine, every result of its flat machine is a result of the machine.
 pub flat_results_are : (m : MachineLists) (r : FinalResult) → IsMachine m → IsIdle m → IsFlatResult (flat_state m) r → IsMachineResult m r
 flat_results_are m r is idle h =
     let start : IsFlat m.config m.code is.limits is.code (machine_of m (λ p. [])) (flat_state m) [] = begins m is idle in

@@ -16,13 +16,13 @@ use Rattle.state_search.specs.StateTables.{TableLists, nowhere, placed_at, means
 use Rattle.state_search.specs.Search.{state_at}
 use Rattle.exploration.specs.Endings.{AreInOrder, IsAdded, IsEnding, IsEndingAdded, IsOnce, IsResultOf, IsStoodFor, IsStoodForBefore}
 
--- ---- what is kept of a station
+-- ---- what is kept of a local state
 
 module _ (live : List (List Bool)) (a : LocalState) where
   forgotten : LocalState
   forgotten = record a { processor = record a.processor { registers = []; local = [] } }
 
-  -- What is kept of a station has the result of the station.
+  -- What is kept of a local state has the result of the local state.
   pub kept_result : local_state_result (kept_by live a) ≡ local_state_result a
   unfolding forgotten
   kept_result = by (is_running a.processor.status)
@@ -31,7 +31,7 @@ module _ (live : List (List Bool)) (a : LocalState) where
       by true = refl
       by false = refl
 
-  -- What is kept of a local state runs if the local state does, and only then.
+  -- What is kept of a local state runs exactly if the local state does.
   pub kept_stands : is_running (kept_by live a).processor.status ≡ is_running a.processor.status
   unfolding forgotten
   kept_stands = by (is_running a.processor.status)
@@ -46,7 +46,7 @@ module _ (e : Extent) (t : TableLists) (row : List ℕ) where
   abbrev local_state : ℕ → LocalState
   local_state p = (placed_at t (slice_index row p)).local_state
 
-  -- The results of the stations of a row's state are those of the local states that the row names.
+  -- The results in a row's state are those of the local states that the row names.
   pub all_results : map local_state_result (means e t row).local_states
       ≡ map (λ p. local_state_result (placed_at t (slice_index row p)).local_state) (range_with_len 0 e.processors)
   all_results = fill_by_all (λ p. local_state_result (local_state p)) (map local_state_result (means e t row).local_states) e.processors
@@ -74,12 +74,12 @@ module _ (e : Extent) (t : TableLists) (row : List ℕ) where
       true≢false (sym runs ∙ (sym (kept_stands t.live (local_state p))
       ∙ h p (kept_by t.live (local_state p)) (listed_there (λ q. kept_by t.live (local_state q)) e.processors p few)))
 
--- ---- a result more
+-- ---- one more result
 
 nowhere_there : {X : Type 0} (i : ℕ) (x : X) → slice_get [] i ≡ Some x → ⊥
 nowhere_there i x found = cc
 
--- what is at a place of a longer list
+-- An element of a list with one appended is of the list, or is the one appended.
 at_place : {X : Type 0} (xs : List X) (x y : X) (i : ℕ) → slice_get (xs ++ x ∷ []) i ≡ Some y → (slice_get xs i ≡ Some y) ⊎ ((i ≡ length xs) × (x ≡ y))
 at_place [] x y zero e = inr (refl, (let same : x ≡ y = cc in same))
 at_place [] x y (suc i) e = absurd (cc)
@@ -90,11 +90,11 @@ at_place (z ∷ xs) x y (suc i) e = by (at_place xs x y i e)
     by (inl here) = inl here
     by (inr last) = inr (ap suc last.0, last.1)
 
--- A result at a place of a list is one of the list.
+-- A result at a place of a list is in the list.
 pub has_at : (results : List FinalResult) (i : ℕ) (r : FinalResult) → slice_get results i ≡ Some r → Contains results r
 has_at results i r e = let h = found_at results i r r e in (i, h.0, h.1)
 
--- what is at a place of a list is there in a longer one, and what a list has is at some place
+-- An element at a place of a list is at the same place after others are appended.
 pub still_there : {X : Type 0} (xs ys : List X) (i : ℕ) (x : X) → slice_get xs i ≡ Some x → slice_get (xs ++ ys) i ≡ Some x
 still_there [] ys i x e = absurd (cc)
 still_there (z ∷ xs) ys zero x e = e
@@ -117,13 +117,13 @@ once_more results r new once i j x ei ej = by (at_place results r x i ei) (at_pl
     by (inr a) (inl b) = absurd (new (subst (Contains results) (sym a.1) (has_at results j x b)))
     by (inr a) (inr b) = a.0 ∙ sym b.0
 
--- ---- the results of the first this many rows
+-- ---- the results of the first rows
 
 module _ (e : Extent) (classes : List ℕ) (t : TableLists) (rows : List (List ℕ)) where
   pub record AreEndings (done : ℕ) (results : List FinalResult) : Type 0 where
-    -- Each result is an exchange of that of a row in which no processor runs.
+    -- Each result is an exchange of the result of a row in which no processor runs.
     pub sound : All (IsEnding e classes t rows) results
-    -- For each of the first rows in which no processor runs, one of the results stands for the row's result.
+    -- For each of the first `done` rows in which no processor runs, one of the results stands for the row's result.
     pub complete : (i : ℕ) → i < done → HaveStopped (state_at e t rows i) →
         IsStoodFor classes results (result_at (state_at e t rows i))
     pub once : IsOnce results
@@ -146,7 +146,7 @@ module _ (e : Extent) (classes : List ℕ) (t : TableLists) (rows : List (List �
     };
   }
 
-  -- One state more may have a result that is there.
+  -- The order holds for one more state if its result is there already.
   order_on : (done : ℕ) (results : List FinalResult) → AreInOrder classes (state_at e t rows) done results →
       AreInOrder classes (state_at e t rows) (done + 1) results
   order_on done results o = record {
@@ -158,7 +158,7 @@ module _ (e : Extent) (classes : List ℕ) (t : TableLists) (rows : List (List �
     first = o.first;
   }
 
-  -- The result of one row more is there.
+  -- one more row, whose result is there afterwards
   module _ (done : ℕ) (results new : List FinalResult) (r : FinalResult) (h : AreEndings done results) where
     grown : ((q : FinalResult) → Contains results q → Contains new q) → Contains new r →
         StandsFor classes (result_at (state_at e t rows done)) r → (i : ℕ) → i < done + 1 → HaveStopped (state_at e t rows i) →
@@ -171,7 +171,7 @@ module _ (e : Extent) (classes : List ℕ) (t : TableLists) (rows : List (List �
             subst (λ j. IsStoodFor classes new (result_at (state_at e t rows j))) (sym last)
             (r, here, stands_for_back classes (result_at (state_at e t rows done)) r is)
 
-    -- A result that is new comes last.
+    -- a new result, which comes last
     module _ (stopped : HaveStopped (state_at e t rows done)) (is : StandsFor classes (result_at (state_at e t rows done)) r) where
       places : List ℕ
       places = h.order.places ++ done ∷ []
@@ -249,7 +249,7 @@ module _ (e : Extent) (classes : List ℕ) (t : TableLists) (rows : List (List �
               let l = (found_at results y.0 x.0 x.0 y.1).0 in
               (y.0, omega (arith, l, here, h.order.all), x.0, still_there results (r ∷ []) y.0 x.0 y.1, x.2)
 
-    -- If no processor runs in the next row, the results with an exchange of its own are those of one row more.
+    -- If no processor runs in the next row, adding an exchange of its result gives the results of one more row.
     pub ended : done < length rows → HaveStopped (state_at e t rows done) →
         StandsFor classes (result_at (state_at e t rows done)) r → IsAdded results r new → AreEndings (done + 1) new
     ended within stopped is (inl there) =
@@ -271,7 +271,7 @@ module _ (e : Extent) (classes : List ℕ) (t : TableLists) (rows : List (List �
       order = subst (AreInOrder classes (state_at e t rows) (done + 1)) (sym added.1) (order_more stopped is);
     }
 
-  -- A row in which a processor runs has none.
+  -- A row in which a processor runs adds no result.
   pub passed : (done : ℕ) (results : List FinalResult) → AreEndings done results →
       (HaveStopped (state_at e t rows done) → ⊥) → AreEndings (done + 1) results
   passed done results h runs = record {
@@ -286,7 +286,7 @@ module _ (e : Extent) (classes : List ℕ) (t : TableLists) (rows : List (List �
       by i (inl below) s = h.complete i below s
       by i (inr last) s = absurd (runs (subst (λ j. HaveStopped (state_at e t rows j)) last s))
 
-  -- One row more, whether a processor runs in it or not.
+  -- The results of one more row, whether a processor runs in it or not.
   pub row_more : (done : ℕ) (results new : List FinalResult) → AreEndings done results → done < length rows →
       IsEndingAdded classes (state_at e t rows done) results new → AreEndings (done + 1) new
   row_more done results new h within (inl x) = ended done results new x.1 h within x.0 x.2 x.3

@@ -1,4 +1,4 @@
--- The results of the rows that a search has found are those of the machine.
+-- The results of the rows that a search found are those of the machine.
 use Rattle.std.proofs.Common.{◌≡◌, ◌⊎◌, inl, inr, ℕ, ◌<◌, ◌≤◌, ◌^◌, Bool, true, false, cond, List}
 use Rattle.std.proofs.Common.{[], Some, None, Contains, length, map, sym, ap, subst, ◌∙◌, arith}
 use Rattle.std.specs.Prelude.{slice_get, slice_index}
@@ -36,13 +36,13 @@ use Rattle.state_search.specs.declared.refusal.Refusal.TheVariants as search
 use Rattle.state_search.specs.Refusals.{IsGivenUpFor}
 use Rattle.exploration.proofs.Endings.{kept_result}
 
--- ---- the rows that a search has found
+-- ---- the rows that a search found
 
--- What is kept of a station has its result.
+-- What is kept of a local state has its result.
 keeps : (live : List (List Bool)) → KeepsResults (kept_by live)
 keeps = kept_result
 
--- Processors of one class that have equal numbers in a row stand in equal states.
+-- If processors of one class have equal numbers in a row, they are in equal local states.
 pub uniform : (e : Extent) (classes : List ℕ) (t : TableLists) (row : List ℕ) → AreClasses e classes → AreClassesOf e classes row →
     IsUniform classes (means e t row)
 uniform e classes t row are of j k alike = by (cases_lt j e.processors) (cases_lt k e.processors)
@@ -75,7 +75,7 @@ module _ (e : Extent) (code : List ℕ) (classes : List ℕ) (t : TableLists) (r
   settles : ReachesMacroState (setting_at e) code (kept_by t.live) m (λ k. []) (state_at e t rows 0)
   settles = subst (ReachesMacroState (setting_at e) code (kept_by t.live) m (λ k. [])) (sym found.begins) settles_first
 
-  -- All that the results stand for are results of the flat machine,
+  -- The results stand only for results of the flat machine.
   pub flat_sound : AllStoodForAreResults → IsUniform classes first →
       ((r : FinalResult) → Contains results r → IsEnding e classes t rows r) → (r q : FinalResult) → Contains results r →
       StandsFor classes r q → IsFlatResult m q
@@ -85,7 +85,7 @@ module _ (e : Extent) (code : List ℕ) (classes : List ℕ) (t : TableLists) (r
       (subst (IsUniform classes) (sym found.begins) same) settles h.within h.stopped
       (stands_for_on classes (result_at (state_at e t rows h.place)) r q h.is stands)
 
-  -- and each of its results is stood for.
+  -- The results stand for every result of the flat machine.
   pub flat_complete : EachResultIsStoodFor →
       ((i : ℕ) → i < length rows → HaveStopped (state_at e t rows i) → IsStoodFor classes results (result_at (state_at e t rows i))) →
       (q : FinalResult) → IsFlatResult m q → IsStoodFor classes results q
@@ -95,13 +95,13 @@ module _ (e : Extent) (code : List ℕ) (classes : List ℕ) (t : TableLists) (r
       let y = all x.0 x.1 x.2 in
       (y.0, y.1, stands_for_on classes y.0 (result_at (state_at e t rows x.0)) q y.2 x.3)
 
-  -- What is said of the schedules is so.
+  -- The termination found is the machine's.
   pub flat_schedules : SuccessorsDecideTermination → (fact : Termination) → IsTrueOf moves fact → IsTerminationOf m fact
   flat_schedules law fact =
       law (setting_at e) code (kept_by t.live) classes (state_at e t rows) (length rows) moves m (λ k. []) fact f
       found.successors found.reached settles
 
-  -- The states are all to which it comes.
+  -- The rows mean all states of the machine.
   pub all_states : HasAllLive code t.live → (termination : Termination) (count : ℕ) → IsTrueOf moves termination →
       AreInOrder classes (state_at e t rows) (length rows) results → count ≡ length moves →
       AreAllStates m classes results termination count
@@ -124,7 +124,7 @@ module _ (e : Extent) (code : List ℕ) (classes : List ℕ) (t : TableLists) (r
         order = order;
       })
 
--- If a search has found as many as the limit, or more, there are.
+-- If a search finds at least `least` states, the machine has at least as many.
 pub many_states : (e : Extent) (code : List ℕ) (classes : List ℕ) (t : TableLists) (first : MacroState) (m : FlatState) (least : ℕ) →
     HasAllLive code t.live → ReachesMacroState (setting_at e) code (kept_by t.live) m (λ k. []) first → AreMany e code classes t first least →
     HasManyStates m least
@@ -144,7 +144,7 @@ many_states e code classes t first m least right settles h = record {
   };
 }
 
--- What a search is given up for is reported.
+-- The reported refusal is justified if the search's own is.
 pub search_gives_up : (m : FlatState) (limit : ℕ) (why : SearchRefusal) → IsGivenUpFor (HasManyStates m limit) why →
     IsGivenUp m limit (refused_by_search why)
 search_gives_up m limit search.Memory h = tt
@@ -158,9 +158,9 @@ search_gives_up m limit search.Asks h = tt
 pub few_processors : (k : ℕ) → k ≤ 6 → 2 ^ k ≤ 64
 few_processors k few = pow-le-pow_right {n = 2} (omega arith) few
 
--- what is known of a machine's size, its cores and its words, as they were read
+-- what is known of a machine's extent, cores and words after they are read
 pub record AreRead (m : MachineLists) (e : Extent) (cores : List CoreState) (words : List ℕ) : Type 0 where
-  -- The machine can have come about.
+  -- The machine is well formed.
   pub sound : IsMachine m
   -- The extent has as many processors as the machine.
   pub processors : e.processors ≡ 2 ^ m.config.k
@@ -168,7 +168,7 @@ pub record AreRead (m : MachineLists) (e : Extent) (cores : List CoreState) (wor
   pub cores_are : cores ≡ map (λ p. (port_at m.ports p).core) (range_with_len 0 (2 ^ m.config.k))
   pub words_are : words ≡ map (word_at m.config.k m.modules) (range_with_len 0 m.config.shared_words)
 
--- If an extent, cores and words are those of a machine, this is what is known of them as they were read.
+-- The extent, the cores and the words of a machine satisfy what is known of them.
 pub are_read : {m : MachineLists} {e : Extent} {cores : List CoreState} {words : List ℕ} {exchanged : Bool} → IsMachine m →
     e ≡ record { processors = 2 ^ m.config.k; shared_words = m.config.shared_words; exchanged = exchanged } →
     cores ≡ map (λ p. (port_at m.ports p).core) (range_with_len 0 (2 ^ m.config.k)) →
@@ -225,16 +225,16 @@ module _ {m : MachineLists} {e : Extent} {cores : List CoreState} {list : List �
   both : map (λ (c : CoreState). c.state) cores ≡ map (λ (p : PortState). p.core.state) m.ports
   both = left ∙ sym right
 
-  -- The code, the cores and the words that were read make the flat machine that the machine is.
+  -- The code, the cores and the words that were read make up the flat machine.
   pub flat_is : flat_of m.code cores list ≡ flat_state m
   flat_is = λ i. record { processors = both i; shared = seen.words_are i; code = m.code }
 
--- what is there is what the test picked
+-- If a test picks a value, it is the value picked.
 pub picked : {X : Type 0} (b : Bool) (x y : X) → Some x ≡ cond b (Some y) None → x ≡ y
 picked true x y e = cc
 picked false x y e = absurd (cc)
 
--- If processors are not exchanged, each is of a class of its own.
+-- If processors are not exchanged, each has a class of its own.
 pub single : {e : Extent} {classes : List ℕ} {count : ℕ} → e.processors ≡ count → AreClasses e classes → e.exchanged ≡ false →
     AreSingle count classes
 single all are off j k few alike = are.own off j k (subst (λ n. k < n) (sym all) few) alike

@@ -1,4 +1,4 @@
--- A result of the machine is one of the flat machine.
+-- Every result of the machine is one of the flat machine.
 use Rattle.std.proofs.Common.{◌≡◌, ◌⊎◌, inl, inr, ℕ, ◌<◌, ◌^◌, Bool, true, false, List, [], ◌∷◌, ◌++◌, map, refl, sym, ap, subst, ◌∙◌, nat_lt}
 use Rattle.std.specs.Prelude.{if◌then◌else◌, slice_index, slice_index_or}
 use Rattle.std.proofs.lemmas.Bool.{cases_Bool, true≢false}
@@ -50,7 +50,7 @@ turns_of : (xs : List ℕ) → map entry.Processor xs ≡ turns xs
 turns_of [] = refl
 turns_of (x ∷ xs) = ap (λ es. entry.Processor x ∷ es) (turns_of xs)
 
--- Entries that are turns of processors are lawful.
+-- Turns of processors are lawful entries.
 pub turns_lawful : (c : Config) (xs : List ℕ) → AreLawful c (turns xs)
 turns_lawful c [] = tt
 turns_lawful c (x ∷ xs) = (tt, turns_lawful c xs)
@@ -114,7 +114,7 @@ module _ (c : Config) (code : List ℕ) where
         either (nat_lt w (2 ^ c.k)) (theory.went_down M (moved_down (sizes_of c) M.net s w)) (by_down (moved_down (sizes_of c) M.net s w))
     not_poked (step.Poke q) h = absurd h
 
-  -- steps without writes from outside enter turns
+  -- Steps without writes from outside add only turns to the serial order.
   order_of_turns : (steps : List Step) (h : Passed ObservedCore) (js : List ℕ) → AreOfTheMachine steps → h.order ≡ turns js →
       (xs : List ℕ) × ((passes (sizes_of c) (program c code) (map named steps) h).order ≡ turns xs)
   unfolding passes
@@ -124,26 +124,26 @@ module _ (c : Config) (code : List ℕ) where
       order_of_turns steps (pass (sizes_of c) (program c code) h (named s)) (js ++ more.0) all.1
       ((λ i. e i ++ more.1 i) ∙ turns_join js more.0)
 
-  -- A pass of the theory over some steps ends with the machine after these steps.
+  -- The theory's pass over some steps ends with the machine after these steps.
   pub passes_all : (steps : List Step) (h : Passed ObservedCore) →
       (passes (sizes_of c) (program c code) (map named steps) h).machine ≡ all_after c code h.machine steps
   unfolding passes all_after after
   passes_all [] h = refl
   passes_all (s ∷ steps) h = passes_all steps (pass (sizes_of c) (program c code) h (named s))
 
-  -- The machine of the theory after some steps is the machine after these steps.
+  -- The theory's machine after some steps is the machine after these steps.
   pub theory_all : (steps : List Step) (M : theory.Machine ObservedCore) →
       theory.machine_after (sizes_of c) (program c code) (map named steps) M ≡ all_after c code M steps
   unfolding all_after after theory.machine_after
   theory_all [] M = refl
   theory_all (s ∷ steps) M = theory_all steps (after c code M s)
 
-  -- an open processor runs
+  -- A processor whose turn is a reference runs.
   refers_runs : (b : Bool) (t : Turn) → kind_of b t ≡ Refers → b ≡ true
   refers_runs true t e = refl
   refers_runs false t e = absurd (cc)
 
-  -- so where none runs, none is open
+  -- If no processor runs, none is open.
   pub none_open : (M : theory.Machine ObservedCore) (role : ℕ → Role) → Steady (sizes_of c) (program c code) M role → NoneRuns c M → (p : ℕ) →
       M.is_open p ≡ false
   none_open M role steady none p = by (cases_Bool (M.is_open p))
@@ -166,7 +166,7 @@ module _ (m : MachineLists) (is : IsMachine m) (idle : IsIdle m) where
   explained : (steps : List Step) → IsExplained m.config m.code (flat_state m) (passed m steps)
   explained steps = (runs_are_explained m.config m.code).moments start (flat_state m) (map named steps) (opens m is idle)
 
-  -- where nothing is open, the machine is the flat machine after turns
+  -- If no reference is open after some steps, the machine matches the flat machine after the turns of their order.
   pub matches : (steps : List Step) (js : List ℕ) → (passed m steps).order ≡ turns js → ((p : ℕ) → (stands_after m steps).is_open p ≡ false) →
       Matches m.config (stands_after m steps) (flat_run (flat_state m) (turns js)) (flat_events (flat_state m) (turns js))
   matches steps js order shut =
@@ -203,6 +203,6 @@ module _ (m : MachineLists) (is : IsMachine m) (idle : IsIdle m) where
       let events = flat_events (flat_state m) (turns order.0) in
       (order.0, stopped_flat m.config (stands_after m steps) F events same h.2, h.3 ∙ results_same m.config (stands_after m steps) F events same)
 
--- If no reference is open in a machine, each of its results is a result of the flat machine that it is.
+-- If no reference is open in a machine, every result of it is a result of its flat machine.
 pub results_are_flat : (m : MachineLists) (r : FinalResult) → IsMachine m → IsIdle m → IsMachineResult m r → IsFlatResult (flat_state m) r
 results_are_flat m r is idle h = flat_result m is idle r h

@@ -1,4 +1,4 @@
--- Where a machine has the processors and the words of the flat machine, both have one result.
+-- If a machine has the processors and the words of a flat machine, both have the same result.
 use Rattle.std.proofs.Common.{◌≡◌, ◌⊎◌, inl, inr, ℕ, ◌<◌, ◌≤◌, ◌^◌, cond, eqb, eq-eqb, ne_eqb, zero, suc, List}
 use Rattle.std.proofs.Common.{[], ◌∷◌, ◌++◌, Some, length, map, refl, sym, ap, ap₂, subst, ◌∙◌, arith}
 use Rattle.std.specs.Prelude.{slice_get, slice_index, slice_index_or}
@@ -24,7 +24,7 @@ printed_more : (console : List ℕ) (events : List Event) (e : Event) → printe
 printed_more console [] e = refl
 printed_more console (x ∷ events) e = printed_more (printed_after console x) events e
 
--- the events that are a processor's own print what is on its console
+-- The events of a processor print what is on its console.
 pub consoles_same : (events : List (ℕ × Event)) (shown : ℕ → List Event) (console : List ℕ) (k : ℕ) → printed_by [] (shown k) ≡ console →
     printed_by [] (with_events shown events k) ≡ console_after k console events
 unfolding put
@@ -54,7 +54,7 @@ same_list [] (y ∷ ys) d n e = absurd (omega (arith, n))
 same_list (x ∷ xs) [] d n e = absurd (omega (arith, n))
 same_list (x ∷ xs) (y ∷ ys) d n e = ap₂ (λ z zs. z ∷ zs) (e 0) (same_list xs ys d (omega (arith, n)) (λ i. e (suc i)))
 
--- If something is found at a place of a list, the place is within the list, and reading there gives it.
+-- If a list has an element at a place, the place is within the list, and reading there gives the element.
 pub found_at : {X : Type 0} (xs : List X) (k : ℕ) (x d : X) → slice_get xs k ≡ Some x → (k < length xs) × (slice_index_or xs k d ≡ x)
 found_at [] k x d e = absurd (cc)
 found_at (y ∷ ys) zero x d e = (omega arith, (let same : y ≡ x = cc in same))
@@ -67,11 +67,11 @@ found_there (y ∷ ys) (suc k) less = found_there ys k (omega (arith, less))
 
 -- ---- results
 
--- The machine has the processors, their events and the words of the flat machine.
+-- The machine has the processors, the events and the words of the flat machine.
 pub record Matches (c : Config) (N : theory.Machine ObservedCore) (F : FlatState) (events : List (ℕ × Event)) : Type 0 where
   -- The flat machine has as many processors as the machine.
   pub count : length F.processors ≡ 2 ^ c.k
-  -- It has as many shared words.
+  -- The flat machine has as many shared words as the machine.
   pub size : length F.shared ≡ c.shared_words
   -- Each core is in the state of the flat machine's processor, and has shown its events.
   pub cores : (p : ℕ) → N.core p ≡ record { state = slice_index_or F.processors p no_processor; events = with_events (λ j. []) events p }
@@ -90,7 +90,7 @@ module _ (c : Config) (N : theory.Machine ObservedCore) (F : FlatState) (events 
           past_end (map N.mem (range_with_len 0 c.shared_words)) i 0 (subst (λ n. n ≤ i) (sym (length-map-range_with_len N.mem 0 c.shared_words)) past)
           ∙ sym (past_end F.shared i 0 (subst (λ n. n ≤ i) (sym h.size) past))
 
-  -- A machine that has what a flat machine has, has its result too.
+  -- A machine that matches a flat machine has the same result.
   pub results_same : machine_result c N ≡ result_of F events
   results_same =
       let each : (λ k. result_with (N.core k).state (printed_by [] (N.core k).events))

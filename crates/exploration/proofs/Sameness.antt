@@ -1,8 +1,8 @@
--- Lists that have the same at each place are the same.
+-- Lists with the same elements at all places are equal.
 use Rattle.std.proofs.Common.{◌≡◌, ℕ, ◌<◌, suc, List, [], ◌∷◌, Some, length, refl, arith}
 use Rattle.std.specs.Prelude.{slice_get}
 
--- Two lists of one length that have the same at each place are the same.
+-- Two lists of one length with the same elements at all places are equal.
 pub same_lists : {X : Type 0} (xs ys : List X) → length xs ≡ length ys → ((i : ℕ) → i < length xs → slice_get xs i ≡ slice_get ys i) → xs ≡ ys
 same_lists [] [] as_long each = refl
 same_lists [] (y ∷ ys) as_long each = absurd (omega (arith, as_long))

@@ -1,4 +1,4 @@
--- What a machine does does not depend on what its processors have shown before.
+-- The steps of a machine do not depend on what its processors have shown before.
 use Rattle.std.proofs.Common.{◌≡◌, ◌⊎◌, inl, inr, ℕ, ◌^◌, Bool, true, false, cond, eqb, eq-eqb, ne_eqb, List}
 use Rattle.std.proofs.Common.{[], ◌∷◌, ◌++◌, Option, Some, None, refl, sym, ap, ◌∙◌, nat_lt, append_assoc}
 use Rattle.std.specs.Prelude.{if◌then◌else◌}
@@ -31,7 +31,7 @@ use Rattle.machine_steps.specs.machine_theory.Flatness.{with_events}
 use Rattle.machine_steps.specs.Runs.{all_after, events_of}
 use Rattle.exploration.specs.Results.{IsOfTheMachine, AreOfTheMachine}
 
--- ---- events before others
+-- ---- events put before others
 
 put_shifted : {X Y : Type 0} (shift : ℕ → X → Y) (core : ℕ → X) (p : ℕ) (x : X) → put (λ q. shift q (core q)) p (shift p x) ≡ (λ q. shift q (put core p x q))
 unfolding put
@@ -50,7 +50,7 @@ pub events_join : (first second : List (ℕ × Event)) (shown : ℕ → List Eve
 events_join [] second shown = refl
 events_join ((p, x) ∷ first) second shown = events_join first second (put shown p (shown p ++ x ∷ []))
 
--- What a processor has shown after some events is what it had shown before, and then its own of these events.
+-- A processor has shown what it had shown before, followed by its own of these events.
 pub events_behind : (events : List (ℕ × Event)) (shown : ℕ → List Event) (k : ℕ) → with_events shown events k ≡ shown k ++ with_events (λ j. []) events k
 events_behind [] shown k = sym (append-nil (shown k))
 events_behind ((p, x) ∷ events) shown k =
@@ -63,15 +63,15 @@ events_behind ((p, x) ∷ events) shown k =
 abbrev pub shift : (ℕ → List Event) → ℕ → ObservedCore → ObservedCore
 shift e p g = record { state = g.state; events = e p ++ g.events }
 
--- the machine, whose processors have shown these events before
+-- the machine with these events put before those of its processors
 abbrev pub behind : (ℕ → List Event) → theory.Machine ObservedCore → theory.Machine ObservedCore
 behind e N = record { net = N.net; mem = N.mem; core = λ p. shift e p (N.core p); is_open = N.is_open }
 
--- and as if they had shown none
+-- the machine as if its processors had shown nothing
 abbrev pub forget : theory.Machine ObservedCore → theory.Machine ObservedCore
 forget N = record { net = N.net; mem = N.mem; core = λ p. record { state = (N.core p).state; events = [] }; is_open = N.is_open }
 
--- A machine that forgets its events, and then has them put before, is as it was.
+-- A machine that forgets its events, and then has them put back, is as it was.
 pub as_before : (N : theory.Machine ObservedCore) → behind (events_of N) (forget N) ≡ N
 as_before N =
     let cores : (λ p. shift (events_of N) p (record { state = (N.core p).state; events = [] })) ≡ N.core =
@@ -151,7 +151,7 @@ module _ (c : Config) (code : List ℕ) (e : ℕ → List Event) where
         (by_down (moved_down (sizes_of c) N.net s w))
     step_shifted (step.Poke q) h = absurd h
 
-  -- The machine's steps do the same whatever was shown before, and add their events at the end of that.
+  -- The machine's steps do the same whatever was shown before, and append their events to it.
   pub all_shifted : (steps : List Step) (N : theory.Machine ObservedCore) → AreOfTheMachine steps →
       all_after c code (behind e N) steps ≡ behind e (all_after c code N steps)
   unfolding all_after

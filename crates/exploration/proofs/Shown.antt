@@ -1,4 +1,4 @@
--- Rows in which no processor runs, each with its result: equal results are of equal rows.
+-- Rows in which no processor runs, each with its result: rows with equal results are equal.
 use Rattle.std.proofs.Common.{◌≡◌, ◌⊎◌, inl, inr, ℕ, ◌<◌, ◌≤◌, zero, suc, Bool, true, false, cond, true≢false}
 use Rattle.std.proofs.Common.{List, [], ◌∷◌, ◌++◌, Some, length, map, refl, sym, ap, subst, ◌∙◌, arith, length-append}
 use Rattle.std.specs.Prelude.{Contains, nat_eq, not, slice_get, slice_index, slice_index_or}
@@ -27,7 +27,7 @@ use Rattle.exploration.proofs.Endings.{all_results, at_some, has_at, kept_stands
 
 -- ---- results of equal states
 
--- the station of a processor that has stopped, by what its result says of it
+-- the local state of a stopped processor with this result
 stopped_with : ProcessorResult → LocalState
 stopped_with r = record { processor = record { pc = r.pc; registers = []; local = []; status = r.status }; console = r.console }
 
@@ -70,7 +70,7 @@ module _ (e : Extent) (t : TableLists) (r s : List ℕ) (h : HaveStopped (means 
 
 -- ---- exchanges
 
--- The result of a state whose processors are exchanged stands for that of the state.
+-- Exchanging the processors of a state exchanges those of its result.
 result_exchanged : (place : ℕ → ℕ) (old new : MacroState) → IsExchanged place old new → IsResultExchanged place (result_at old) (result_at new)
 result_exchanged place old new x = record {
   words = x.shared;
@@ -82,7 +82,7 @@ result_exchanged place old new x = record {
 stopped_too : (place : ℕ → ℕ) (old new : MacroState) → IsExchanged place old new → HaveStopped old → HaveStopped new
 stopped_too place old new x h k a found = h (place k) a (sym (x.each k) ∙ found)
 
--- ---- one more
+-- ---- one more row
 
 last_of : {X : Type 0} (xs : List X) (x d : X) → slice_index_or (xs ++ x ∷ []) (length xs) d ≡ x
 last_of [] x d = refl
@@ -100,7 +100,7 @@ one_more P rows row all one i l = by (up_to i (length rows) (let long = length-a
     by (inl less) = subst P (sym (get_or_append_left rows (row ∷ []) [] i less)) (all i less)
     by (inr here) = subst P (sym (ap (λ j. slice_index_or (rows ++ row ∷ []) j []) here ∙ last_of rows row [])) one
 
--- The list of results of no rows is empty.
+-- No rows have no results.
 pub none_shown : (n : ℕ) (e : Extent) (t : TableLists) → AreShown n e t [] []
 none_shown n e t = record {
   all = refl;
@@ -115,7 +115,7 @@ module _ (n : ℕ) (e : Extent) (t : TableLists) (rows : List (List ℕ)) (resul
   last : FinalResult
   last = result_at (means e t row)
 
-  -- Rows have their results at the same places if one in which no processor runs is added, with its result.
+  -- Rows and results still match after a row in which no processor runs is appended, with its result.
   pub shown_more : AreShown n e t (rows ++ row ∷ []) (results ++ result_at (means e t row) ∷ [])
   unfolding last
   shown_more = record {
@@ -152,7 +152,7 @@ module _ (n : ℕ) (e : Extent) (t : TableLists) (rows : List (List ℕ)) (resul
       (states_same e t (slice_index_or rows y.0 []) row (h.stopped y.0 l) halted same) (h.wide y.0 l ∙ sym long) in
       none (y.0, l, any_default rows y.0 row [] l ∙ rows_are)
 
-  -- The result of a row that is new is new, and that of one that is there is there.
+  -- If a row is new, so is its result.
   pub result_added : AreDifferent t → (rows' : List (List ℕ)) → IsRowAdded rows row true rows' →
       IsAdded results (result_at (means e t row)) (results ++ result_at (means e t row) ∷ [])
   result_added differ rows' x = inr (new differ x.0, refl)
@@ -172,9 +172,9 @@ module _ (e : Extent) (classes : List ℕ) (t : TableLists) (old new : List ℕ)
   pub order_stopped : HaveStopped (means e t old) → HaveStopped (means e t new)
   order_stopped = stopped_too x.exchange.place (means e t old) (means e t new) (ordered_means e classes t old new are x)
 
--- ---- a row that is added where it is not there
+-- ---- a row that is added if it is new
 
--- If a row is inserted, it is at the end now or it was there before, and the flag says whether it is new.
+-- Inserting a row appends it unless it was there before, and the flag says whether it is new.
 pub row_added : (rows : List (List ℕ)) (row : List ℕ) (rows' : List (List ℕ)) (fact : Bool) → fact ≡ not (list_any (pointwise nat_eq row) rows) →
     rows' ≡ insert_key (pointwise nat_eq) rows row → IsRowAdded rows row fact rows'
 row_added rows row rows' fact is keys = by (list_any (pointwise nat_eq row) rows) refl

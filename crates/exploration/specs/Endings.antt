@@ -1,4 +1,4 @@
--- The results of states in which no processor runs.
+-- The results of the states in which no processor runs.
 use Rattle.std.specs.Prelude.{◌≡◌, ◌⊎◌, ℕ, ◌<◌, Bool, true, false, List, [], ◌∷◌, ◌++◌, Some, Contains, length}
 use Rattle.std.specs.Prelude.{slice_get, slice_index, slice_index_or}
 use Rattle.local_reduction.specs.Closing.{MacroState}
@@ -15,7 +15,7 @@ use Rattle.state_search.specs.Search.{state_at}
 abbrev pub IsStoodFor : (classes : List ℕ) → List FinalResult → FinalResult → Type 0
 IsStoodFor classes results q = (r : FinalResult) × Contains results r × StandsFor classes r q
 
--- The result is an exchange of that of one of the rows in which no processor runs.
+-- The result is an exchange of the result of a row in which no processor runs.
 pub record IsEnding (e : Extent) (classes : List ℕ) (t : TableLists) (rows : List (List ℕ))
     (r : FinalResult) : Type 0 where
   pub place : ℕ
@@ -23,18 +23,18 @@ pub record IsEnding (e : Extent) (classes : List ℕ) (t : TableLists) (rows : L
   pub stopped : HaveStopped (state_at e t rows place)
   pub is : StandsFor classes (result_at (state_at e t rows place)) r
 
--- The result is an exchange of that of the state at a place, in which no processor runs.
+-- In the state at a place no processor runs, and the result is an exchange of its result.
 pub record IsResultOf (classes : List ℕ) (state : ℕ → MacroState) (place : ℕ) (r : FinalResult) : Type 0 where
   pub stopped : HaveStopped (state place)
   pub is : StandsFor classes (result_at (state place)) r
 
--- One of the first this many results stands for this one.
+-- One of the first `count` results stands for this one.
 abbrev pub IsStoodForBefore : (classes : List ℕ) → List FinalResult → (count : ℕ) → FinalResult → Type 0
 IsStoodForBefore classes results count q =
     (j : ℕ) × (j < count) × (r : FinalResult) × (slice_get results j ≡ Some r) × StandsFor classes r q
 
--- The results come in the order of the first this many states: each is that of a state, one after another, and before
--- it come those of the states before in which no processor runs.
+-- The results come in the order of the first `count` states. Each is the result of a later state than those before it,
+-- and those before it stand for the results of all earlier states in which no processor runs.
 pub record AreInOrder (classes : List ℕ) (state : ℕ →
     MacroState) (count : ℕ) (results : List FinalResult) : Type 0 where
   pub places : List ℕ
@@ -51,12 +51,12 @@ abbrev pub IsOnce : List FinalResult → Type 0
 IsOnce results =
     (i j : ℕ) (r : FinalResult) → slice_get results i ≡ Some r → slice_get results j ≡ Some r → i ≡ j
 
--- The result is at the end now, or it was there before.
+-- The result is appended, unless it was there before.
 abbrev pub IsAdded : (old : List FinalResult) → FinalResult → (new : List FinalResult) → Type 0
 IsAdded old r new = (Contains old r × (new ≡ old)) ⊎ ((Contains old r → ⊥) × (new ≡ old ++ r ∷ []))
 
--- Each of these rows, of this many numbers, has a state in which no processor runs, and its result stands at the same
--- place.
+-- The rows, each of `count` numbers, mean states in which no processor runs, and the results are theirs, in the same
+-- order.
 pub record AreShown (count : ℕ) (e : Extent) (t : TableLists) (rows : List (List ℕ))
     (results : List FinalResult) : Type 0 where
   pub all : length rows ≡ length results
@@ -65,24 +65,24 @@ pub record AreShown (count : ℕ) (e : Extent) (t : TableLists) (rows : List (Li
   pub stopped : (i : ℕ) → i < length rows → HaveStopped (state_at e t rows i)
   pub each : (i : ℕ) → i < length rows → slice_get results i ≡ Some (result_at (state_at e t rows i))
 
--- The row is at the end now, or it was there before.
+-- The row is appended if it is new, and was there before otherwise.
 abbrev pub IsRowAdded : (old : List (List ℕ)) → (row : List ℕ) → (is_new : Bool) → (new : List (List ℕ)) → Type 0
 IsRowAdded old row true new = (Contains old row → ⊥) × (new ≡ old ++ row ∷ [])
 IsRowAdded old row false new = Contains old row × (new ≡ old)
 
--- If no processor runs in the state, an exchange of its result is added, and else the results stay.
+-- If no processor runs in the state, an exchange of its result is added; otherwise the results stay the same.
 abbrev pub IsEndingAdded : (classes : List ℕ) → MacroState → (old new : List FinalResult) → Type 0
 IsEndingAdded classes s old new =
     (HaveStopped s × (r : FinalResult) × StandsFor classes (result_at s) r × IsAdded old r new)
     ⊎ ((HaveStopped s → ⊥) × (new ≡ old))
 
--- ---- what is said of a machine
+-- ---- the results of a machine
 
--- The results stand for those of the machine, and for no others.
+-- The results stand for exactly the results of the machine.
 pub record AreResultsUpTo (m : MachineLists) (classes : List ℕ) (results : List FinalResult) : Type 0 where
   pub sound : (r q : FinalResult) → Contains results r → StandsFor classes r q → IsMachineResult m q
   pub complete : (q : FinalResult) → IsMachineResult m q → IsStoodFor classes results q
 
--- Each processor is of a class of its own, so that a result stands for itself alone.
+-- Each processor has a class of its own, so a result stands only for itself.
 abbrev pub AreSingle : (processors : ℕ) → (classes : List ℕ) → Type 0
 AreSingle processors classes = (j k : ℕ) → k < processors → AreAlike classes j k → j ≡ k

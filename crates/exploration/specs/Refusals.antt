@@ -1,4 +1,4 @@
--- What a search that was made without exchange was given up for.
+-- why a search without exchanges gives up
 use Rattle.state_search.specs.declared.refusal.Refusal.{Refusal as SearchRefusal}
 use Rattle.state_search.specs.declared.refusal.Refusal.TheVariants as search
 use Rattle.exploration.specs.declared.refusal.Refusal.{Refusal}

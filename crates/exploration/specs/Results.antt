@@ -1,4 +1,4 @@
--- Final results of the combining machine: what is left of one in which no processor runs any more.
+-- Final results of the combining machine: what is left once no processor runs.
 use Rattle.std.specs.Prelude.{◌≡◌, ℕ, ◌^◌, ◌<◌, false, List, [], ◌∷◌, map}
 use Rattle.std.specs.List.{range_with_len}
 use Rattle.flat_machine.specs.declared.config.Config.{Config}
@@ -13,7 +13,7 @@ use Rattle.machine_steps.specs.Runs.{all_after}
 use Rattle.local_reduction.specs.LocalStates.{printed_after}
 use Rattle.local_reduction.specs.Results.{FinalResult, result_with}
 
--- the bytes that these events print, after those before
+-- the console after these events
 abbrev pub printed_by : List ℕ → List Event → List ℕ
 printed_by console [] = console
 printed_by console (shown ∷ events) = printed_by (printed_after console shown) events
@@ -40,11 +40,11 @@ abbrev pub AreOfTheMachine : List Step → Type 0
 AreOfTheMachine [] = Unit {0}
 AreOfTheMachine (s ∷ steps) = IsOfTheMachine s × AreOfTheMachine steps
 
--- the machine after these steps, whose processors have shown nothing before
+-- the machine after these steps, with only their events shown
 abbrev pub stands_after : MachineLists → List Step → theory.Machine ObservedCore
 stands_after m steps = all_after m.config m.code (machine_of m (λ p. [])) steps
 
--- some steps without writes from outside end in it
+-- Some steps without writes from outside end in this result, with no processor running.
 abbrev pub IsMachineResult : MachineLists → FinalResult → Type 0
 IsMachineResult m r =
     (steps : List Step) × AreOfTheMachine steps × NoneRuns m.config (stands_after m steps)

@@ -1,4 +1,4 @@
--- The states between references to which a machine comes.
+-- The states between references that a machine reaches.
 use Rattle.std.specs.Prelude.{◌≡◌, ℕ, ◌<◌, ◌≤◌, Bool, List, []}
 use Rattle.flat_machine.specs.declared.setting.Setting.{Setting}
 use Rattle.flat_machine.specs.State.{FlatState}
@@ -15,9 +15,8 @@ use Rattle.exploration.specs.Endings.{AreInOrder}
 use Rattle.exploration.specs.declared.refusal.Refusal.{Refusal}
 use Rattle.exploration.specs.declared.refusal.Refusal.TheVariants as refusal
 
--- The flat machine settles to the first of these states, in which processors of the same class can take each other's
--- place, and moves lead from there to each of them. No two are the same. What registers hold is no part of a state
--- where they are not live.
+-- The flat machine settles to the first of these states, and moves lead from there to each of them, up to exchanges of
+-- processors of one class. No two are equal. The contents of registers that are not live are no part of a state.
 pub record AreStates (m : FlatState) (classes : List ℕ) (count : ℕ) : Type 0 where
   pub at : ℕ → Setting
   pub code : List ℕ
@@ -28,9 +27,8 @@ pub record AreStates (m : FlatState) (classes : List ℕ) (count : ℕ) : Type 0
   pub reached : AreReached at code (kept_by live) classes state count
   pub different : AreDifferentStates count state
 
--- They are all, except those that come after one in which a processor spins, with their successors, in the order in
--- which they are found breadth first. What is said of schedules holds of them, and the results are theirs and come in
--- their order.
+-- These are all states, except those reached only through a state in which a processor spins, with their successors,
+-- in breadth-first order. The termination is theirs, and so are the results, in the same order.
 pub record AreAllStates (m : FlatState) (classes : List ℕ) (results : List FinalResult) (termination : Termination)
     (count : ℕ) : Type 0 where
   pub states : AreStates m classes count
@@ -40,14 +38,14 @@ pub record AreAllStates (m : FlatState) (classes : List ℕ) (results : List Fin
   pub fact : IsTrueOf moves termination
   pub order : AreInOrder classes states.state count results
 
--- There are this many states or more.
+-- There are at least `least` states.
 pub record HasManyStates (m : FlatState) (least : ℕ) : Type 0 where
   pub classes : List ℕ
   pub count : ℕ
   pub many : least ≤ count
   pub states : AreStates m classes count
 
--- A search is given up for too many states only if there are.
+-- If a search gives up because of too many states, there are at least `limit` states.
 abbrev pub IsGivenUp : FlatState → (limit : ℕ) → Refusal → Type 0
 IsGivenUp m limit refusal.Memory = Unit {0}
 IsGivenUp m limit refusal.States = HasManyStates m limit

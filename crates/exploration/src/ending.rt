@@ -1,4 +1,4 @@
-//! The results of rows in which no processor runs.
+//! The results of the rows in which no processor runs.
 
 ghost use Rattle.std.specs.Prelude.{◌≡◌, ◌↔◌, ◌<◌, ◌≤◌, ℕ, All, length, map, IfOk, IsTrue, OnOk};
 ghost use Rattle.local_reduction.specs.Results.{HaveStopped, result_at, local_state_result};
@@ -15,16 +15,16 @@ use indexmap::IndexSet;
 use state_search::{Extent, StateTables, StateVector};
 use std::alloc::{AllocError, Global};
 
-/// Results, and the place of the row of each.
+/// Results, each with the place of its row.
 #[derive(Drop)]
 pub(crate) struct Endings<const N: usize> {
     pub results: Vec<FinalResult>,
     pub places: Vec<u32>,
-    /// The rows whose results they are, by which a result is found.
+    /// The ordered rows of the results, by which a result is looked up.
     shown: IndexSet<StateVector<N>>,
 }
 
-/// The result of each row in which no processor runs, up to exchanges of processors of one class, each once.
+/// Returns the result of each row in which no processor runs, up to exchanges of processors of one class, once each.
 pub(crate) fn results_of<const N: usize>(
     alloc: Global,
     state_tables: &StateTables,
@@ -67,7 +67,7 @@ pub(crate) fn results_of<const N: usize>(
     Ok(endings)
 }
 
-/// Adds the result of a row, if no processor runs in it and the result is not there.
+/// Adds the result of a row, if no processor runs in it and the result is new.
 fn add_ending<const N: usize>(
     alloc: Global,
     state_tables: &StateTables,
@@ -101,7 +101,7 @@ fn add_ending<const N: usize>(
     Ok(())
 }
 
-/// Adds a row if it is not there, and says whether it was added.
+/// Adds a row if it is new, and returns whether it was.
 fn is_new<const N: usize>(
     rows: &mut IndexSet<StateVector<N>>,
     row: StateVector<N>,
@@ -115,7 +115,7 @@ fn is_new<const N: usize>(
     }
 }
 
-/// Whether no processor runs.
+/// Returns whether no processor runs.
 fn has_stopped<const N: usize>(
     state_tables: &StateTables,
     extent: Extent,

@@ -1,13 +1,12 @@
 //! Every final result of a small program.
 //!
-//! [`explore`] finds each result in which a machine can end on any schedule of its steps, and no other: where each
-//! processor has stopped, how, and what it has printed, and the shared words. It searches the states between
-//! references (crate `state_search`). Processors that stand alike can be exchanged, so a result stands for each that
-//! comes of it by such an exchange (crates `local_reduction` and `state_graph`).
+//! [`explore`] finds exactly the results in which a machine can end on some schedule of its steps. A result says where
+//! each processor stopped, how, and what it printed, and has the shared words. The search looks at the states between
+//! references (crate `state_search`). Processors that are alike can be exchanged, so a result stands for all that such
+//! exchanges make of it (crates `local_reduction` and `state_graph`).
 //!
-//! That the combining machine has the results of the flat machine, and no others, is a law
-//! ([`results_are_those_of_the_flat_machine`]): so they depend neither on the room of its queues nor on that of its
-//! wait buffers.
+//! A law shows that the combining machine has exactly the results of the flat machine
+//! ([`results_are_those_of_the_flat_machine`]), so they do not depend on the sizes of its queues and wait buffers.
 #![tactic(auto)]
 
 mod ending;

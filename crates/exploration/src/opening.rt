@@ -1,4 +1,4 @@
-//! What a machine opens on.
+//! The cores and the shared words from which a search starts.
 
 ghost use Rattle.std.specs.Prelude.{◌≡◌, ◌≤◌, ◌^◌, map, IfOk};
 ghost use Rattle.std.specs.List.{range_with_len};
@@ -10,7 +10,7 @@ use machine_steps::Machine;
 use state_search::SparseWords;
 use std::alloc::{AllocError, Global};
 
-/// The cores of all processors, none of which is away.
+/// Copies the cores of all processors. None of them may be away.
 pub fn cores_of(alloc: Global, machine: &Machine) -> Result<Vec<Core>, AllocError>
     requires home { AreHome machine.now }
     ensures { IfOk result (λ cores. cores.items
@@ -26,7 +26,7 @@ pub fn cores_of(alloc: Global, machine: &Machine) -> Result<Vec<Core>, AllocErro
     Ok(cores)
 }
 
-/// All shared words.
+/// Copies all shared words.
 pub fn words_of(alloc: Global, machine: &Machine) -> Result<SparseWords, AllocError>
     ensures { IfOk result (λ words. words
         ≡ map (word_at machine.now.config.k machine.now.modules) (range_with_len 0 machine.now.config.shared_words)) }

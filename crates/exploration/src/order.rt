@@ -1,4 +1,4 @@
-//! Rows whose alike processors are in an order by what they show.
+//! Rows in which the processors of each class are in the order of their results.
 
 ghost use Rattle.std.specs.Prelude.{◌<◌, ◌≤◌, length};
 ghost use Rattle.state_search.specs.Rows.{IsRowExchanged};
@@ -9,8 +9,8 @@ use flat_machine::Status;
 use state_search::{Extent, SavedLocalState, StateTables, StateVector, trade};
 use std::cmp::Ordering;
 
-/// The row with the processors of each class in order by their `pc`, how they stopped, and what they printed. Holders
-/// that stand at the places of the processors trade with them; there may be none.
+/// Returns the row with the processors of each class sorted by their `pc`, how they stopped, and what they printed. The
+/// holders at the places, if any, are exchanged with them.
 pub(crate) fn in_order<const N: usize>(
     state_tables: &StateTables,
     extent: Extent,
@@ -32,7 +32,7 @@ pub(crate) fn in_order<const N: usize>(
     new
 }
 
-/// Moves a processor down to its place among those of its class before it.
+/// Moves a processor down to its place among the earlier processors of its class.
 fn sink<const N: usize>(
     state_tables: &StateTables,
     extent: Extent,
@@ -63,8 +63,8 @@ fn sink<const N: usize>(
     }
 }
 
-/// Trades two processors of one class if the second comes before the first. Gives the place at which then stands what
-/// stood at the second.
+/// Trades two processors of one class if the second precedes the first. Returns the place where the processor at
+/// `second` is afterwards.
 fn step<const N: usize>(
     state_tables: &StateTables,
     extent: Extent,
@@ -94,7 +94,7 @@ fn step<const N: usize>(
     first
 }
 
-/// Whether a processor comes before another.
+/// Returns whether a processor precedes another.
 fn precedes(one: &SavedLocalState, other: &SavedLocalState) -> bool {
     let order = one
         .pc()
@@ -104,7 +104,7 @@ fn precedes(one: &SavedLocalState, other: &SavedLocalState) -> bool {
     order == Ordering::Less
 }
 
-/// Halts come in the order of their bytes, and after them faults in the order of their numbers.
+/// The rank of a status: halts in the order of their bytes, then faults in the order of their numbers.
 fn rank_of(status: Status) -> u16 {
     match status {
         Status::Running => 0,

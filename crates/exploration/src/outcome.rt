@@ -1,4 +1,4 @@
-//! What is found.
+//! What a search finds.
 
 ghost use Rattle.std.specs.Prelude.{◌≡◌, ◌↔◌, IsTrue};
 
@@ -7,7 +7,7 @@ use state_graph::Termination;
 use state_search::SparseWords;
 use std::marker::Model;
 
-/// Where a processor has stopped, how, and the bytes that it has printed.
+/// Where a processor stopped, how, and the bytes that it printed.
 #[derive(Drop)]
 pub struct ProcessorResult {
     pub pc: u32,
@@ -23,7 +23,7 @@ impl Model for ProcessorResult {
     ghost view = { λ r. record { pc = r.pc; status = r.status; console = r.console.items } };
 }
 
-/// A final result: that of each processor, by their numbers, and the shared words.
+/// A final result: the result of each processor, in the order of their numbers, and the shared words.
 #[derive(Drop)]
 pub struct FinalResult {
     pub processors: Vec<ProcessorResult>,
@@ -39,7 +39,7 @@ impl Model for FinalResult {
 }
 
 impl ProcessorResult {
-    /// Whether both are the same.
+    /// Returns whether both are equal.
     pub(crate) fn is_same(&self, other: &ProcessorResult) -> bool
         ensures { IsTrue result ↔ (self.now ≡ other.now) }
     {
@@ -50,7 +50,7 @@ impl ProcessorResult {
 }
 
 impl FinalResult {
-    /// Whether both are the same.
+    /// Returns whether both are equal.
     pub fn is_same(&self, other: &FinalResult) -> bool
         ensures { IsTrue result ↔ (self.now ≡ other.now) }
     {
@@ -59,7 +59,7 @@ impl FinalResult {
     }
 }
 
-/// Whether the processors have the same results.
+/// Returns whether the results of the processors are equal.
 fn are_same(some: &[ProcessorResult], others: &[ProcessorResult]) -> bool
     ensures { IsTrue result ↔ (some.now ≡ others.now) }
 {
@@ -77,15 +77,15 @@ fn are_same(some: &[ProcessorResult], others: &[ProcessorResult]) -> bool
 /// All final results, up to exchanges of processors of one class, and whether schedules end.
 #[derive(Drop)]
 pub struct Explored {
-    /// In the order in which they are found. Each has its processors, in each class, in an order by what they show.
+    /// The results, in the order of their discovery. In each, the processors of a class are sorted by their own results.
     pub results: Vec<FinalResult>,
     pub termination: Termination,
-    /// How many states are found.
+    /// How many states the search found.
     pub states: usize,
-    /// The class of each processor, named by the first that is in it. A result stands for each that comes of it if
-    /// processors of one class are exchanged.
+    /// The class of each processor, named by the first processor in it. A result stands for all that exchanges of
+    /// processors of one class make of it.
     pub classes: Vec<u8>,
-    /// The processors whose references, one after another, lead to what was wanted, on a way with as few of them as
-    /// any. It is empty if nothing was wanted, or that is not there.
+    /// The processors whose references, one after another, lead to what was wanted, on a shortest way. It is empty if
+    /// nothing was wanted, or there is no such state.
     pub way: Vec<u8>,
 }

@@ -1,24 +1,24 @@
-//! Why a search is given up.
+//! Why a search gives up.
 
 ghost use Rattle.std.specs.Prelude.{◌≡◌};
 ghost use Rattle.exploration.specs.Refusals.{refused_by_search};
 
 use state_search::Refusal as SearchRefusal;
 
-/// Why a search is given up.
+/// Why a search gives up.
 #[derive(Clone, Copy, Debug, PartialEq, Eq, Drop)]
 pub enum Refusal {
-    /// There is no memory for what is found.
+    /// Out of memory.
     Memory,
-    /// There are as many states as the limit, or more.
+    /// There are at least as many states as the limit.
     States,
-    /// A processor goes on for 1,000,000 instructions without a reference.
+    /// A processor runs for 1,000,000 instructions without a reference, and is not found to spin.
     Alone,
 }
 
 impl Refusal {
-    /// What a search that was made without exchange was given up for. It is not given up for a processor that asks for
-    /// its own number, which only one with exchange looks for.
+    /// Why a search without exchanges gives up. A processor that asks for its own number is never the reason: only a
+    /// search with exchanges looks for one.
     pub(crate) fn of(refusal: SearchRefusal) -> Self
         ensures { result ≡ refused_by_search refusal }
     {

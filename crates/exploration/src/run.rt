@@ -1,4 +1,4 @@
-//! The search of a machine.
+//! The search of a machine's states.
 
 ghost use Rattle.std.specs.Prelude.{◌≡◌, ◌<◌, ◌≤◌, ◌^◌, ℕ, false, Contains, length, IfErr, IfOk};
 ghost use Rattle.local_reduction.specs.Results.{FinalResult, HaveStopped, IsFlatResult, StandsFor, result_at};
@@ -33,27 +33,27 @@ use state_search::{
 };
 use std::alloc::Global;
 
-/// What is searched for.
+/// What a search does, and what it looks for.
 #[derive(Clone, Copy, Debug, PartialEq, Eq, Drop)]
 pub struct Search {
-    /// With how many states between references the search is given up.
+    /// The number of states between references at which the search gives up.
     pub limit: u32,
-    /// Whether processors that stand alike are exchanged. If not, each result is listed by itself.
+    /// Whether alike processors are exchanged. If not, every result is listed.
     pub exchanged: bool,
-    /// To which result a way is wanted, from 1 in their order, or 0 for a state from which no end can be reached.
+    /// The result to which a way is wanted, counted from 1; 0 for a state from which no end can be reached.
     pub wanted: Option<u32>,
 }
 
-/// All final results that a machine can have, up to exchanges of processors that stand alike: each in which some steps
-/// without writes from outside end, after which no processor runs. How many states are found is reported as they are.
+/// Finds all final results that a machine can have, up to exchanges of alike processors. A final result is one in which
+/// steps without writes from outside end, with no processor running. The search reports the number of states found to
+/// `observer`.
 ///
-/// If a processor asks for its own number after a reference, processors are not exchanged: the search is made once more
-/// without.
+/// If a processor asks for its own number after a reference, the search starts again without exchanges.
 ///
 /// # Errors
 ///
-/// [`Refusal::States`] if there are as many states between references as the limit, or more, [`Refusal::Alone`] if a
-/// processor goes on for 1,000,000 instructions without a reference and is not found to spin, and [`Refusal::Memory`].
+/// [`Refusal::States`] if there are at least `limit` states between references; [`Refusal::Alone`] if a processor runs
+/// for 1,000,000 instructions without a reference and is not found to spin; [`Refusal::Memory`] if out of memory.
 #[tactic(auto, using(crate::proofs::Exploring::search_gives_up))]
 pub fn explore<G: SearchObserver>(
     alloc: Global,
@@ -89,7 +89,7 @@ pub fn explore<G: SearchObserver>(
     }
 }
 
-/// The same, with processors exchanged or not.
+/// Does what [`explore`] does, with processors exchanged or not.
 fn explore_as<G: SearchObserver>(
     alloc: Global,
     machine: &Machine,
@@ -127,7 +127,7 @@ fn explore_as<G: SearchObserver>(
     Ok(explored)
 }
 
-/// How many processors and words a machine has.
+/// The extent of a machine.
 fn extent_of(machine: &Machine, exchanged: bool) -> Extent
     ensures { result
         ≡ record {
@@ -144,7 +144,7 @@ fn extent_of(machine: &Machine, exchanged: bool) -> Extent
     }
 }
 
-/// All results of the flat machine of these cores and words, found by rows as wide as its processors need.
+/// Finds all results of the flat machine with these cores and words, with rows as wide as its processors need.
 fn explored_by_width<G: SearchObserver>(
     alloc: Global,
     code: &Code,
@@ -181,7 +181,7 @@ fn explored_by_width<G: SearchObserver>(
     }
 }
 
-/// All results of the flat machine of these cores and words.
+/// Finds all results of the flat machine with these cores and words.
 fn explore_from<const N: usize, G: SearchObserver>(
     alloc: Global,
     code: &Code,
@@ -245,9 +245,8 @@ fn explore_from<const N: usize, G: SearchObserver>(
     Ok(explored)
 }
 
-/// The results of the rows that a search has found, what their successors say of schedules, and the way that is
-/// wanted.
-// A function of its own, so that none has many values to drop at each of its ends.
+/// Returns the results of the rows that a search found, whether schedules end, and the way that is wanted.
+// A function of its own, so that no function has many values to drop at each of its returns.
 fn results_of_space<const N: usize>(
     alloc: Global,
     state_tables: &mut StateTables,

@@ -1,4 +1,4 @@
-//! The way to a state that is found, by the processors whose references lead there.
+//! The way to a state: the processors whose references lead to it.
 
 ghost use Rattle.std.specs.Prelude.{◌≡◌, ◌<◌, ◌≤◌, length, OnOk};
 ghost use Rattle.local_reduction.specs.Live.{HasAllLive};
@@ -12,7 +12,7 @@ use state_graph::{Termination, path_to};
 use state_search::{Extent, MoveRefusal, StateSpace, StateTables, TransitionCaches, movers_of};
 use std::alloc::Global;
 
-/// The place of the row that is wanted, if it is there.
+/// The place of the row that is wanted, if there is such a row.
 pub(crate) fn place_of(
     places: &[u32],
     termination: Termination,
@@ -27,12 +27,12 @@ pub(crate) fn place_of(
     }
 }
 
-/// The processors whose references, one after another, lead to the row at a place. Each has the name under which it
-/// stands in the row, or, if the row is an end, in its result.
+/// Returns the processors whose references, one after another, lead to the row at a place. Each has the number that it
+/// has in that row or, if the row is an end, in its result.
 ///
 /// # Errors
 ///
-/// As of [`movers_of`].
+/// Those of [`movers_of`].
 pub(crate) fn way_of<const N: usize>(
     alloc: Global,
     state_tables: &mut StateTables,
@@ -74,7 +74,7 @@ pub(crate) fn way_of<const N: usize>(
     Ok(walk.movers)
 }
 
-/// Trades the holders of a row's places as its processors trade where its result has them in order.
+/// Exchanges the holders of a row's places as the order of its result exchanges its processors.
 fn trade_as_result<const N: usize>(
     state_tables: &StateTables,
     extent: Extent,
@@ -93,14 +93,14 @@ fn trade_as_result<const N: usize>(
     }
 }
 
-/// Names each processor by the place that it holds.
+/// Replaces each processor by the number of the place that it holds.
 fn name_by_places(movers: &mut [u8], holders: &[u8]) {
     for mover in movers.iter_mut() {
         *mover = place_held_by(holders, *mover);
     }
 }
 
-/// The place that a processor holds.
+/// The place that a processor holds; the processor itself if it holds none.
 fn place_held_by(holders: &[u8], processor: u8) -> u8 {
     let mut place = 0;
     for holder in holders {

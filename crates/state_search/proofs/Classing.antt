@@ -1,4 +1,4 @@
--- Classes that are named by the first processor in them.
+-- Classes named by their first processor.
 use Rattle.std.proofs.Common.{◌≡◌, ◌⊎◌, inl, inr, ℕ, ◌+◌, ◌<◌, false, List, [], ◌∷◌, ◌++◌, length, refl, sym, ap, subst, ◌∙◌, arith, length-append}
 use Rattle.std.specs.Prelude.{slice_index}
 use Rattle.std.proofs.lemmas.List.{get_or_append_left}
@@ -6,20 +6,20 @@ use Rattle.state_search.specs.declared.state_tables.Extent.{Extent}
 use Rattle.state_search.specs.Search.{AreClasses}
 use Rattle.state_search.proofs.Lemmas.{found_at, there, up_to}
 
--- The first this many have a class, that of a processor that stands as they do, or else their own.
+-- The first `done` processors have a class: that of a processor with the same number, or one of their own.
 pub record AreNamed (e : Extent) (row classes : List ℕ) (done : ℕ) : Type 0 where
-  -- there is a class for each of the first processors
+  -- The list has a class for each of the first `done` processors.
   pub all : length classes ≡ done
-  -- each has the same number in the row as the processor that its class is named after
+  -- Each has the same number in the row as the processor that names its class.
   pub alike : (k : ℕ) → k < done → slice_index row (slice_index classes k) ≡ slice_index row k
-  -- if processors are not exchanged, each has a class of its own
+  -- If processors are not exchanged, each has a class of its own.
   pub own : e.exchanged ≡ false → (k : ℕ) → k < done → slice_index classes k ≡ k
 
 last : (xs : List ℕ) (x : ℕ) → slice_index (xs ++ x ∷ []) (length xs) ≡ x
 last [] x = refl
 last (y ∷ xs) x = last xs x
 
--- If the next processor gets the class of one with the same number, or its own, one more has a class.
+-- If the next processor gets the class of one with the same number, or its own, one more processor has a class.
 pub named_on : (e : Extent) (row classes new : List ℕ) (done class : ℕ) → AreNamed e row classes done → new ≡ classes ++ class ∷ [] →
     slice_index row class ≡ slice_index row done → (e.exchanged ≡ false → class ≡ done) → AreNamed e row new (done + 1)
 named_on e row classes new done class h is alike own =
@@ -45,7 +45,7 @@ named_on e row classes new done class h is alike own =
     own_at off k (inl l) = before k l ∙ h.own off k l
     own_at off k (inr same) = ap (slice_index (classes ++ class ∷ [])) same ∙ (here ∙ (own off ∙ sym same))
 
--- After all processors have a class, these are the classes of the processors.
+-- Once every processor has a class, the list has the classes of the processors.
 pub are_classes : (e : Extent) (row classes : List ℕ) → AreNamed e row classes e.processors → AreClasses e classes
 are_classes e row classes h = record {
   all = h.all;
@@ -55,7 +55,7 @@ are_classes e row classes h = record {
       sym (h.own off j (subst (λ n. j < n) h.all found.0)) ∙ (found.1 ∙ h.own off k few);
 }
 
--- After all processors have a class, those of one class have equal numbers in the row.
+-- Once every processor has a class, those of one class have equal numbers in the row.
 pub alike_rows : (e : Extent) (row classes : List ℕ) → AreNamed e row classes e.processors → (j k : ℕ) → j < e.processors → k < e.processors →
     slice_index classes j ≡ slice_index classes k → slice_index row j ≡ slice_index row k
 alike_rows e row classes h j k lj lk same = sym (h.alike j lj) ∙ (ap (slice_index row) same ∙ h.alike k lk)

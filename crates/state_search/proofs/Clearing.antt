@@ -1,4 +1,4 @@
--- Where a register that is not live is cleared, the same is kept.
+-- Clearing a register that is not live does not change what is kept.
 use Rattle.std.proofs.Common.{◌≡◌, ◌⊎◌, inl, inr, ℕ, ◌+◌, ◌%◌, ◌<◌, ◌≤◌, zero, suc, Bool, true, false, true≢false, not, ◌||◌, ◌==◌, cond, List, [], ◌∷◌}
 use Rattle.std.proofs.Common.{refl, sym, ap, subst, ◌∙◌, arith, ne_eqb, eq-eqb}
 use Rattle.std.specs.Prelude.{slice_index, slice_set}
@@ -12,7 +12,7 @@ use Rattle.local_reduction.specs.Forgetting.{DeadAreNotKept, only}
 use Rattle.state_search.specs.Placed.{Placed, IsBare, IsSame}
 use Rattle.state_search.proofs.Lemmas.{up_to}
 
--- a core with what it has printed
+-- the local state with this core and this console
 abbrev pub placed_with : CoreState → List ℕ → Placed
 placed_with c console = record { setting = c.setting; local_state = record { processor = c.state; console = console } }
 
@@ -20,20 +20,20 @@ poked : (r : ℕ) (p : Processor) → r < 32 → with_poked_register r 0 p ≡ r
 poked r p low =
     ap (λ b. cond b (record p { pc = 0 }) (record p { registers = slice_set p.registers r 0 })) (ne_eqb r 32 (λ same. absurd (omega (arith, low, same))))
 
--- The registers below a number are cleared, but for those that are live.
+-- The registers below `done` that are not live are cleared.
 pub record IsCleared (live : List (List Bool)) (first : Placed) (pc : ℕ) (c : CoreState) (console : List ℕ) (done : ℕ) : Type 0 where
   pub same : IsSame live (placed_with c console) first
   pub pc_is : c.state.pc ≡ pc
-  -- the registers from 1 on that are below `done` and not live hold 0
+  -- The registers from 1 on that are below `done` and not live hold 0.
   pub bare : (r : ℕ) → 0 < r → r < done → is_live live pc r ≡ false → slice_index c.state.registers r ≡ 0
 
--- Before register 1 no register is to be cleared.
+-- Below register 1 there is no register to clear.
 pub none_cleared : (live : List (List Bool)) (first : Placed) (pc : ℕ) (c : CoreState) (console : List ℕ) →
     IsSame live (placed_with c console) first → c.state.pc ≡ pc → IsCleared live first pc c console 1
 none_cleared live first pc c console same pc_is =
     record { same = same; pc_is = pc_is; bare = λ r some low. absurd (omega (arith, some, low)) }
 
--- A register that is live is kept.
+-- A live register need not be cleared.
 pub kept_on : (live : List (List Bool)) (first : Placed) (pc r : ℕ) (c : CoreState) (console : List ℕ) → is_live live pc r ≡ true →
     IsCleared live first pc c console r → IsCleared live first pc c console (r + 1)
 kept_on live first pc r c console alive h = record {
@@ -51,7 +51,7 @@ zeroed [] r = refl
 zeroed (x ∷ xs) zero = refl
 zeroed (x ∷ xs) (suc r) = zeroed xs r
 
--- If a register that is not live is set to 0, the registers are cleared up to the next one.
+-- Setting a register that is not live to 0 clears the registers below the next one.
 pub cleared_on : DeadAreNotKept → (live : List (List Bool)) (first : Placed) (pc r : ℕ) (old new : CoreState) (console : List ℕ) → r < 32 →
     is_live live pc r ≡ false → new ≡ record old { state = with_poked_register r 0 old.state } → IsCleared live first pc old console r →
     IsCleared live first pc new console (r + 1)
@@ -81,7 +81,7 @@ or_right : (a b : Bool) → (a || b) ≡ false → b ≡ false
 or_right true b h = absurd (true≢false h)
 or_right false b h = h
 
--- Register 0 is live, and so is what is no register.
+-- A number that is not live is one of registers 1 to 31.
 dead_is_register : (live : List (List Bool)) (pc r : ℕ) → is_live live pc r ≡ false → (0 < r) × (r < 32)
 dead_is_register live pc r dead =
     let first = or_left _ _ dead in
@@ -93,7 +93,7 @@ dead_is_register live pc r dead =
     by (inl some) none = some
     by (inr past) none = let here : r ≡ 0 = omega (arith, past) in absurd (true≢false (sym (eq-eqb r 0 here) ∙ none))
 
--- where all that a set leaves out is zero, it leaves the list as it is
+-- Keeping only a set of places changes nothing if all other places are zero.
 only_same : (set : ℕ → Bool) (xs : List ℕ) → ((r : ℕ) → set r ≡ false → slice_index xs r ≡ 0) → only set xs ≡ xs
 only_same set [] h = refl
 only_same set (x ∷ xs) h =
@@ -104,7 +104,7 @@ only_same set (x ∷ xs) h =
     by true none = refl
     by false none = sym (none refl)
 
--- After all 32 registers, those that are not live hold 0.
+-- Once all 32 registers are done, those that are not live hold 0.
 pub all_bare : (live : List (List Bool)) (first : Placed) (pc : ℕ) (c : CoreState) (console : List ℕ) (done : ℕ) → 32 ≤ done →
     IsCleared live first pc c console done → IsBare live (placed_with c console)
 all_bare live first pc c console done far h =

@@ -1,4 +1,4 @@
--- Stations and lists of tables that differ, and so do the states that rows mean.
+-- If no two entries of the tables are equal, different rows mean different states.
 use Rattle.std.proofs.Common.{◌≡◌, ◌⊎◌, inl, inr, ℕ, ◌<◌, ◌≤◌, zero, suc, Bool, true, false, true≢false, nat_eq, cond}
 use Rattle.std.proofs.Common.{List, [], ◌∷◌, ◌++◌, Some, length, refl, sym, ap, subst, ◌∙◌, arith, length-append}
 use Rattle.std.specs.Prelude.{slice_get, slice_index, slice_index_or}
@@ -21,7 +21,7 @@ use Rattle.state_search.specs.StateTables.{TableLists, nowhere, placed_at, words
 use Rattle.state_search.proofs.Keys.{key_same}
 use Rattle.state_search.proofs.Listed.{listed_there}
 
--- ---- keys of which no two are equal
+-- ---- keys, no two of them equal
 
 each : {K : Type 0} (P : K → Type 0) (xs : List K) → AllByRecursion P xs → (i : ℕ) (d : K) → i < length xs → P (slice_index_or xs i d)
 each P [] h i d l = absurd (omega (arith, l))
@@ -37,7 +37,7 @@ apart eq (x ∷ xs) h zero (suc j) d less l = each (λ y. eq x y ≡ false) xs h
 apart eq (x ∷ xs) h (suc i) zero d less l = absurd (omega (arith, less))
 apart eq (x ∷ xs) h (suc i) (suc j) d less l = apart eq xs h.1 i j d (omega (arith, less)) (omega (arith, l))
 
--- If no two elements of a list are equal, two places with equal elements are the same place.
+-- If no two elements of a list are equal, places with equal elements are the same.
 pub one_place : {K : Type 0} (eq : K → K → Bool) (xs : List K) → IsDistinct eq xs → (i j : ℕ) (d : K) → i < length xs → j < length xs →
     eq (slice_index_or xs i d) (slice_index_or xs j d) ≡ true → eq (slice_index_or xs j d) (slice_index_or xs i d) ≡ true → i ≡ j
 one_place eq xs h i j d li lj one other = by (cases_lt i j) (cases_lt j i)
@@ -59,8 +59,8 @@ equal_kept live a b bare_a bare_b setting kept = record {
     whole : (c : Placed) → IsBare live c → with_live live c.local_state ≡ c.local_state
     whole c bare = λ i. record c.local_state { processor = record c.local_state.processor { registers = bare i } }
 
--- If tables are least, and no two keys and no two lists in them are equal, then no two local states of a processor
--- are kept the same, and no two lists have the same words.
+-- If dead registers are 0 in the tables, and no two keys and no two lists in them are equal, then no two local states
+-- of one setting are kept alike, and no two lists have the same words.
 pub are_different : (t : TableLists) → AreLeast t → IsDistinct same_key t.local_states → IsDistinct (pointwise nat_eq) t.words → AreDifferent t
 are_different t least local_states words = record {
   local_states = λ i j li lj setting kept.
@@ -94,7 +94,7 @@ module _ (e : Extent) (t : TableLists) (differ : AreDifferent t) (r s : List ℕ
   words_same =
       differ.words (slice_index r e.processors) (slice_index s e.processors) h.words k.words (ap (λ (z : MacroState). z.shared) same)
 
-  -- If the entries of the tables are different, rows of one length that mean the same state are the same.
+  -- If no two entries of the tables are equal, rows of one length that mean the same state are equal.
   pub rows_same : length r ≡ length s → r ≡ s
   rows_same long = same_number_lists r s long (λ i l. by i (cases_lt i e.processors) (cases_lt e.processors i))
     where
@@ -118,7 +118,7 @@ rows_differ e t rows wide differ distinct are long i j li lj same =
 
 -- ---- tables that grow
 
--- What holds of all of a list, and of a key, holds of all with it inserted.
+-- If a property holds of a key and of all keys of a list, it holds of all after the key is inserted.
 pub inserted_all : {K : Type 0} (eq : K → K → Bool) (P : K → Type 0) (xs : List K) (x d : K) →
     ((i : ℕ) → i < length xs → P (slice_index_or xs i d)) → P x →
     (i : ℕ) → i < length (insert_key eq xs x) → P (slice_index_or (insert_key eq xs x) i d)

@@ -1,4 +1,4 @@
--- A search that has noted the successors of all its rows has found the states and their successors.
+-- A search that has noted the successors of all its rows has found all states.
 use Rattle.std.proofs.Common.{◌⊎◌, inl, inr, ℕ, ◌<◌, ◌≤◌, List, [], length, sym, subst}
 use Rattle.std.specs.Prelude.{slice_index, slice_index_or, Contains}
 use Rattle.local_reduction.specs.Closing.{MacroState}
@@ -19,7 +19,7 @@ from_first e code classes t rows moves first done h i l =
     let r = h.reached i l in
     (r.0, subst (λ s. IsWayUpTo (setting_at e) code (kept_by t.live) classes s r.0 (state_at e t rows i)) (sym h.begins) r.1)
 
--- If a search has at least `least` rows, and no two mean the same state, at least `least` states are found.
+-- If a search has at least `least` rows, and no two mean the same state, it reaches at least `least` states.
 pub many_found : (e : Extent) (code : List ℕ) (classes : List ℕ) (t : TableLists) (rows : List (List ℕ)) (first : MacroState) (least : ℕ) →
     AreManyRows e code classes t rows first least → AreDifferentStates (length rows) (state_at e t rows) →
     AreMany e code classes t first least
@@ -31,7 +31,7 @@ many_found e code classes t rows first least h different = record {
   different = different;
 }
 
--- If the successors of all rows are noted, and no two rows mean the same state, the rows are what is found.
+-- If the successors of all rows are noted, and no two rows mean the same state, the search is complete.
 pub all_found : (e : Extent) (code : List ℕ) (classes : List ℕ) (t : TableLists) (rows moves : List (List ℕ)) (first : MacroState) →
     Searched e code classes t rows moves first (length rows) → length rows ≤ no_rank → AreDifferentStates (length rows) (state_at e t rows) →
     AreFound e code classes t rows moves first

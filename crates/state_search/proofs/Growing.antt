@@ -1,4 +1,4 @@
--- Rows mean the same in tables that have grown.
+-- Rows keep their meaning as tables grow.
 use Rattle.std.proofs.Common.{◌≡◌, ℕ, Bool, List, [], ◌∷◌, ◌++◌, length, refl, sym, ap, ◌∙◌, arith, length-append}
 use Rattle.std.specs.Prelude.{slice_index}
 use Rattle.std.proofs.lemmas.List.{get_or_append_left}
@@ -8,11 +8,11 @@ use Rattle.state_search.specs.Placed.{Placed}
 use Rattle.state_search.specs.StateTables.{TableLists, nowhere, placed_at, HasGrown, means, IsRow}
 use Rattle.state_search.proofs.Lemmas.{listed_same}
 
--- Tables have grown from themselves, by nothing.
+-- Growth of tables is reflexive.
 pub kept_all : (t : TableLists) → HasGrown t t
 kept_all t = record { live = refl; local_states = omega arith; words = omega arith; same_local_state = λ i l. refl; same_words = λ i l. refl }
 
--- Tables that have grown from some that have grown from the first have grown from the first.
+-- Growth of tables is transitive.
 pub kept_on : (t u v : TableLists) → HasGrown t u → HasGrown u v → HasGrown t v
 kept_on t u v h k = record {
   live = k.live ∙ h.live;
@@ -44,7 +44,7 @@ words_pushed live local_states words list = record {
 }
 
 module _ (e : Extent) (t u : TableLists) (row : List ℕ) (kept : HasGrown t u) (h : IsRow e t row) where
-  -- A row of the old tables is one of the tables that have grown.
+  -- A row of the old tables is a row of the grown ones.
   pub row_kept : IsRow e u row
   row_kept = record {
     there = λ p l. let a = h.there p l in omega (arith, a, kept.local_states);

@@ -1,4 +1,4 @@
--- Stations have equal numbers exactly if they are equal but for what is held by one that has stopped.
+-- Local states have equal keys exactly if they are equal, but for registers and local memory of stopped processors.
 use Rattle.std.proofs.Common.{◌≡◌, ℕ, Bool, true, false, cond, true≢false, List, [], ◌∷◌, refl, sym, ap, ◌∙◌}
 use Rattle.std.specs.Prelude.{◌↔◌, IsTrue, slice_index, slice_index_or}
 use Rattle.flat_machine.specs.declared.event.Status.{Status}
@@ -40,7 +40,7 @@ status_is Running = refl
 status_is (Halted b) = refl
 status_is (Faulted f) = ap Faulted (fault_is f)
 
--- what numbers say of a station that is kept
+-- the parts of a key of a local state
 kept_parts : (a : LocalState) → if_running a ≡ record {
   processor = record {
     pc = a.processor.pc;
@@ -95,7 +95,7 @@ status_kept a = ap (λ (s : LocalState). s.processor.status) (kept_parts a)
 console_kept : (a : LocalState) → (if_running a).console ≡ a.console
 console_kept a = ap (λ (s : LocalState). s.console) (kept_parts a)
 
--- Equal local states of one processor have the same key.
+-- Equal local states have the same key.
 pub key_same : (a b : Placed) → IsEqual a b → key_of a ≡ key_of b
 key_same a b h =
     let pc : a.local_state.processor.pc ≡ b.local_state.processor.pc =
@@ -111,7 +111,7 @@ key_same a b h =
 pub keys_equal : (a b : Placed) → same_key a b ≡ true → IsEqual a b
 keys_equal a b h = equal_of a b ((keys_decide (key_of a) (key_of b)).0 h)
 
--- What says whether two are equal says whether their numbers are.
+-- A test of whether two local states are equal gives the same as comparing their keys.
 pub eq_is_same_key : (fact : Bool) (a b : Placed) → (IsTrue fact ↔ IsEqual a b) → fact ≡ same_key a b
 eq_is_same_key fact a b h = by fact (same_key a b) refl h
   where
@@ -122,10 +122,10 @@ eq_is_same_key fact a b h = by fact (same_key a b) refl h
     by false true is h = absurd (true≢false (sym (h.1 (keys_equal a b is))))
     by false false is h = refl
 
--- ---- what is kept of equal stations
+-- ---- what is kept of equal local states
 
 module _ (live : List (List Bool)) where
-  -- What is kept of a station is kept of what is compared of it.
+  -- Leaving out what is not compared of a local state does not change what is kept of it.
   through : (a : LocalState) → kept_by live (if_running a) ≡ kept_by live a
   through a = by (is_running a.processor.status) refl
     where
@@ -144,7 +144,7 @@ module _ (live : List (List Bool)) where
   kept_equal : (a b : LocalState) → if_running a ≡ if_running b → kept_by live a ≡ kept_by live b
   kept_equal a b same = sym (through a) ∙ (ap (kept_by live) same ∙ through b)
 
-  -- A station that is found by its numbers is the same.
+  -- A local state found by its key is the same as the one looked for.
   pub found_same : (found sought first : Placed) → same_key sought found ≡ true → IsSame live sought first → IsSame live found first
   found_same found sought first same h =
       let equal = keys_equal sought found same in

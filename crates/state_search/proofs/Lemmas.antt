@@ -11,10 +11,10 @@ use Rattle.state_search.specs.declared.refusal.Refusal.TheVariants as search
 use Rattle.state_search.specs.Refusals.{refused_by_move, IsGivenUpFor}
 -- Exchanges, and results that stand for others.
 pub use Rattle.local_reduction.proofs.Lemmas.{none, both, trade, trade_all, stands_for_on, stands_for_back}
--- Places of lists, and lists of what a function gives at each place.
+-- Places of lists, and lists of a function's values at each place.
 pub use Rattle.state_search.proofs.Listed.{up_to, there, found_at, past, any_default, mapped_at}
 pub use Rattle.state_search.proofs.Listed.{listed, listed_at, listed_there, listed_is, listed_same, listed_set}
--- Rows whose processors are exchanged, and rows that mean the same state.
+-- Exchanges of the processors of rows, and of the states that they mean.
 pub use Rattle.state_search.proofs.Trading.{as_it_was, then_exchanged}
 pub use Rattle.state_search.proofs.RowExchanges.{ordered_means, row_ordered}
 pub use Rattle.state_search.proofs.Differing.{rows_same}
@@ -27,15 +27,15 @@ module _ (at : ℕ → Setting) (code : List ℕ) (kept : LocalState → LocalSt
   way_on [] s u t k w m = (subst (λ v. IsMoveUpTo at code kept classes v k t) (sym w) m, refl)
   way_on ((j, v) ∷ way) s u t k w m = (w.0, way_on way v u t k w.1 m)
 
--- ---- why a search is given up
+-- ---- why a search gives up
 
--- A move that is not made gives no reason to say that there are too many states.
+-- A search that gives up because a move cannot be made does not claim that there are too many states.
 pub moves_give_up : (P : Type 0) (why : MoveRefusal) → IsGivenUpFor P (refused_by_move why)
 moves_give_up P move.Memory = tt
 moves_give_up P move.Alone = tt
 moves_give_up P move.Asks = tt
 
--- If a claim allows a search to be given up for a reason, so does each claim that follows from it.
+-- If a claim allows a search to give up for a reason, so does every claim that follows from it.
 pub given_up_on : (P Q : Type 0) → (P → Q) → (why : Refusal) → IsGivenUpFor P why → IsGivenUpFor Q why
 given_up_on P Q on search.Memory h = tt
 given_up_on P Q on search.States h = on h

@@ -1,4 +1,4 @@
--- Places of lists, and lists of what a function gives at each place.
+-- Places of lists, and lists of a function's values at each place.
 use Rattle.std.proofs.Common.{◌≡◌, ◌≢◌, ◌⊎◌, inl, inr, ℕ, ◌+◌, ◌<◌, ◌≤◌, zero, suc, List, [], ◌∷◌}
 use Rattle.std.proofs.Common.{Some, None, length, map, refl, sym, ap, subst, ◌∙◌, arith}
 use Rattle.std.specs.Prelude.{slice_get, slice_set, slice_index_or}
@@ -7,35 +7,35 @@ use Rattle.std.proofs.lemmas.Bool.{cases_eq, cases_lt}
 use Rattle.std.proofs.lemmas.List.{length-set, get_or-set_same, get_or-set_other}
 use Rattle.std.proofs.lemmas.List.FromFn.{length-map-range_with_len, get_or-map-range_with_len, fill_by_all}
 
--- below one more, a number is below or the last
+-- A number below n + 1 is below n, or n.
 pub up_to : (k n : ℕ) → k < n + 1 → (k < n) ⊎ (k ≡ n)
 up_to k n l = elim (cases_lt k n) [ inl less ↦ inl less | inr past ↦ inr (omega (arith, l, past)) ]
 
--- At a place below its length, a list has the element that is read with any default.
+-- Within its length, a list has the element that is read with any default.
 pub there : {X : Type 0} (xs : List X) (k : ℕ) (d : X) → k < length xs → slice_get xs k ≡ Some (slice_index_or xs k d)
 there [] k d l = absurd (omega (arith, l))
 there (x ∷ xs) zero d l = refl
 there (x ∷ xs) (suc k) d l = there xs k d (omega (arith, l))
 
--- If a list has an element at a place, the place is below its length, and the element is read with any default.
+-- If a list has an element at a place, the place is within its length, and reading it with any default gives the element.
 pub found_at : {X : Type 0} (xs : List X) (k : ℕ) (x d : X) → slice_get xs k ≡ Some x → (k < length xs) × (slice_index_or xs k d ≡ x)
 found_at [] k x d e = absurd (cc)
 found_at (y ∷ ys) zero x d e = (omega arith, (let same : y ≡ x = cc in same))
 found_at (y ∷ ys) (suc k) x d e = let h = found_at ys k x d e in let less = h.0 in (omega (arith, less), h.1)
 
--- A place at which a list has no element is not below its length.
+-- A place at which a list has no element is not within its length.
 pub past : {X : Type 0} (xs : List X) (k : ℕ) → slice_get xs k ≡ None → length xs ≤ k
 past [] k e = omega arith
 past (x ∷ xs) zero e = absurd cc
 past (x ∷ xs) (suc k) e = let h = past xs k e in omega (arith, h)
 
--- what is read where there is something does not depend on what is read elsewhere
+-- Within a list's length, what is read does not depend on the default.
 pub any_default : {X : Type 0} (xs : List X) (k : ℕ) (c d : X) → k < length xs → slice_index_or xs k c ≡ slice_index_or xs k d
 any_default [] k c d l = absurd (omega (arith, l))
 any_default (x ∷ xs) zero c d l = refl
 any_default (x ∷ xs) (suc k) c d l = any_default xs k c d (omega (arith, l))
 
--- At the place of an element, the mapped list has what the function gives for it.
+-- At the place of an element, the mapped list has the function's value for it.
 pub mapped_at : {X Y : Type 0} (f : X → Y) (xs : List X) (k : ℕ) (x : X) (d : Y) → slice_get xs k ≡ Some x → slice_index_or (map f xs) k d ≡ f x
 mapped_at f [] k x d e = absurd (cc)
 mapped_at f (y ∷ ys) zero x d e = let same : y ≡ x = cc in ap f same
@@ -65,7 +65,7 @@ module _ {X : Type 0} (f : ℕ → X) (n : ℕ) where
   listed_same g e =
       sym (fill_by_all g listed n (f 0) (length-map-range_with_len f 0 n) (λ i l. listed_at i (f 0) l ∙ sym (e i l)))
 
-  -- If two functions agree below n but at one place, one list is the other with the value there written.
+  -- If two functions agree below n except at one place, one list is the other with the value there written.
   pub listed_set : (g : ℕ → X) (k : ℕ) (x : X) → k < n → g k ≡ x → ((i : ℕ) → i ≢ k → i < n → g i ≡ f i) → map g (range_with_len 0 n) ≡ slice_set listed k x
   listed_set g k x within here others =
       sym (fill_by_all g (slice_set listed k x) n x (length-set listed k x ∙ length-map-range_with_len f 0 n) (λ i l. at i l (cases_eq i k)))

@@ -1,4 +1,4 @@
--- The row that a look for a move gives is where a reference leads, and what the processor does alone after it.
+-- A lookup of a move gives the row to which the move leads.
 use Rattle.std.proofs.Common.{◌≡◌, ◌≢◌, ◌⊎◌, inl, inr, ℕ, ◌<◌, ◌^◌, Bool, true, false, cond, true≢false}
 use Rattle.std.proofs.Common.{List, [], Some, length, refl, sym, ap, subst, ◌∙◌, arith}
 use Rattle.std.specs.Prelude.{slice_get, slice_set, slice_index}
@@ -28,7 +28,7 @@ use Rattle.state_search.specs.Search.{AreClasses, CanMove, IsNext}
 use Rattle.state_search.proofs.Lemmas.{listed_there, listed_is, listed_set}
 use Rattle.state_search.proofs.Growing.{kept_on}
 
--- of two turns that go the same way both refer to a word, or none does
+-- If two turns are alike and one is a reference, the other is one, too.
 pub refers_too : (kept : LocalState → LocalState) (a b : LocalState) (x y : Turn) → IsAlike kept a b x y → IsReference x → IsReference y
 refers_too kept a b (Retires p r) y h w = absurd w
 refers_too kept a b (Reaches w c f) (Retires p r) h i = absurd h
@@ -45,17 +45,17 @@ referred_too kept a b (Stops c) (Retires p r) h i = absurd h
 referred_too kept a b (Stops c) (Reaches w d f) h i = absurd h
 referred_too kept a b (Stops c) (Stops d) h i = absurd i
 
--- what a core decides of a turn that refers to a word
+-- The turn reaches the word, and makes `value` of its old value `before`.
 pub record IsReferred (word before value : ℕ) (turn : Turn) : Type 0 where
   -- what the turn does to the word
   pub change : ℕ → ℕ
-  -- what the processor becomes and what retires, by the word found
+  -- the processor after the turn and what retired, given the word's old value
   pub after : ℕ → Processor × Retired
-  -- the turn reaches that word
+  -- The turn reaches that word.
   pub is : turn ≡ Reaches word change after
   pub value_is : change before ≡ value
 
--- If a core decides to refer to a word, its turn reaches that word, and does to its value what the function does.
+-- If a core decides to refer to a word, its turn reaches that word, and changes its value as the phi does.
 pub referred : (word before : ℕ) (phi : Phi) (shape : Shape) (turn : Turn) → before < 2 ^ 32 → Decides (Refer word phi shape) turn →
     IsReferred word before (apply phi before) turn
 referred word before phi shape (Retires p r) small d = absurd d
@@ -64,36 +64,36 @@ referred word before phi shape (Reaches w c f) small d =
 referred word before phi shape (Stops c) small d = absurd d
 
 module _ (e : Extent) (code : List ℕ) (classes : List ℕ) (t u v : TableLists) (row next : List ℕ) (p word before value number written : ℕ) where
-  -- all that a look for a move knows of what it has done
+  -- what a lookup of a move knows when it returns a row
   pub record HasLooked : Type 0 where
-    -- these are the classes of the processors
+    -- These are the classes of the processors.
     pub classes_are : AreClasses e classes
-    -- the row is one of the tables
+    -- The row is one of the tables.
     pub row_is : IsRow e t row
-    -- the processor is one of the machine's
+    -- The processor is one of the machine's.
     pub few : p < e.processors
-    -- the row has a place for the words
+    -- The row has a place for the words.
     pub room : e.processors < length row
-    -- the first tables have grown into the second
+    -- The first tables have grown into the second.
     pub first_kept : HasGrown t u
-    -- the second tables have grown into the third
+    -- The second tables have grown into the third.
     pub then_kept : HasGrown u v
-    -- the processor runs
+    -- The processor runs.
     pub runs : is_running (placed_at t (slice_index row p)).local_state.processor.status ≡ true
-    -- its turn reaches the word, and makes the value of what it finds there
+    -- Its turn reaches the word, and makes `value` of its old value.
     pub refers : IsReferred word before value
         (turn_of (placed_at t (slice_index row p)).setting code (placed_at t (slice_index row p)).local_state.processor)
-    -- the word is one of the machine's
+    -- The word is one of the machine's.
     pub named : word < (placed_at t (slice_index row p)).setting.shared_words
-    -- the word has this value before
+    -- The word's old value is `before`.
     pub before_is : slice_index (words_at t (slice_index row e.processors)) word ≡ before
-    -- the second tables have under the number what the processor becomes by the reference and some turns alone
+    -- The second tables have, under the number, the local state after the reference and some turns alone.
     pub behind : IsBehind e.exchanged code before (placed_at t (slice_index row p)) u number
-    -- the third tables have the written list
+    -- The third tables have the written list.
     pub written_there : written < length v.words
-    -- it is the list of the row with the word written
+    -- The written list is the row's list with the word written.
     pub written_is : words_at v written ≡ slice_set (words_at u (slice_index row e.processors)) word value
-    -- the next row has the two new numbers
+    -- The next row has the two new numbers.
     pub next_is : next ≡ slice_set (slice_set row p number) e.processors written
 
   module _ (h : HasLooked) where
@@ -175,7 +175,7 @@ module _ (e : Extent) (code : List ℕ) (classes : List ℕ) (t u v : TableLists
     replied : after_reply (turn_of here.setting code here.local_state.processor) before ≡ Some (h.refers.after before)
     replied = ap (λ turn. after_reply turn before) h.refers.is
 
-    -- the setting and the word before, as the state has them
+    -- the setting and the word's old value, as the state has them
     both : (λ (z : Setting × ℕ). z) (here.setting, before) ≡ (own_setting e p, slice_index s.shared word)
     both = λ i. (own i, sym old_is i)
 
@@ -238,7 +238,7 @@ module _ (e : Extent) (code : List ℕ) (classes : List ℕ) (t u v : TableLists
         (moves (λ i. own_setting e p) code (kept_by v.live) s p here.local_state word h.refers.change h.refers.after h.behind.count
         (forgotten (λ i. own_setting e p) code v.live right) stands_there h.runs turn_is settled)
 
-    -- If a look for a move has done all this, the processor's move leads to the state that the next row means.
+    -- If a lookup of a move has done all this, the processor's move leads to the state that the next row means.
     pub looked : MovesAreOfAny → MovesOfWhatIsKept → DeadAreForgotten → HasAllLive code t.live → IsNext e code classes v (means e t row) p (Some next)
     unfolding s
     looked any moves forgotten right = (
@@ -259,7 +259,7 @@ kept_runs live a = by (is_running a.processor.status)
     by true = refl
     by false = refl
 
--- A turn that refers to a word is decided to be one that does.
+-- A turn that is a reference is not decided to be anything else.
 pub undecided : (d : Decision) (turn : Turn) → Decides d turn → ((w : ℕ) (phi : Phi) (shape : Shape) → d ≡ Refer w phi shape → ⊥) → IsReference turn → ⊥
 undecided (Refer w phi shape) turn h other r = other w phi shape refl
 undecided Local (Retires p q) h other r = r
@@ -286,7 +286,7 @@ module _ (e : Extent) (code : List ℕ) (t : TableLists) (row : List ℕ) (p : �
   pub stopped_has_none : is_running stands.local_state.processor.status ≡ false → CanMove e code (means e t row) p → ⊥
   stopped_has_none stopped m = true≢false (sym (runs m) ∙ stopped)
 
-  -- A processor whose next turn is no reference has no move.
+  -- A processor whose next turn is not a reference has no move.
   pub local_has_none : IsForgetful (setting_at e) code (kept_by t.live) → (IsReference (turn_of stands.setting code stands.local_state.processor) → ⊥) →
       CanMove e code (means e t row) p → ⊥
   local_has_none forgets local m =

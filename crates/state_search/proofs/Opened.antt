@@ -1,4 +1,4 @@
--- The first row means the state to which the flat machine settles.
+-- The first row means a macro state that the flat machine reaches.
 use Rattle.std.proofs.Common.{◌≡◌, ◌⊎◌, Bool, cond, inl, inr, ℕ, ◌+◌, ◌<◌, ◌≤◌, zero, suc, List, [], ◌∷◌, Some, length, map, refl, sym, ap, subst, ◌∙◌, arith}
 use Rattle.std.specs.Prelude.{slice_get, slice_set, slice_index}
 use Rattle.std.proofs.lemmas.Bool.{cases_eq}
@@ -16,18 +16,18 @@ use Rattle.state_search.specs.StateTables.{TableLists, placed_at, words_at, HasG
 use Rattle.state_search.specs.Opening.{AreOfExtent, flat_of, IsOpened}
 use Rattle.state_search.proofs.Lemmas.{found_at, listed_there}
 
--- what stands in a list after a function
+-- An element of a mapped list is the function's value at the element there.
 unmapped : {X Y : Type 0} (f : X → Y) (xs : List X) (k : ℕ) (y : Y) → slice_get (map f xs) k ≡ Some y → (x : X) × (slice_get xs k ≡ Some x) × (f x ≡ y)
 unmapped f [] k y e = absurd (cc)
 unmapped f (x ∷ xs) zero y e = (x, refl, (let same : f x ≡ y = cc in same))
 unmapped f (x ∷ xs) (suc k) y e = unmapped f xs k y e
 
--- the first this many of the cores are opened under the numbers of the row
+-- The first `done` cores are opened, under the numbers in the row.
 pub record AreOpened (exchanged : Bool) (code : List ℕ) (cores : List CoreState) (t : TableLists) (row : List ℕ) (done : ℕ) : Type 0 where
   pub long : length cores < length row
-  -- the row has 0 at the places that are no core's
+  -- The row is 0 after the places of the cores.
   pub rest : (k : ℕ) → length cores ≤ k → slice_index row k ≡ 0
-  -- each of the first cores has in the row the number of what it becomes by some turns alone
+  -- For each of the first `done` cores, the row has the number of its local state after some turns alone.
   pub opened : (p : ℕ) (c : CoreState) → p < done → slice_get cores p ≡ Some c → IsOpened exchanged code c t (slice_index row p)
 
 pub none_opened : (exchanged : Bool) (code : List ℕ) (cores : List CoreState) (t : TableLists) (row : List ℕ) →
@@ -52,7 +52,7 @@ opened_kept exchanged code c t u number kept h =
       settled = h.settled;
     }
 
--- If the tables have grown and have the next core under a number, the row with this number has one core more.
+-- If grown tables have the next core under a number, writing that number to the row opens one more core.
 pub opened_on : (exchanged : Bool) (code : List ℕ) (cores : List CoreState) (t u : TableLists) (row : List ℕ) (done number : ℕ) (core : CoreState) →
     done < length cores →
     slice_get cores done ≡ Some core → HasGrown t u → AreOpened exchanged code cores t row done → IsOpened exchanged code core u number →

@@ -1,4 +1,4 @@
--- What is remembered of moves stays right in tables that grow, and when a right answer is noted.
+-- A transition cache stays right as tables grow, and after a right answer is added.
 use Rattle.std.proofs.Common.{◌≡◌, ◌⊎◌, inl, inr, ℕ, ◌<◌, Bool, true, false, cond, nat_eq, List, [], ◌∷◌, Option, Some, None}
 use Rattle.std.proofs.Common.{length, refl, sym, ap, subst, ◌∙◌, arith}
 use Rattle.std.specs.Prelude.{Result, Ok, Err, IfNone, IfSome, OnOk, OnErr, slice_index, slice_set}
@@ -36,7 +36,7 @@ behind_kept quietly code before old t u number kept h =
       later = h.later;
     }
 
--- What is remembered of references is right after the tables have grown.
+-- The cache of references is still right after the tables have grown.
 pub local_states_kept : (quietly : Bool) (code : List ℕ) (t u : TableLists) (m : Remembered) →
     HasGrown t u → KnowsLocalStates quietly code t m → KnowsLocalStates quietly code u m
 local_states_kept quietly code t u m kept h number word before behind fact =
@@ -46,7 +46,7 @@ local_states_kept quietly code t u m kept h number word before behind fact =
           (behind_kept quietly code before (placed_at t number) t u behind kept k.1),
     )
 
--- What is remembered of written lists is right after the tables have grown.
+-- The cache of written lists is still right after the tables have grown.
 pub lists_kept : (t u : TableLists) (m : Remembered) → HasGrown t u → KnowsLists t m → KnowsLists u m
 lists_kept t u m kept h number word value written fact =
     let k = h number word value written fact in (
@@ -55,7 +55,7 @@ lists_kept t u m kept h number word value written fact =
       kept.same_words written k.1 ∙ (k.2 ∙ ap (λ xs. slice_set xs word value) (sym (kept.same_words number k.0))),
     )
 
--- What is remembered of references is right after a right answer is noted.
+-- The cache of references is still right after a right answer is added.
 pub local_states_remembered : (quietly : Bool) (code : List ℕ) (t : TableLists) (m n : Remembered) (number word before behind : ℕ) →
     KnowsLocalStates quietly code t m →
     IsNoted m (number ∷ word ∷ before ∷ []) behind n → number < length t.local_states → IsBehind quietly code before (placed_at t number) t behind →
@@ -74,7 +74,7 @@ local_states_remembered quietly code t m n number word before behind h noted the
               (subst (λ k. IsBehind quietly code before (placed_at t k) t behind) first is)),
         )
 
--- What is remembered of written lists is right after a right answer is noted.
+-- The cache of written lists is still right after a right answer is added.
 pub lists_noted : (t : TableLists) (m n : Remembered) (number word value written : ℕ) → KnowsLists t m →
     IsNoted m (number ∷ word ∷ value ∷ []) written n → number < length t.words → written < length t.words →
     words_at t written ≡ slice_set (words_at t number) word value → KnowsLists t n
@@ -92,7 +92,7 @@ lists_noted t m n number word value written h noted there gives is i w v j fact 
           ap (words_at t) new.1 ∙ (is ∙ (λ d. slice_set (words_at t (first d)) (second d) (third d))),
         )
 
--- what an insertion leaves, or a failed one that changes nothing
+-- After an insertion, every answer was there before or is the one inserted.
 pub noted_by : (m n : Remembered) (k : List ℕ) (v : ℕ) → ((q : List ℕ) → answer_to n q ≡ cond (pointwise nat_eq k q) (Some v) (answer_to m q)) →
     IsNoted m k v n
 noted_by m n k v updates q a fact = at (pointwise nat_eq k q) refl
@@ -104,7 +104,7 @@ noted_by m n k v updates q a fact = at (pointwise nat_eq k q) refl
         inr (sym ((slice_eq-Decides {E = nat_eq} Decides-eqb k q true (sym e)).0 refl), sym same)
     at false e = inl (sym (updates q ∙ ap (λ b. cond b (Some v) (answer_to m q)) e) ∙ fact)
 
--- If an entry is inserted, or nothing changes, then all that is remembered was before, or is that entry.
+-- If an entry is inserted, or nothing changes, every answer was there before or is that entry's.
 pub inserted_noted : (es fs : List (List ℕ × ℕ)) (k : List ℕ) (v : ℕ) →
     (((q : List ℕ) → lookup (pointwise nat_eq q) fs ≡ cond (pointwise nat_eq k q) (Some v) (lookup (pointwise nat_eq q) es))
     × (lookup (pointwise nat_eq k) fs ≡ Some v)
@@ -114,7 +114,7 @@ pub inserted_noted : (es fs : List (List ℕ × ℕ)) (k : List ℕ) (v : ℕ) �
 inserted_noted es fs k v (inl updates) = noted_by (record { entries = es }) (record { entries = fs }) k v updates.0
 inserted_noted es fs k v (inr same) = λ q a fact. inl (ap (lookup (pointwise nat_eq q)) (sym same) ∙ fact)
 
--- what is left where a key is taken away, or where there is none
+-- After a key is removed, every answer was there before.
 pub forgotten_by : (m n : Remembered) (k : List ℕ) → ((q : List ℕ) → answer_to n q ≡ cond (pointwise nat_eq k q) None (answer_to m q)) →
     IsForgotten m n
 forgotten_by m n k updates q a fact = at (pointwise nat_eq k q) refl
@@ -125,14 +125,14 @@ forgotten_by m n k updates q a fact = at (pointwise nat_eq k q) refl
         absurd (cc)
     at false e = sym (updates q ∙ ap (λ b. cond b None (answer_to m q)) e) ∙ fact
 
--- If an entry is removed, or nothing changes, then all that is remembered was before.
+-- If an entry is removed, or nothing changes, every answer was there before.
 pub removed_forgotten : (es fs : List (List ℕ × ℕ)) (r : Option (List ℕ × ℕ)) (P : List ℕ × ℕ → Type 0) →
     ((p : List ℕ × ℕ) → P p → (q : List ℕ) → lookup (pointwise nat_eq q) fs ≡ cond (pointwise nat_eq p.0 q) None (lookup (pointwise nat_eq q) es)) →
     IfSome r P → IfNone r (fs ≡ es) → IsForgotten (record { entries = es }) (record { entries = fs })
 removed_forgotten es fs (Some p) P update some none = forgotten_by (record { entries = es }) (record { entries = fs }) p.0 (update p some)
 removed_forgotten es fs None P update some none = λ q a fact. ap (lookup (pointwise nat_eq q)) (sym none) ∙ fact
 
--- If something is forgotten and then an answer noted, all that is remembered was before, or is that answer.
+-- If an answer is dropped and then one is added, every answer was there before or is the one added.
 pub noted_on : (m k n : Remembered) (question : List ℕ) (answer : ℕ) → IsForgotten m k → IsNoted k question answer n → IsNoted m question answer n
 noted_on m k n question answer forgot noted q a fact = by (noted q a fact)
   where
@@ -140,7 +140,7 @@ noted_on m k n question answer forgot noted q a fact = by (noted q a fact)
     by (inl old) = inl (forgot q a old)
     by (inr new) = inr new
 
--- If a result gives P by being `Ok`, and Q by being `Err`, one of the two holds.
+-- If P holds when a result is `Ok`, and Q when it is `Err`, one of the two holds.
 pub either : {A B : Type 0} {P Q : Type 0} (r : Result A B) → OnOk r P → OnErr r Q → P ⊎ Q
 either (Ok x) p q = inl p
 either (Err e) p q = inr q
@@ -151,9 +151,9 @@ knows_no_local_states quietly code t number word before behind fact = absurd cc
 pub knows_no_lists : (t : TableLists) → KnowsLists t nothing
 knows_no_lists t number word value written fact = absurd cc
 
--- ---- what stands after a reference
+-- ---- the local state after a reference
 
--- A local state that a reference, and turns alone, make of another is after it.
+-- A local state that a reference and turns alone lead to is the one after that reference.
 pub behind_is : (quietly : Bool) (code : List ℕ) (before : ℕ) (old mid new : Placed) (t : TableLists) (number : ℕ) → HasRetired code before old mid →
     HasGone quietly code mid new → IsStill code new → IsQuiet quietly code new → number < length t.local_states → IsSame t.live (placed_at t number) new →
     IsBehind quietly code before old t number

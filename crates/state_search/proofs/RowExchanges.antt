@@ -1,4 +1,4 @@
--- Rows with their processors exchanged mean states with their processors exchanged.
+-- Exchanging the processors of a row exchanges those of its state.
 use Rattle.std.proofs.Common.{◌≡◌, ◌⊎◌, inl, inr, ℕ, ◌<◌, ◌≤◌, Bool, true, false, cond, List, Some, None, length, refl, sym, ap, subst, ◌∙◌, arith}
 use Rattle.std.specs.Prelude.{slice_get, slice_index}
 use Rattle.local_reduction.specs.Closing.{MacroState}
@@ -14,7 +14,7 @@ use Rattle.state_search.specs.StateTables.{TableLists, placed_at, words_at, sett
 use Rattle.state_search.specs.Search.{AreClasses, IsNext, IsNextUpTo}
 use Rattle.state_search.proofs.Listed.{listed_there}
 
--- a place of the class of one that is there is there
+-- A processor of the same class as one of the list is itself in the list.
 within : (classes : List ℕ) (j k : ℕ) → AreAlike classes j k → k < length classes → j < length classes
 within classes j k e l = let x = found_there classes k l in found_within classes j x.0 (e ∙ x.1)
 
@@ -38,7 +38,7 @@ module _ (e : Extent) (classes : List ℕ) (t : TableLists) (old new : List ℕ)
       by true on = ap (λ b. setting_at e (cond b 0 (x.exchange.place p))) on ∙ sym (ap (λ b. setting_at e (cond b 0 p)) on)
       by false off = ap (λ q. setting_at e (cond e.exchanged 0 q)) (are.own off (x.exchange.place p) p few (x.exchange.alike p))
 
-  -- If the processors of a row are exchanged within their classes, it is still a row of the tables,
+  -- A row whose processors are exchanged within their classes is still a row of the tables.
   pub row_ordered : IsRow e t old → IsRow e t new
   row_ordered h = record {
     there = λ p few. subst (λ i. i < length t.local_states) (sym (number_is p few)) (h.there (x.exchange.place p) (place_there p few));
@@ -49,7 +49,7 @@ module _ (e : Extent) (classes : List ℕ) (t : TableLists) (old new : List ℕ)
     rest = λ k more. x.others k (omega (arith, are.all, more)) ∙ h.rest k more;
   }
 
-  -- and it means the state with its processors exchanged.
+  -- A row with its processors exchanged means the state with its processors exchanged.
   pub ordered_means : IsExchanged x.exchange.place (means e t old) (means e t new)
   ordered_means = record {
     shared = ap (words_at t) words_same;
@@ -75,7 +75,7 @@ module _ (e : Extent) (classes : List ℕ) (t : TableLists) (old new : List ℕ)
           ∙ sym (listed_there (λ q. kept_by t.live (placed_at t (slice_index old q)).local_state) e.processors (x.exchange.place k) (place_there k few)))
       by k (inr far) = past new k far ∙ sym (past old (x.exchange.place k) (far_too k far (cases_lt (x.exchange.place k) e.processors)))
 
--- A move to a row leads, up to an exchange, to the row with its processors exchanged.
+-- A move to a row leads, up to exchanges, to the row with its processors exchanged.
 pub next_ordered : (e : Extent) (code : List ℕ) (classes : List ℕ) (t : TableLists) (s : MacroState) (k : ℕ) → AreClasses e classes →
     (old new : List ℕ) → IsNext e code classes t s k (Some old) → IsRowExchanged classes old new →
     IsNextUpTo e code classes t s k (Some new)

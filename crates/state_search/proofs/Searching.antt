@@ -1,4 +1,4 @@
--- What is found stays found as tables and rows grow, and the move of the last processor completes a state.
+-- A search stays right as tables and rows grow, and the move of the last processor completes a state.
 use Rattle.std.proofs.Common.{◌≡◌, ◌⊎◌, inl, inr, ℕ, ◌+◌, ◌<◌, ◌≤◌, zero, suc, Bool, true, false, cond, List}
 use Rattle.std.proofs.Common.{[], ◌∷◌, ◌++◌, Some, length, refl, sym, ap, subst, ◌∙◌, arith, length-append}
 use Rattle.std.specs.Prelude.{slice_get, slice_index, slice_index_or, Contains}
@@ -54,7 +54,7 @@ module _ (eq : List ℕ → List ℕ → Bool) (exact : (x y : List ℕ) → eq 
       by true = record { longer = omega arith; same = λ i l. refl; others = λ i l. inl l }
       by false = appended rows row
 
-  -- where a row has a place in what a list becomes with it
+  -- the place of a row in the list into which it is inserted
   pub placed : (rows : List (List ℕ)) (row : List ℕ) (new : List (List ℕ)) (place : ℕ) → new ≡ insert_key eq rows row →
       (k : List ℕ) × (slice_get new place ≡ Some k) × (eq row k ≡ true) → IsDistinct eq new → ((x : List ℕ) → eq x x ≡ true) →
       IsPlaced rows row new place
@@ -80,7 +80,7 @@ module _ (eq : List ℕ → List ℕ → Bool) (exact : (x y : List ℕ) → eq 
 
 -- ---- successors that are noted
 
--- No state has successors past the last of those whose successors are noted.
+-- No successors are noted for states past the end of the list.
 none_past : (moves : List (List ℕ)) (i : ℕ) → length moves ≤ i → successors_at moves i ≡ []
 none_past [] i l = refl
 none_past (m ∷ moves) zero l = absurd (omega (arith, l))
@@ -98,7 +98,7 @@ noted_there moves i v x = by (cases_lt i (length moves))
     by (inl less) = less
     by (inr past) = absurd (none_there moves i v past x)
 
--- one successor more
+-- The place is still a successor, or the other claim holds, after another successor is appended.
 one_more : {X : Type 0} (successors : List ℕ) (target v : ℕ) → Contains successors v ⊎ X → Contains (successors ++ target ∷ []) v ⊎ X
 one_more successors target v (inl x) = inl (Contains-append_left successors (target ∷ []) v x)
 one_more successors target v (inr x) = inr x
@@ -120,9 +120,9 @@ module _ (e : Extent) (code : List ℕ) (classes : List ℕ) where
   reached_on live s u t k r m =
       (r.0 ++ (k, t) ∷ [], way_on (setting_at e) code (kept_by live) classes r.0 s u t k r.1 m)
 
-  -- ---- rows whose states stay: tables grow, or rows come after
+  -- ---- rows keep their states: tables grow, or rows are appended
 
-  -- Each of the first this many rows of the old means in the new tables what it meant.
+  -- Each old row means the same state by the new tables and rows.
   module _ (t u : TableLists) (rows new : List (List ℕ)) (longer : length rows ≤ length new) (live : u.live ≡ t.live)
       (same : (i : ℕ) → i < length rows → state_at e t rows i ≡ state_at e u new i) where
     moves_stay : (s v : MacroState) (k : ℕ) (s' v' : MacroState) → s ≡ s' → v ≡ v' → Moves e code classes t.live s k v →
@@ -204,7 +204,7 @@ module _ (e : Extent) (code : List ℕ) (classes : List ℕ) where
       found = h.found;
     }
 
-  -- ---- one row more
+  -- ---- one more row
 
   module _ (t : TableLists) (rows : List (List ℕ)) (row : List ℕ) (new : List (List ℕ)) (place : ℕ) (ins : IsPlaced rows row new place)
       (moves : List (List ℕ)) (first : MacroState) (done : ℕ) where
@@ -233,7 +233,7 @@ module _ (e : Extent) (code : List ℕ) (classes : List ℕ) where
         reached_at i (inl l) = subst (IsReached e code classes t.live first) (stays i l) (h.reached i l)
         reached_at i (inr here) = subst (λ r. IsReached e code classes t.live first (means e t r)) (is_at i here) reached
 
-  -- ---- one processor more
+  -- ---- one more processor
 
   module _ (t u : TableLists) (kept : HasGrown t u) (rows moves : List (List ℕ)) (first : MacroState) (successors : List ℕ)
       (done p : ℕ) (row : List ℕ) (h : Expanded e code classes t rows moves first successors done p)
@@ -244,7 +244,7 @@ module _ (e : Extent) (code : List ℕ) (classes : List ℕ) where
     state_is : means e t row ≡ state_at e u rows done
     state_is = ap (means e t) (sym is) ∙ means_kept e t u (slice_index_or rows done []) kept (h.searched.are_rows done h.more)
 
-    -- no successor more
+    -- The successors stay the same if they have that of the next processor.
     with_none : HasSuccessor e code classes u rows (state_at e u rows done) successors p →
         Expanded e code classes u rows moves first successors done (p + 1)
     with_none last = record {
@@ -259,11 +259,11 @@ module _ (e : Extent) (code : List ℕ) (classes : List ℕ) where
         by q (inl below) = k.complete q below
         by q (inr same) = subst (HasSuccessor e code classes u rows (state_at e u rows done) successors) (sym same) last
 
-    -- A processor that has no move adds no successor,
+    -- A processor that has no move adds no successor.
     pub stood : (CanMove e code (means e t row) p → ⊥) → Expanded e code classes u rows moves first successors done (p + 1)
     stood none = with_none (λ may. absurd (none (subst (λ s. CanMove e code s p) (sym state_is) may)))
 
-    -- nor does one that stands as another of its class before it,
+    -- A processor in the same local state as an earlier one of its class adds no successor.
     pub copied_on : (q : ℕ) → q < p → AreAlike classes q p → slice_index row q ≡ slice_index row p → p < e.processors →
         Expanded e code classes u rows moves first successors done (p + 1)
     copied_on q below alike same few = with_none stand_in
@@ -302,7 +302,7 @@ module _ (e : Extent) (code : List ℕ) (classes : List ℕ) where
               },
             )
 
-    -- and one that has a move adds the place of the row to which it leads.
+    -- A processor that has a move adds the place of the row to which it leads.
     pub went : (next : List ℕ) (new : List (List ℕ)) (target : ℕ) → IsNextUpTo e code classes u (means e t row) p (Some next) →
         IsPlaced rows next new target → length next ≡ length row →
         Expanded e code classes u new moves first (successors ++ target ∷ []) done (p + 1)
@@ -355,11 +355,11 @@ module _ (e : Extent) (code : List ℕ) (classes : List ℕ) where
 
   -- ---- the beginning, and a state whose moves are all found
 
-  -- If there is one row, each row but the first is a successor of some row.
+  -- If there is only one row, every row but the first is a successor of some row.
   pub all_begun : (row : List ℕ) → AreAllFound (row ∷ []) []
   all_begun row v some l = absurd (omega (arith, some, l))
 
-  -- A search of one row has begun: its state is the first, and no successors are noted.
+  -- A list of one row is the beginning of a search: its state is the first, and no successors are noted.
   pub begun : (t : TableLists) (row : List ℕ) → IsRow e t row → Searched e code classes t (row ∷ []) [] (means e t row) 0
   begun t row h = record {
     are_rows = λ i l. row_at i l;
@@ -387,7 +387,7 @@ module _ (e : Extent) (code : List ℕ) (classes : List ℕ) where
       reached_at zero l = ([], refl)
       reached_at (suc i) l = absurd (omega (arith, l))
 
-  -- After the moves of all processors, the successors of one state more are noted.
+  -- After the moves of all processors, the successors of one more state are noted.
   pub completed : (t : TableLists) (rows moves : List (List ℕ)) (first : MacroState) (successors : List ℕ) (done : ℕ) →
       Expanded e code classes t rows moves first successors done e.processors →
       (Spinning e code (state_at e t rows done) → successors ≡ done ∷ []) →
@@ -461,7 +461,7 @@ module _ (e : Extent) (code : List ℕ) (classes : List ℕ) where
           subst (λ (z : ℕ × List ℕ). HasSuccessor e code classes t rows (state_at e t rows z.0) z.1 k)
           (λ j. (sym same j, sym (here i same) j)) (h.complete k few)
 
-  -- Then all that was found is a successor of some state.
+  -- After the moves of all processors, every row but the first is a successor of some row.
   pub completed_all : (t : TableLists) (rows moves : List (List ℕ)) (first : MacroState) (successors : List ℕ) (done : ℕ) →
       Expanded e code classes t rows moves first successors done e.processors → AreAllFound rows (moves ++ successors ∷ [])
   completed_all t rows moves first successors done h v some l = on (h.found v some l)
@@ -473,7 +473,7 @@ module _ (e : Extent) (code : List ℕ) (classes : List ℕ) where
           let there = noted_there moves x.0 v x.1 in
           (x.0, subst (λ vs. Contains vs v) (sym (get_or_append_left moves (successors ∷ []) [] x.0 there)) x.1)
 
-  -- If a row is left, the search begins with its successors, by the moves of no processor so far.
+  -- If a row is left, the search begins on its successors, with the moves of no processor yet.
   pub expanding : (t : TableLists) (rows moves : List (List ℕ)) (first : MacroState) (done : ℕ) →
       Searched e code classes t rows moves first done → AreAllFound rows moves → done < length rows →
       Expanded e code classes t rows moves first [] done 0
@@ -485,7 +485,7 @@ module _ (e : Extent) (code : List ℕ) (classes : List ℕ) where
     found = λ v some l. inr (all v some l);
   }
 
-  -- A state in which a processor spins has itself for its successor.
+  -- A state in which a processor spins has itself as its successor.
   pub spun : (t : TableLists) (rows moves : List (List ℕ)) (first : MacroState) (done : ℕ) →
       Searched e code classes t rows moves first done → AreAllFound rows moves → done < length rows →
       Spinning e code (state_at e t rows done) → Expanded e code classes t rows moves first (done ∷ []) done e.processors

@@ -1,4 +1,4 @@
--- Which processors of a row go on: in the state that it means a processor spins if one does.
+-- A processor spins in the state of a row exactly if one of the row's local states goes on.
 use Rattle.std.proofs.Common.{◌≡◌, ◌⊎◌, inl, inr, ℕ, ◌+◌, ◌-◌, ◌<◌, List, refl, sym, subst, arith}
 use Rattle.std.specs.Prelude.{slice_index}
 use Rattle.flat_machine.specs.declared.setting.Setting.{Setting}
@@ -24,7 +24,7 @@ module _ (e : Extent) (code : List ℕ) (t : TableLists) (row : List ℕ) (h : I
         (reference_same u s (record { processors = sym processors; shared_words = sym words }) code a.processor refers) refers),
   )
 
-  -- If one goes on, a processor spins,
+  -- If the local state of a processor goes on, some processor of the state spins.
   pub spins_if : (p : ℕ) → p < e.processors → IsGoingOn code (placed_at t (slice_index row p)) → Spinning e code (means e t row)
   spins_if p few on = record {
     processor = p;
@@ -36,7 +36,7 @@ module _ (e : Extent) (code : List ℕ) (t : TableLists) (row : List ℕ) (h : I
         (subst (λ s. GoesOn s code (at p).local_state.processor) (h.own p few) on));
   }
 
-  -- and only then.
+  -- If some processor of the state spins, the local state of a processor goes on.
   pub spins_only_if : Spinning e code (means e t row) → (p : ℕ) × (p < e.processors) × IsGoingOn code (placed_at t (slice_index row p))
   spins_only_if spins =
       let p = spins.processor in
@@ -50,11 +50,11 @@ module _ (e : Extent) (code : List ℕ) (t : TableLists) (row : List ℕ) (h : I
             (subst (λ (a : LocalState). GoesOn (setting_at e p) code a.processor) (sym found.1) spins.goes_on))),
       )
 
-  -- Of the first this many none goes on.
+  -- None of the first `count` processors goes on.
   abbrev pub NoneGoesOn : ℕ → Type 0
   NoneGoesOn count = (q : ℕ) → q < count → IsGoingOn code (placed_at t (slice_index row q)) → ⊥
 
-  -- One more does not, if it does not itself, or has the number of the one before it.
+  -- If none of the first p processors goes on, nor the next, none of the first p + 1 does.
   pub none_more : (p : ℕ) → NoneGoesOn p → (IsGoingOn code (placed_at t (slice_index row p)) → ⊥) → NoneGoesOn (p + 1)
   none_more p none own q below on = by (up_to q p below)
     where

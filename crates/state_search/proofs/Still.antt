@@ -13,11 +13,11 @@ alone_on : (n : ℕ) (s : Setting) (code : List ℕ) (a : LocalState) → alone 
 alone_on zero s code a = refl
 alone_on (suc n) s code a = alone_on n s code (alone_once s code a)
 
--- A local state leads to itself by no turns alone.
+-- No turns alone lead from a local state to itself.
 pub none_gone : (quietly : Bool) (code : List ℕ) (a : Placed) → HasGone quietly code a a
 none_gone quietly code a = record { setting = refl; count = 0; gone = refl; quiet = λ _. tt }
 
--- After some turns alone, one more is some turns alone.
+-- Some turns alone and one more are some turns alone.
 pub gone_on : (quietly : Bool) (code : List ℕ) (a b c : Placed) → HasGone quietly code a b → HasTurned quietly code b c → HasGone quietly code a c
 gone_on quietly code a b c g t = record {
   setting = t.setting ∙ g.setting;
@@ -35,7 +35,7 @@ ask_both n j s code a = by n (n + j) a refl
     by (suc i) zero b e h k = absurd (omega (arith, e))
     by (suc i) (suc m) b e h k = (h.0, by i m (alone_once s code b) (omega (arith, e)) h.1 k)
 
--- Turns that follow others.
+-- Some turns alone and some more are some turns alone.
 pub gone_both : (quietly : Bool) (code : List ℕ) (a b c : Placed) → HasGone quietly code a b → HasGone quietly code b c → HasGone quietly code a c
 gone_both quietly code a b c g h = record {
   setting = h.setting ∙ g.setting;
@@ -50,29 +50,29 @@ gone_both quietly code a b c g h = record {
 
 -- ---- where turns alone end
 
--- A processor that stands is still,
+-- A processor that has stopped or is at a reference is still.
 pub standing_still : (code : List ℕ) (a : Placed) → IsStanding code a → IsStill code a
 standing_still code a h = λ runs. inl (h runs)
 
--- and quiet.
+-- A processor that has stopped or is at a reference is quiet.
 pub standing_quiet : (quietly : Bool) (code : List ℕ) (a : Placed) → IsStanding code a → IsQuiet quietly code a
 standing_quiet quietly code a h = λ on. stands_quiet a.setting code a.local_state h
 
 -- ---- turns that lead back
 
--- Turns alone lead from the old to the new, in each of which the processor goes on.
+-- Turns alone lead from old to new, and the processor goes on in each of them.
 pub record HasGoneOn (quietly : Bool) (code : List ℕ) (old new : Placed) : Type 0 where
-  -- Some turns alone lead from the old to the new.
+  -- Some turns alone lead from old to new.
   pub gone : HasGone quietly code old new
   -- The processor goes on in each of them.
   pub on : GoesOnFor gone.count old.setting code old.local_state
 
--- By no turns, in each of which it goes on, a processor comes to where it is.
+-- No turns lead from a local state to itself, and the processor goes on in each of them.
 pub none_gone_on : (quietly : Bool) (code : List ℕ) (a : Placed) → HasGoneOn quietly code a a
 unfolding none_gone
 none_gone_on quietly code a = record { gone = none_gone quietly code a; on = tt }
 
--- If a processor goes on in each of some turns alone, and in one more after them, it goes on in each of all these.
+-- If a processor goes on in each of some turns alone, and in one more after them, it goes on in all of them.
 pub gone_on_more : (quietly : Bool) (code : List ℕ) (a b c : Placed) → HasGoneOn quietly code a b → HasTurned quietly code b c → IsGoingOn code b →
     HasGoneOn quietly code a c
 unfolding gone_on
@@ -82,7 +82,7 @@ gone_on_more quietly code a b c g t goes = record {
       (subst (λ (z : Setting × LocalState). GoesOn z.0 code z.1.processor) (λ i. (g.gone.setting i, g.gone.gone i)) goes);
 }
 
--- A station that runs and is equal to another is the same.
+-- If two local states are equal and one is running, they are the same.
 same_local_state : (a b : Placed) → is_running b.local_state.processor.status ≡ true → IsEqual a b → a.local_state ≡ b.local_state
 same_local_state a b runs h = by (is_running a.local_state.processor.status) refl
   where
@@ -113,7 +113,7 @@ module _ (quietly : Bool) (code : List ℕ) (a b c : Placed) (g : HasGoneOn quie
   unfolding gone_on
   back = sym (gone_on quietly code a b c g.gone t).gone ∙ is
 
-  -- A station that is as it was before the turns spins.
+  -- A local state that comes back to itself after the turns spins, so it is still.
   pub back_still : WhatComesBackSpins → IsStill code c
   back_still law = λ runs.
       inr (subst (λ (z : Setting × LocalState). Spins z.0 code z.1.processor) (λ i. (sym same.setting i, sym is i))
@@ -122,7 +122,7 @@ module _ (quietly : Bool) (code : List ℕ) (a b c : Placed) (g : HasGoneOn quie
       (subst (λ (z : Setting × LocalState). GoesOn z.0 code z.1.processor) (λ i. (g.gone.setting i, g.gone.gone i)) goes))
       back))
 
-  -- If it did not ask for its own number, it never does.
+  -- If it did not ask for its own number in these turns, it never does, so it is quiet.
   pub back_quiet : WhatComesBackNeverAsks → IsQuiet quietly code c
   unfolding gone_on
   back_quiet law = λ on.

@@ -1,4 +1,4 @@
--- Two places of one class that trade are an exchange.
+-- A trade of two places of one class is an exchange.
 use Rattle.std.proofs.Common.{◌≡◌, ◌≢◌, ◌⊎◌, inl, inr, ℕ, zero, suc, [], ◌∷◌, ◌<◌, ◌≤◌, List, length, Some, refl, sym, ap, subst, ◌∙◌, arith}
 use Rattle.std.specs.Prelude.{slice_get, slice_index, slice_set}
 use Rattle.std.proofs.lemmas.Bool.{cases_eq}
@@ -7,15 +7,15 @@ use Rattle.local_reduction.specs.Exchanging.{AreAlike}
 use Rattle.local_reduction.proofs.Lemmas.{found_there, found_within, none, both, trade, trade_all}
 use Rattle.state_search.specs.Rows.{IsRowExchanged, traded_row}
 
--- A row comes of itself by an exchange.
+-- Row exchanges are reflexive.
 pub as_it_was : (classes row : List ℕ) → IsRowExchanged classes row row
 as_it_was classes row = record { exchange = none classes; each = λ k l. refl; others = λ k l. refl }
 
--- a place is of its class
+-- A place of the same class as one of the list is itself in the list.
 within : (classes : List ℕ) (j k : ℕ) → AreAlike classes j k → k < length classes → j < length classes
 within classes j k e l = let x = found_there classes k l in found_within classes j x.0 (e ∙ x.1)
 
--- A row that comes by an exchange of one that came by an exchange comes by an exchange of the first.
+-- Row exchanges are transitive.
 pub then_exchanged : (classes a b c : List ℕ) → IsRowExchanged classes a b → IsRowExchanged classes b c → IsRowExchanged classes a c
 then_exchanged classes a b c f g = record {
   exchange = both classes f.exchange g.exchange;
@@ -54,11 +54,11 @@ there [] k l = absurd (omega (arith, l))
 there (x ∷ xs) zero l = refl
 there (x ∷ xs) (suc k) l = there xs k (omega (arith, l))
 
--- places with equal numbers are of one class
+-- Places with equal class numbers are of one class.
 pub alike : (classes : List ℕ) (j k : ℕ) → j < length classes → k < length classes → slice_index classes j ≡ slice_index classes k → AreAlike classes j k
 alike classes j k lj lk e = there classes j lj ∙ (ap Some e ∙ sym (there classes k lk))
 
--- If two places of one class trade, the new row comes of the old by an exchange.
+-- If two places of one class trade, the new row is an exchange of the old one.
 pub traded_so : (classes row new : List ℕ) (j i : ℕ) → slice_index classes j ≡ slice_index classes i → j < length classes → i < length classes →
     length classes ≤ length row → new ≡ traded_row row j i → IsRowExchanged classes row new
 traded_so classes row new j i e lj li long is =

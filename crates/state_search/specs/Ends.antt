@@ -1,4 +1,4 @@
--- What rows that a search has found have to do with the first state.
+-- How the rows that a search finds relate to the first state.
 use Rattle.std.specs.Prelude.{◌≡◌, ℕ, ◌<◌, ◌≤◌, List, [], length, slice_index_or}
 use Rattle.local_reduction.specs.Closing.{MacroState}
 use Rattle.state_graph.specs.Paths.{IsBreadthFirst}
@@ -11,12 +11,12 @@ use Rattle.state_search.specs.Search.{state_at}
 abbrev pub AreRows : Extent → TableLists → List (List ℕ) → Type 0
 AreRows e t rows = (i : ℕ) → i < length rows → IsRow e t (slice_index_or rows i [])
 
--- No two of the first this many states are the same.
+-- No two of the first `count` states are equal.
 abbrev pub AreDifferentStates : (count : ℕ) → (state : ℕ → MacroState) → Type 0
 AreDifferentStates count state = (i j : ℕ) → i < count → j < count → state i ≡ state j → i ≡ j
 
--- The rows are states that are found from a first one, up to exchanges, with their successors, breadth first. No two
--- are the same.
+-- The rows mean all states that moves reach from a first one, up to exchanges, with their successors, in breadth-first
+-- order. No two mean the same state.
 pub record AreFound (e : Extent) (code : List ℕ) (classes : List ℕ) (t : TableLists) (rows moves : List (List ℕ))
     (first : MacroState) : Type 0 where
   pub are_rows : AreRows e t rows
@@ -26,7 +26,7 @@ pub record AreFound (e : Extent) (code : List ℕ) (classes : List ℕ) (t : Tab
   pub breadth : IsBreadthFirst moves
   pub different : AreDifferentStates (length rows) (state_at e t rows)
 
--- At least this many different states are found from a first one.
+-- Moves reach at least `least` different states from a first one.
 pub record AreMany (e : Extent) (code : List ℕ) (classes : List ℕ) (t : TableLists) (first : MacroState)
     (least : ℕ) : Type 0 where
   pub rows : List (List ℕ)

@@ -1,4 +1,4 @@
--- What comparing and hashing stations by their numbers rests on.
+-- Why local states can be compared and hashed by their keys.
 use Rattle.std.specs.Prelude.{◌≡◌, true, List, ◌++◌, ℕ, [], slice_index, slice_index_or}
 use Rattle.std.specs.Bool.{Decides}
 use Rattle.std.specs.Cmp.{IsEquivalence}
@@ -14,7 +14,7 @@ keys_equiv = lists_equiv nat_list_eq_equiv
 pub keys_decide : (x y : List (List ℕ)) → Decides (same_keys x y) (x ≡ y)
 keys_decide = pointwise_decides bytes_decides
 
--- what is hashed of the numbers of a station: its pc, what it has printed, and its registers
+-- what is hashed of a local state's key: its pc, what it has printed, and its registers
 abbrev pub hashed : List (List ℕ) → HashWrites
 hashed keys =
     u32 (slice_index (slice_index_or keys 0 []) 3) ++ slice u8 (slice_index_or keys 2 [])

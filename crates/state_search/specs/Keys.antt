@@ -1,4 +1,4 @@
--- Numbers by which a station is found.
+-- Keys by which tables look up local states.
 use Rattle.std.specs.Prelude.{ℕ, Bool, List, [], ◌∷◌, nat_eq}
 use Rattle.std.specs.Cmp.Lexicographic.{pointwise}
 use Rattle.std.specs.Ordering.{on}
@@ -13,7 +13,7 @@ status_numbers Running = []
 status_numbers (Halted byte) = byte ∷ []
 status_numbers (Faulted fault) = number_of_fault fault ∷ 0 ∷ []
 
--- all of a processor that runs, and of one that has stopped neither registers nor local memory
+-- the key of a local state: all of a running processor, and a stopped one without registers and local memory
 abbrev pub key_of : Placed → List (List ℕ)
 key_of a =
     (a.setting.number ∷ a.setting.processors ∷ a.setting.shared_words ∷ a.local_state.processor.pc ∷ [])

@@ -1,4 +1,4 @@
--- Why a search is given up.
+-- Why a search gives up.
 use Rattle.state_search.specs.declared.refusal.MoveRefusal.{MoveRefusal}
 use Rattle.state_search.specs.declared.refusal.MoveRefusal.TheVariants as move
 use Rattle.state_search.specs.declared.refusal.Refusal.{Refusal}
@@ -9,7 +9,7 @@ refused_by_move move.Memory = search.Memory
 refused_by_move move.Alone = search.Alone
 refused_by_move move.Asks = search.Asks
 
--- It is given up for too many states only if there are.
+-- If a search gives up because of too many states, there are too many.
 abbrev pub IsGivenUpFor : (has_many : Type 0) → Refusal → Type 0
 IsGivenUpFor has_many search.Memory = Unit {0}
 IsGivenUpFor has_many search.States = has_many

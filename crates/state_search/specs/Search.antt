@@ -1,4 +1,4 @@
--- How far a search has come.
+-- The progress of a search.
 use Rattle.std.specs.Prelude.{◌≡◌, ◌⊎◌, ℕ, ◌<◌, ◌≤◌, Bool, false, List, [], ◌∷◌, Option, Some, None, Contains, length}
 use Rattle.std.specs.Prelude.{slice_index, slice_index_or}
 use Rattle.local_reduction.specs.Closing.{MacroState, MayMove, HasSpinner}
@@ -17,7 +17,7 @@ state_at e t rows i = means e t (slice_index_or rows i [])
 abbrev pub AreAllFound : (rows moves : List (List ℕ)) → Type 0
 AreAllFound rows moves = (v : ℕ) → 0 < v → v < length rows → (k : ℕ) × Contains (successors_at moves k) v
 
--- The row has this place in the list, to whose end it was added if it was not there.
+-- The row is at this place of the new list: it was in the old list, or was appended to it.
 pub record IsPlaced (old : List (List ℕ)) (row : List ℕ) (new : List (List ℕ)) (place : ℕ) : Type 0 where
   pub longer : length old ≤ length new
   pub same : (i : ℕ) → i < length old → slice_index_or new i [] ≡ slice_index_or old i []
@@ -27,7 +27,7 @@ pub record IsPlaced (old : List (List ℕ)) (row : List ℕ) (new : List (List �
 
 -- ---- classes
 
--- The classes of the processors: if they are not exchanged, each has one of its own.
+-- Every processor has a class. If processors are not exchanged, each has a class of its own.
 pub record AreClasses (e : Extent) (classes : List ℕ) : Type 0 where
   pub all : length classes ≡ e.processors
   pub own : e.exchanged ≡ false → (j k : ℕ) → k < e.processors → AreAlike classes j k → j ≡ k
@@ -38,7 +38,7 @@ AreClassesOf e classes row =
     (j k : ℕ) → j < e.processors → k < e.processors → slice_index classes j ≡ slice_index classes k →
     slice_index row j ≡ slice_index row k
 
--- Another processor of the class, before this one, has the same number.
+-- Processor q is before p, of the same class, and has the same number in the row.
 pub record IsLike (row classes : List ℕ) (p q : ℕ) : Type 0 where
   pub before : q < p
   pub alike : AreAlike classes q p
@@ -46,31 +46,30 @@ pub record IsLike (row classes : List ℕ) (p q : ℕ) : Type 0 where
 
 -- ---- moves
 
--- The processor runs, and is about to refer to a word.
+-- The processor runs, and its next turn is a reference.
 abbrev pub CanMove : Extent → (code : List ℕ) → MacroState → (processor : ℕ) → Type 0
 CanMove e code s k = MayMove (setting_at e) code s k
 
--- A processor runs, and is not about to refer to a word.
+-- Some processor runs, and its next turn is not a reference: it spins.
 abbrev pub Spinning : Extent → (code : List ℕ) → MacroState → Type 0
 Spinning e code s = HasSpinner (setting_at e) code s
 
 module _ (e : Extent) (code : List ℕ) (classes : List ℕ) where
-  -- One reference of a processor, or of one like it, and what it does alone after it, lead from a state to an exchange
-  -- of another.
+  -- A move of a processor, or of one like it, leads from a state to an exchange of another.
   abbrev pub Moves : (live : List (List Bool)) → MacroState → (processor : ℕ) → MacroState → Type 0
   Moves live s k t = IsMoveUpTo (setting_at e) code (kept_by live) classes s k t
 
-  -- such moves lead from one state to another
+  -- Some such moves, one after another, lead from one state to another.
   abbrev pub IsReached : (live : List (List Bool)) → MacroState → MacroState → Type 0
   IsReached live s t = (way : List (ℕ × MacroState)) × IsWayUpTo (setting_at e) code (kept_by live) classes s way t
 
-  -- what a look for a move gives: the row that it leads to, or none if there is no move
+  -- A lookup of a processor's move gives the row to which it leads, or None if there is no move.
   abbrev pub IsNext : TableLists → MacroState → (processor : ℕ) → Option (List ℕ) → Type 0
   IsNext t s k None = CanMove e code s k → ⊥
   IsNext t s k (Some row) =
       IsRow e t row × IsMoveOfAny (setting_at e) code (kept_by t.live) classes s k (means e t row)
 
-  -- the same up to exchanges
+  -- The same holds up to exchanges.
   abbrev pub IsNextUpTo : TableLists → MacroState → (processor : ℕ) → Option (List ℕ) → Type 0
   IsNextUpTo t s k None = CanMove e code s k → ⊥
   IsNextUpTo t s k (Some row) = IsRow e t row × Moves t.live s k (means e t row)
@@ -78,19 +77,18 @@ module _ (e : Extent) (code : List ℕ) (classes : List ℕ) where
   -- ---- successors
 
   module _ (t : TableLists) (rows : List (List ℕ)) where
-    -- A row is a successor of a state: some move leads to it, if no processor spins.
+    -- The row at a place is a successor of a state: a move leads to it, or a processor spins.
     abbrev pub IsSuccessor : MacroState → (place : ℕ) → Type 0
     IsSuccessor s v = (v < length rows) × (Spinning e code s ⊎ ((k : ℕ) × Moves t.live s k (state_at e t rows v)))
 
-    -- One of the places is that of a row to which the move of the processor leads, if it has one, and no processor
-    -- spins.
+    -- If the processor has a move, and no processor spins, the move leads to a row at one of these places.
     abbrev pub HasSuccessor : MacroState → (successors : List ℕ) → (processor : ℕ) → Type 0
     HasSuccessor s successors k =
         CanMove e code s k →
         Spinning e code s
         ⊎ ((v : ℕ) × Contains successors v × (v < length rows) × Moves t.live s k (state_at e t rows v))
 
-    -- All that is found is reached from the first, and the successors of the first this many states are noted.
+    -- All rows mean states reached from the first, and the successors of the first `done` rows are noted.
     pub record Searched (moves : List (List ℕ)) (first : MacroState) (done : ℕ) : Type 0 where
       pub are_rows : (i : ℕ) → i < length rows → IsRow e t (slice_index_or rows i [])
       pub reached : (i : ℕ) → i < length rows → IsReached t.live first (state_at e t rows i)
@@ -105,7 +103,7 @@ module _ (e : Extent) (code : List ℕ) (classes : List ℕ) where
           HasSuccessor (state_at e t rows i) (successors_at moves i) k
       pub breadth : IsBreadthFirst moves
 
-    -- Besides, these are the successors of the next state by moves of the first this many processors.
+    -- In addition, these are the successors of the next row by moves of the first `processors` processors.
     pub record Expanded (moves : List (List ℕ)) (first : MacroState) (successors : List ℕ)
         (done processors : ℕ) : Type 0 where
       pub searched : Searched moves first done
@@ -115,7 +113,7 @@ module _ (e : Extent) (code : List ℕ) (classes : List ℕ) where
       pub found : (v : ℕ) → 0 < v → v < length rows →
           Contains successors v ⊎ ((k : ℕ) × Contains (successors_at moves k) v)
 
-    -- At least this many are found.
+    -- The search has found at least `least` rows.
     pub record AreManyRows (first : MacroState) (least : ℕ) : Type 0 where
       pub moves : List (List ℕ)
       pub done : ℕ

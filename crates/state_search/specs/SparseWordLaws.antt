@@ -1,4 +1,4 @@
--- What hashing lists of words rests on.
+-- Why hashing lists of words agrees with comparing them.
 use Rattle.std.specs.Prelude.{◌≡◌, true, List, ◌++◌, ℕ, nat_eq}
 use Rattle.std.specs.Cmp.Lexicographic.{bytes_decides, pointwise}
 use Rattle.std.specs.Hash.{HashWrites, slice, u32}

@@ -15,13 +15,13 @@ use Rattle.local_reduction.specs.Forgetting.{kept_by}
 use Rattle.state_search.specs.declared.state_tables.Extent.{Extent}
 use Rattle.state_search.specs.Placed.{Placed, IsBare}
 
--- Beside them which registers are live at each word of code: what the others hold is not kept of a local state.
+-- the tables, and the live registers at each word of code: of a local state, only live registers are kept
 pub record TableLists : Type 0 where
   pub live : List (List Bool)
   pub local_states : List Placed
   pub words : List (List ℕ)
 
--- what is read where no local state is
+-- what a read past the end of the table gives
 abbrev pub nowhere : Placed
 nowhere = record {
   setting = record { number = 0; processors = 0; shared_words = 0 };
@@ -34,11 +34,11 @@ placed_at t i = slice_index_or t.local_states i nowhere
 abbrev pub words_at : TableLists → (number : ℕ) → List ℕ
 words_at t i = slice_index_or t.words i []
 
--- Each local state has 0 in the registers that are not live.
+-- In every local state, the registers that are not live hold 0.
 abbrev pub AreLeast : TableLists → Type 0
 AreLeast t = (i : ℕ) → i < length t.local_states → IsBare t.live (placed_at t i)
 
--- No two local states of one processor are kept the same, and no two lists have the same words.
+-- No two local states of one setting are kept alike, and no two lists have the same words.
 pub record AreDifferent (t : TableLists) : Type 0 where
   pub local_states : (i j : ℕ) → i < length t.local_states → j < length t.local_states →
       (placed_at t i).setting ≡ (placed_at t j).setting →
@@ -47,7 +47,7 @@ pub record AreDifferent (t : TableLists) : Type 0 where
 
 -- ---- tables that grow
 
--- What has a number in the old tables has it in the new ones.
+-- Every number of the old tables has the same meaning in the new ones.
 pub record HasGrown (old new : TableLists) : Type 0 where
   pub live : new.live ≡ old.live
   pub local_states : length old.local_states ≤ length new.local_states
@@ -57,11 +57,11 @@ pub record HasGrown (old new : TableLists) : Type 0 where
 
 -- ---- rows
 
--- what each processor of a machine of this size knows of it
+-- the setting of processor p of a machine of this extent
 abbrev pub setting_at : Extent → ℕ → Setting
 setting_at e p = record { number = p; processors = e.processors; shared_words = e.shared_words }
 
--- what its local states say that it knows: where processors are exchanged, all have the number 0
+-- the setting in the local states of processor p: if processors are exchanged, all have the number 0
 abbrev pub own_setting : Extent → ℕ → Setting
 own_setting e p = setting_at e (if e.exchanged then 0 else p)
 
@@ -73,8 +73,8 @@ means e t row = record {
   shared = words_at t (slice_index row e.processors);
 }
 
--- The row has numbers of the tables, of each processor one of its own local states and of the words a list of all that
--- the machine has, and zeros after them.
+-- The row has, for each processor, the number of one of its local states, then the number of a list of all shared
+-- words, then zeros.
 pub record IsRow (e : Extent) (t : TableLists) (row : List ℕ) : Type 0 where
   pub there : (p : ℕ) → p < e.processors → slice_index row p < length t.local_states
   pub own : (p : ℕ) → p < e.processors → (placed_at t (slice_index row p)).setting ≡ own_setting e p
@@ -82,8 +82,8 @@ pub record IsRow (e : Extent) (t : TableLists) (row : List ℕ) : Type 0 where
   pub all : length (words_at t (slice_index row e.processors)) ≡ e.shared_words
   pub rest : (k : ℕ) → e.processors < k → slice_index row k ≡ 0
 
--- The tables have under a number what a local state becomes by a reference to a word that had this value before, and
--- some turns alone after it.
+-- The tables have, under this number, the local state after a reference to a word with the old value `before`, and some
+-- turns alone after it.
 pub record IsBehind (quietly : Bool) (code : List ℕ) (before : ℕ) (old : Placed) (t : TableLists)
     (number : ℕ) : Type 0 where
   pub there : number < length t.local_states

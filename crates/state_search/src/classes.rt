@@ -1,4 +1,4 @@
-//! The classes of processors that are exchanged.
+//! The classes of processors that can be exchanged.
 
 ghost use Rattle.std.specs.Prelude.{◌≡◌, ◌<◌, ◌≤◌, false, slice_index, IfOk};
 ghost use Rattle.state_search.specs.Search.{AreClasses, AreClassesOf};
@@ -6,8 +6,8 @@ ghost use Rattle.state_search.specs.Search.{AreClasses, AreClassesOf};
 use crate::state_tables::{Extent, StateVector};
 use std::alloc::{AllocError, Global};
 
-/// The class of each processor, named by the first that is in it: where processors are exchanged, those that stand
-/// alike in the first row are of one, and else each is of its own.
+/// The class of each processor, named by the first processor in it. If processors are exchanged, those with equal
+/// numbers in the first row form a class; otherwise each processor has a class of its own.
 pub fn classes_of<const N: usize>(
     alloc: Global,
     extent: Extent,
@@ -26,7 +26,7 @@ pub fn classes_of<const N: usize>(
     Ok(classes)
 }
 
-/// The first processor that stands as this one does.
+/// The first processor with the same number in the row, if processors are exchanged; otherwise the processor itself.
 fn class_of<const N: usize>(extent: Extent, first: &StateVector<N>, p: u8) -> u8
     requires there { p < N }
     requires narrow { N ≤ 65 }

@@ -22,20 +22,20 @@ use local_memory::Code;
 use state_graph::Successors;
 use std::alloc::Global;
 
-/// All rows that a search has found, in the order in which they are found, and the successors of each.
+/// All rows that a search found, in the order of their discovery, and the successors of each.
 #[derive(Drop)]
 pub struct StateSpace<const N: usize> {
     pub rows: IndexSet<StateVector<N>>,
     pub moves: Successors,
 }
 
-/// All rows to which references lead from a first one, up to exchanges of processors of one class. How many there are
-/// is reported as they are found.
+/// Finds all rows to which references lead from `first`, up to exchanges of processors of one class. It reports their
+/// number to `observer` as it finds them.
 ///
 /// # Errors
 ///
-/// [`Refusal::States`] if there are as many as `limit`, or more, [`Refusal::Asks`] if a processor asks for its own
-/// number after a reference while processors are exchanged, [`Refusal::Alone`] and [`Refusal::Memory`].
+/// [`Refusal::States`] if there are at least `limit` rows; [`Refusal::Asks`] if a processor asks for its own number
+/// after a reference while processors are exchanged; [`Refusal::Alone`] and [`Refusal::Memory`].
 pub fn explore_states<const N: usize, G: SearchObserver>(
     alloc: Global,
     state_tables: &mut StateTables,
@@ -92,8 +92,8 @@ pub fn explore_states<const N: usize, G: SearchObserver>(
     }
 }
 
-/// Finds rows, one after the other, until no new one comes. As yet there is none.
-// What is found is the caller's, which a function with this many ends need not drop at each.
+/// Searches breadth first, from an empty `found`, until there is no new row.
+// The caller owns `found`, so that this function need not drop it at each of its many returns.
 fn breadth_first<const N: usize, G: SearchObserver>(
     state_tables: &mut StateTables,
     transition_caches: &mut TransitionCaches,
@@ -131,7 +131,7 @@ fn breadth_first<const N: usize, G: SearchObserver>(
         return Err(Refusal::Memory);
     };
     for at in 0..limit {
-        // No more than the limit are kept.
+        // The rows are never more than the limit.
         if found.rows.len() >= limit as usize {
             return Err(Refusal::States);
         }
@@ -157,8 +157,8 @@ fn breadth_first<const N: usize, G: SearchObserver>(
     Err(Refusal::States)
 }
 
-/// Adds the rows to which one reference of each processor leads from the row at a place, and puts their places in place
-/// of the successors before. A row in which a processor spins is not gone on from: it is its own successor.
+/// Adds the rows to which a move of each processor leads from the row at a place, and replaces the contents of
+/// `successors` by their places. A row in which a processor spins is its own and only successor.
 fn expand<const N: usize>(
     state_tables: &mut StateTables,
     transition_caches: &mut TransitionCaches,
@@ -213,8 +213,8 @@ fn expand<const N: usize>(
     Ok(())
 }
 
-/// Adds the row to which one reference of a processor leads from a row, up to exchanges, and its place to the
-/// successors, if the processor has one. Of processors of one class that stand alike only the first is asked.
+/// If the processor has a move, adds the row to which it leads, up to exchanges, and appends its place to `successors`.
+/// Of the processors of one class in the same local state, only the first makes its move.
 fn add_successor<const N: usize>(
     state_tables: &mut StateTables,
     transition_caches: &mut TransitionCaches,
@@ -260,8 +260,8 @@ fn add_successor<const N: usize>(
     Ok(())
 }
 
-/// The processor before this one that stands as it does, if processors are exchanged: the nearest of its class, since
-/// in each class the numbers of a row go up.
+/// An earlier processor of the same class in the same local state, if processors are exchanged. Only the nearest of the
+/// class is compared, since in each class the numbers of a row increase.
 fn like_it<const N: usize>(
     extent: Extent,
     classes: &[u8],
@@ -290,7 +290,8 @@ fn like_it<const N: usize>(
     None
 }
 
-/// The row with its processors in order, as they were but for one of them. If they are not exchanged it is the row.
+/// The row with each class sorted, if only processor `p` is out of order; the row itself if processors are not
+/// exchanged.
 fn ordered_from<const N: usize>(
     extent: Extent,
     classes: &[u8],
@@ -310,7 +311,7 @@ fn ordered_from<const N: usize>(
     }
 }
 
-/// The place of a row, which is added if it is not there.
+/// Returns the place of a row, which it adds if the row is new.
 fn place_of<const N: usize>(
     rows: &mut IndexSet<StateVector<N>>,
     row: StateVector<N>,

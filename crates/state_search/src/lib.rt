@@ -1,9 +1,10 @@
-//! All states between references that a program can reach, found by search.
+//! A search for all states between references that a program can reach.
 //!
-//! A state has each processor at its next reference to a shared word, or stopped, with what it has
-//! printed, and the shared words: a `MacroState` of `local_reduction`. Processors and words stand in
-//! tables that only grow ([`StateTables`]), each found in them by its number, and a state is a [`StateVector`] of
-//! such numbers. [`explore_states`] finds each row that references lead to, from a first one.
+//! In a state, every processor is at its next reference to a shared word, has stopped, or spins. The state also has
+//! what each processor has printed, and the shared words: it is a `MacroState` of `local_reduction`. Tables that only
+//! grow hold the local states and the lists of words ([`StateTables`]). A state is a row of their numbers, a
+//! [`StateVector`].
+//! [`explore_states`] finds every row that references lead to from a first one.
 #![tactic(auto)]
 
 mod classes;

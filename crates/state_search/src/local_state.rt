@@ -18,7 +18,7 @@ use rv_table::{Insn, Register};
 use std::alloc::{AllocError, Global};
 use std::marker::Model;
 
-/// How many instructions a processor takes after a reference before it is watched. Few take more.
+/// How many instructions a processor may take alone before the search looks for a spin. Few take more.
 const UNWATCHED: u32 = 1_024;
 
 /// A processor with the bytes that it has printed.
@@ -50,7 +50,7 @@ impl LocalState {
         })
     }
 
-    /// A processor with what it has printed.
+    /// The local state with this core and this console.
     pub(crate) fn of_parts(core: Core, console: Vec<u8>) -> Self
         ensures setting { result.setting ≡ core.setting }
         ensures local_state { result.local_state ≡ record { processor = core.state; console = console.items } }
@@ -58,7 +58,7 @@ impl LocalState {
         LocalState { core, console }
     }
 
-    /// The allocator of its memory.
+    /// The allocator of the console.
     pub(crate) fn allocator(&self) -> Global {
         *self.console.allocator()
     }
@@ -77,7 +77,7 @@ impl LocalState {
         self.console.as_slice()
     }
 
-    /// Whether the processor runs.
+    /// Returns whether the processor runs.
     pub fn is_running(&self) -> bool
         ensures { result ≡ is_running self.now.local_state.processor.status }
     {
@@ -87,7 +87,7 @@ impl LocalState {
         }
     }
 
-    /// An equal local state.
+    /// Returns an equal local state.
     pub fn copy(&self) -> Result<Self, AllocError>
         ensures { IfOk result (λ s. s ≡ self.now) }
     {
@@ -97,7 +97,7 @@ impl LocalState {
         })
     }
 
-    /// Whether both are equal, but for registers and local memory where they have stopped.
+    /// Returns whether both are equal. Registers and local memory of stopped processors do not count.
     pub(crate) fn is_equal(&self, other: &LocalState) -> bool
         ensures { IsTrue result ↔ IsEqual self.now other.now }
     {
@@ -106,7 +106,7 @@ impl LocalState {
             && (!self.is_running() || self.core.equals(&other.core))
     }
 
-    /// Sets the registers to 0 that are not live.
+    /// Sets the registers that are not live to 0.
     pub fn forget(&mut self, live: &LiveTable)
         ensures same { IsSame live.now self.new self.old }
         ensures bare { IsBare live.now self.new }
@@ -121,7 +121,7 @@ impl LocalState {
         }
     }
 
-    /// Takes a turn that refers to a shared word, which had this value before.
+    /// Completes a turn that refers to a shared word, given the word's old value.
     pub fn retire(&mut self, code: &Code, before: u32) -> Result<(), AllocError>
         requires { IsReference (turn_of self.old.setting code.now self.old.local_state.processor) }
         ensures retired { OnOk result (HasRetired code.now before self.old self.new) }
@@ -130,13 +130,12 @@ impl LocalState {
         self.print(retired)
     }
 
-    /// Takes turns as long as the processor runs and needs no shared word, unless it spins.
+    /// Takes turns alone until the processor stops, is at a reference to a shared word, or is found to spin.
     ///
     /// # Errors
     ///
-    /// [`MoveRefusal::Asks`] where one of them asks for the processor's own number though it is to go quietly,
-    /// [`MoveRefusal::Alone`] where they are 1,000,000 or more and it is not found to spin, and
-    /// [`MoveRefusal::Memory`].
+    /// [`MoveRefusal::Asks`] if a turn asks for the processor's own number and `quietly` is set;
+    /// [`MoveRefusal::Alone`] if it takes 1,000,000 turns and is not found to spin; [`MoveRefusal::Memory`].
     pub fn run_to_reference(&mut self, code: &Code, quietly: bool) -> Result<(), MoveRefusal>
         ensures gone { OnOk result (HasGone quietly code.now self.old self.new) }
         ensures still { OnOk result (IsStill code.now self.new) }
@@ -151,7 +150,7 @@ impl LocalState {
         Ok(())
     }
 
-    /// Takes a turn alone, and says whether the processor has stopped, or waits for a shared word.
+    /// Takes a turn alone, if there is one. Returns whether the processor has stopped or is at a reference.
     pub(crate) fn step(&mut self, code: &Code, quietly: bool) -> Result<bool, MoveRefusal>
         ensures turned { OnOk result (HasTurned quietly code.now self.old self.new) }
         ensures stands { IfOk result (λ stands. IsTrue stands → IsStanding code.now self.new) }
@@ -180,7 +179,7 @@ impl LocalState {
         }
     }
 
-    /// Whether the next turn asks for the processor's own number.
+    /// Returns whether the next turn asks for the processor's own number.
     #[tactic(auto, unfolding(flat_machine::specs::Effects::register_of))]
     fn asks(&self, code: &Code) -> bool
         ensures { result ≡ false → Asks code.now self.now.local_state.processor → ⊥ }
@@ -199,7 +198,7 @@ impl LocalState {
         self.core.set_number(number);
     }
 
-    /// Appends what an instruction gave to the console.
+    /// Appends the byte that an instruction wrote to the console, if any.
     fn print(&mut self, retired: Retired) -> Result<(), AllocError>
         ensures { OnOk result (self.new ≡ printing self.old retired) }
     {

@@ -1,4 +1,4 @@
-//! Moves: a reference of one processor, and what it does alone after it.
+//! Moves: one reference, and what its processor does alone after it.
 
 ghost use Rattle.std.specs.Prelude.{◌≡◌, ◌<◌, ◌≤◌, true, length, slice_set, IfOk, OnOk};
 ghost use Rattle.flat_machine.specs.State.{is_running};
@@ -17,12 +17,12 @@ use local_memory::Code;
 use local_reduction::laws;
 
 impl StateTables {
-    /// Where a reference of a processor leads, and what it does alone after it. None where it has
-    /// stopped. What is remembered of such moves is looked up, and noted where it is not there.
+    /// Returns the row to which a processor's move leads, or None if the processor has stopped or spins. Moves in the
+    /// transition caches are looked up; others are made and noted there.
     ///
     /// # Errors
     ///
-    /// [`MoveRefusal::Asks`], where processors are exchanged, [`MoveRefusal::Memory`] and [`MoveRefusal::Alone`].
+    /// [`MoveRefusal::Asks`] only if processors are exchanged; [`MoveRefusal::Memory`] and [`MoveRefusal::Alone`].
     pub fn next<const N: usize>(
         &mut self,
         transition_caches: &mut TransitionCaches,
@@ -82,7 +82,7 @@ impl StateTables {
         Ok(Some(next))
     }
 
-    /// The number of the local state after a reference to a word that had this value before.
+    /// Returns the number of the local state after a reference, given the word's old value.
     fn state_after_reference(
         &mut self,
         transition_cache: &mut TransitionCache,
@@ -109,7 +109,7 @@ impl StateTables {
         Ok(behind)
     }
 
-    /// Makes the reference, and gives the number of the local state after it.
+    /// Makes the reference, runs the processor alone after it, and returns the number of the local state reached.
     fn make_reference(
         &mut self,
         code: &Code,
@@ -135,7 +135,7 @@ impl StateTables {
         Ok(behind)
     }
 
-    /// The number of a list of words with one of them written.
+    /// Returns the number of a list of words after a write of one word.
     fn list_after_write(
         &mut self,
         transition_cache: &mut TransitionCache,
@@ -160,7 +160,7 @@ impl StateTables {
         Ok(written)
     }
 
-    /// Writes the word, and gives the number of the list that has it.
+    /// Writes the word in a copy of the list, and returns the copy's number.
     fn write_word(&mut self, number: u32, word: u32, value: u32) -> Result<u32, MoveRefusal>
         requires there { number < length self.old.words }
         requires word { word < length (words_at self.old number) }

@@ -1,15 +1,15 @@
-//! Who sees it how far a search is.
+//! Observers of a search's progress.
 
-/// Who sees it how far a search is.
+/// An observer of a search's progress.
 pub trait SearchObserver {
-    /// This many states are found by now. It is reported before the moves of each state are looked at.
+    /// The search has found `states` states so far. It reports this before it looks at the moves of each state.
     fn found(&mut self, states: usize);
 
     /// The search is over. Another may begin.
     fn over(&mut self);
 }
 
-/// One to whom it is all the same.
+/// An observer that ignores everything.
 #[derive(Clone, Copy, Debug, Drop)]
 pub struct NoProgress;
 

@@ -1,4 +1,4 @@
-//! The first row: where processors settle that have printed nothing.
+//! The first row of a search.
 
 ghost use Rattle.std.specs.Prelude.{◌≡◌, ◌<◌, ◌≤◌, [], length, IfOk, OnOk};
 ghost use Rattle.local_reduction.specs.Closing.{ReachesMacroState};
@@ -15,8 +15,8 @@ use local_memory::Code;
 use std::alloc::Global;
 
 impl StateTables {
-    /// The row of the state in which each of these processors, with these shared words, has done what
-    /// it does alone.
+    /// Runs each processor alone to its next reference, its stop or a spin, and returns the row of the state reached.
+    /// The processors have printed nothing before.
     ///
     /// # Errors
     ///
@@ -48,7 +48,7 @@ impl StateTables {
         Ok(row)
     }
 
-    /// The number of the local state at which a processor settles that has printed nothing.
+    /// Runs a processor that has printed nothing alone, and returns the number of the local state reached.
     fn open_local_state(
         &mut self,
         alloc: Global,

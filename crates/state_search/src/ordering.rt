@@ -1,14 +1,13 @@
-//! Rows in which the numbers of each class of processors go up.
+//! Ordered rows: in each class of processors the numbers increase.
 
 ghost use Rattle.std.specs.Prelude.{◌≡◌, ◌<◌, ◌≤◌, length, slice_index};
 ghost use Rattle.state_search.specs.Rows.{IsRowExchanged, traded_row};
 
 use crate::state_tables::StateVector;
 
-/// The row with its processors exchanged, each with one of its class, so that in each class their numbers go up, if
-/// they did but for the number of one processor. What holders stand at the places of the processors trade with them;
-/// there may be none.
-// The contract asks for no order: a row that is not in order costs states, and nothing else.
+/// Exchanges the processors of a row within their classes. If only the number of `processor` is out of order, the
+/// numbers of each class increase afterwards. The holders at the places, if any, are exchanged with them.
+// The contract does not promise an order: a row that is out of order costs extra states, and nothing else.
 pub fn canonical<const N: usize>(
     row: &StateVector<N>,
     classes: &[u8],
@@ -31,8 +30,8 @@ pub fn canonical<const N: usize>(
     new
 }
 
-/// Trades two processors of one class if the first has the greater number. Gives the place at which then stands what
-/// stood at one of them.
+/// Trades two processors if they are of one class and the first has the greater number. If they trade, returns the
+/// other place than `at`, to which the processor at `at` has moved.
 fn step<const N: usize>(
     row: &mut StateVector<N>,
     classes: &[u8],
@@ -56,7 +55,7 @@ fn step<const N: usize>(
     if at == first { second } else { first }
 }
 
-/// Trades two processors of one class in a row, and the holders that stand at their places; there may be none.
+/// Trades two processors of one class in a row, and the holders at their places, if any.
 pub fn trade<const N: usize>(
     row: &mut StateVector<N>,
     classes: &[u8],
@@ -75,7 +74,7 @@ pub fn trade<const N: usize>(
     trade_holders(holders, first, second);
 }
 
-/// Trades two places.
+/// Trades the numbers at two places.
 fn trade_numbers<const N: usize>(row: &mut StateVector<N>, first: usize, second: usize)
     requires first { first < N }
     requires second { second < N }
@@ -87,7 +86,7 @@ fn trade_numbers<const N: usize>(row: &mut StateVector<N>, first: usize, second:
     row[second] = number;
 }
 
-/// Trades what stands at two places, if there is such.
+/// Trades the holders at two places, if there are any.
 fn trade_holders(holders: &mut [u8], first: usize, second: usize) {
     if first < holders.len() && second < holders.len() {
         let holder = holders[first];

@@ -1,29 +1,29 @@
-//! Why a search is given up.
+//! Why a search gives up.
 
 ghost use Rattle.std.specs.Prelude.{◌≡◌};
 ghost use Rattle.state_search.specs.Refusals.{refused_by_move};
 
-/// Why a search is given up.
+/// Why a search gives up.
 #[derive(Clone, Copy, Debug, PartialEq, Eq, Drop)]
 pub enum Refusal {
-    /// There is no memory for what is found.
+    /// Out of memory.
     Memory,
-    /// There are as many states as the limit, or more.
+    /// There are at least as many states as the limit.
     States,
-    /// A processor goes on for 1,000,000 instructions without a reference, and is not found to spin.
+    /// A processor runs for 1,000,000 instructions without a reference, and is not found to spin.
     Alone,
     /// A processor asks for its own number after a reference, while processors are exchanged.
     Asks,
 }
 
-/// Why it is not known where a processor goes on to.
+/// Why the search cannot make a move.
 #[derive(Clone, Copy, Debug, PartialEq, Eq, Drop)]
 pub enum MoveRefusal {
-    /// There is no memory for what is found.
+    /// Out of memory.
     Memory,
-    /// The processor goes on for 1,000,000 instructions without a reference, and is not found to spin.
+    /// The processor runs for 1,000,000 instructions without a reference, and is not found to spin.
     Alone,
-    /// It asks for its own number after a reference, while processors are exchanged.
+    /// The processor asks for its own number after a reference, while processors are exchanged.
     Asks,
 }
 

@@ -1,4 +1,4 @@
-//! What tables keep of a processor between two references.
+//! What tables store of a processor between two references.
 
 ghost use Rattle.std.specs.Prelude.{◌≡◌, ◌↔◌, true, [], IfOk, IsTrue};
 ghost use Rattle.flat_machine.specs.State.{is_running};
@@ -17,15 +17,15 @@ use std::alloc::{AllocError, Global};
 use std::hash::{Hash, Hasher};
 use std::marker::Model;
 
-/// A local state that is saved, in as much memory as it needs. Of a processor that has stopped it has neither registers
-/// nor local memory.
+/// A saved local state, in as much memory as it needs. It stores neither registers nor local memory of a stopped
+/// processor.
 #[derive(Drop)]
 pub struct SavedLocalState {
     processor: SavedProcessor,
     console: Vec<u8>,
 }
 
-/// What is kept of a processor.
+/// What is stored of a processor.
 #[derive(Drop)]
 enum SavedProcessor {
     Running(Box<SavedCore>),
@@ -51,7 +51,7 @@ impl Model for SavedLocalState {
     ghost invariant = { λ s. IsKept s.processor };
 }
 
-// A table finds a local state by its key. Local memory is compared, and not hashed.
+// A table looks up a local state by its key. Local memory is compared, but not hashed.
 impl PartialEq for SavedLocalState {
     ghost use Rattle.std.specs.Cmp.{on_per, partial_equiv_from_equiv};
     ghost use Rattle.state_search.specs.KeyLaws.{keys_equiv};
@@ -107,7 +107,7 @@ impl SavedLocalState {
         })
     }
 
-    /// The local state that was saved, of a processor that runs.
+    /// Returns the local state that was saved, of a running processor.
     pub(crate) fn restore(&self) -> Result<LocalState, AllocError>
         requires { is_running self.now.local_state.processor.status ≡ true }
         ensures { IfOk result (λ local_state. local_state ≡ self.now) }
@@ -120,7 +120,7 @@ impl SavedLocalState {
         }
     }
 
-    /// What the next turn of a processor is that runs.
+    /// What the next turn of a running processor is.
     pub(crate) fn decide(&self, code: &Code) -> Decision
         requires { is_running self.now.local_state.processor.status ≡ true }
         ensures turn { Decides result (turn_of self.now.setting code.now self.now.local_state.processor) }
@@ -133,7 +133,7 @@ impl SavedLocalState {
         }
     }
 
-    /// Whether the processor runs.
+    /// Returns whether the processor runs.
     pub fn is_running(&self) -> bool
         ensures { result ≡ is_running self.now.local_state.processor.status }
     {
@@ -170,7 +170,7 @@ impl SavedLocalState {
         self.console.as_slice()
     }
 
-    /// Whether both are equal.
+    /// Returns whether both are equal.
     fn is_equal(&self, other: &SavedLocalState) -> bool
         ensures { IsTrue result ↔ IsEqual self.now other.now }
     {
@@ -178,7 +178,7 @@ impl SavedLocalState {
             && self.console.as_slice() == other.console.as_slice()
     }
 
-    /// The registers, or none of a processor that has stopped.
+    /// The registers of a running processor; empty if it has stopped.
     fn kept_registers(&self) -> &[u32]
         ensures { result.now ≡ (if_running self.now.local_state).processor.registers }
     {
@@ -190,7 +190,7 @@ impl SavedLocalState {
 }
 
 impl SavedProcessor {
-    /// Whether both are equal.
+    /// Returns whether both are equal.
     fn equals(&self, other: &SavedProcessor) -> bool
         requires this { IsKept self.now }
         requires other { IsKept other.now }
@@ -211,7 +211,7 @@ impl SavedProcessor {
     }
 }
 
-/// Saves a processor: all of one that runs, and of one that has stopped neither registers nor local memory.
+/// Saves a processor: a running one as a whole, a stopped one without registers and local memory.
 fn saved_processor(alloc: Global, core: &Core) -> Result<SavedProcessor, AllocError>
     ensures setting { IfOk result (λ saved. (core_of saved).setting ≡ core.now.setting) }
     ensures state { IfOk result (λ saved. (core_of saved).state
@@ -230,7 +230,7 @@ fn saved_processor(alloc: Global, core: &Core) -> Result<SavedProcessor, AllocEr
     }
 }
 
-/// What is kept of a core that has stopped for this cause.
+/// What is stored of a core that has stopped for this cause.
 fn stopped(core: &Core, cause: Cause) -> SavedProcessor
     ensures { result ≡ SavedProcessor.Stopped core.now.setting core.now.state.pc cause }
 {

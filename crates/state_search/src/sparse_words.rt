@@ -1,4 +1,4 @@
-//! Lists of words of which only those are stored that are not zero.
+//! Lists of words that store only the words that are not zero.
 
 ghost use Rattle.std.specs.Prelude.{◌≡◌, ℕ, ◌+◌, ◌<◌, ◌≤◌, ◌^◌, [], ◌∷◌, ◌++◌, drop, length, slice_index, slice_set};
 ghost use Rattle.std.specs.Prelude.{take, IfOk, OnErr, OnOk};
@@ -15,12 +15,12 @@ pub struct NonzeroWord {
     pub value: u32,
 }
 
-/// A list of words. It takes as much memory as its words that are not zero need, wherever they stand.
+/// A list of words. Its memory depends only on the number of words that are not zero.
 #[derive(Drop)]
 pub struct SparseWords {
     /// How many words the list has.
     len: u32,
-    /// Those that are not zero, in the order of their places.
+    /// The words that are not zero, in the order of their places.
     nonzero: Vec<NonzeroWord>,
 }
 
@@ -36,7 +36,7 @@ impl Model for SparseWords {
     ghost invariant = { λ s. AreWithin 0 s.len s.nonzero.items };
 }
 
-// Tables find a list by its words. Equal lists store the same, so only what they store is compared and hashed.
+// Tables look up a list by its words. Equal lists store the same, so comparing and hashing look only at what is stored.
 impl PartialEq for SparseWords {
     ghost use Rattle.std.specs.Prelude.{nat_eq};
     ghost use Rattle.std.specs.Cmp.{partial_equiv_from_equiv};
@@ -70,7 +70,7 @@ impl Hash for SparseWords {
 }
 
 impl SparseWords {
-    /// A list without words.
+    /// An empty list.
     pub fn new(alloc: Global) -> Self
         ensures { result ≡ [] }
     {
@@ -87,7 +87,7 @@ impl SparseWords {
         self.len
     }
 
-    /// The word at a place, and 0 past the last.
+    /// The word at a place, or 0 past the end.
     pub fn get(&self, place: u32) -> u32
         ensures word { result ≡ slice_index self.now place }
         ensures small { result < 2 ^ 32 }
@@ -116,7 +116,7 @@ impl SparseWords {
         Ok(())
     }
 
-    /// The same list.
+    /// Returns an equal list.
     pub fn copy(&self) -> Result<Self, AllocError>
         ensures { IfOk result (λ words. words ≡ self.now) }
     {
@@ -126,7 +126,7 @@ impl SparseWords {
         })
     }
 
-    /// The same list, but for one word.
+    /// Returns a copy of the list with one word replaced.
     pub fn with_word(&self, place: u32, value: u32) -> Result<Self, AllocError>
         requires { place < length self.now }
         ensures { IfOk result (λ words. words ≡ slice_set self.now place value) }
@@ -141,7 +141,7 @@ impl SparseWords {
     }
 }
 
-/// The words before a place, and those after it.
+/// The stored words before a place, and those after it.
 fn around(nonzero: &[NonzeroWord], place: u32) -> (&[NonzeroWord], &[NonzeroWord])
     ensures { (to : ℕ) → place < to → AreWithin 0 to nonzero.now
         → IsCut place to nonzero.now result.0.now result.1.now }
@@ -153,7 +153,7 @@ fn around(nonzero: &[NonzeroWord], place: u32) -> (&[NonzeroWord], &[NonzeroWord
     }
 }
 
-/// How many of the words stand before a place.
+/// The number of stored words before a place.
 fn first_from(nonzero: &[NonzeroWord], place: u32) -> usize
     ensures there { result ≤ length nonzero.now }
     ensures before { (to : ℕ) → place ≤ to → AreWithin 0 to nonzero.now → AreWithin 0 place (take result nonzero.now) }
@@ -162,7 +162,7 @@ fn first_from(nonzero: &[NonzeroWord], place: u32) -> usize
     nonzero.partition_point(|word| word.place < place)
 }
 
-/// The words with one between them.
+/// Joins the stored words before and after a place with a word at that place.
 fn join(
     alloc: Global,
     before: &[NonzeroWord],
@@ -180,7 +180,7 @@ fn join(
     Ok(all)
 }
 
-/// Appends a word, which is left out if it is zero.
+/// Appends a word unless it is zero.
 fn store(nonzero: &mut Vec<NonzeroWord>, place: u32, value: u32) -> Result<(), AllocError>
     ensures stored { OnOk result (nonzero.new.items ≡ nonzero.old.items ++ stored place value) }
     ensures unchanged { OnErr result (nonzero.new.items ≡ nonzero.old.items) }

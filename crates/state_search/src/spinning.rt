@@ -1,4 +1,4 @@
-//! Processors that spin: that go on alone for ever.
+//! Processors that spin: they take turns for ever without a reference.
 
 ghost use Rattle.std.specs.Prelude.{◌≡◌, ◌↔◌, ◌-◌, ◌<◌, ◌≤◌, slice_index, IfOk, IsTrue, OnOk};
 ghost use Rattle.local_reduction.specs.Live.{HasAllLive};
@@ -14,18 +14,18 @@ use hart::Decision;
 use local_memory::Code;
 use local_reduction::laws;
 
-/// For how many turns a processor is watched, one stretch after another, each from where it then stands: with those
-/// before, 1,000,000. It is found to spin if it comes back within a stretch to where that begins.
+/// The lengths of the stretches, in turns, during which a processor is watched; with [`UNWATCHED`] they sum to
+/// 1,000,000. The processor spins if, within a stretch, it comes back to the local state in which the stretch began.
 const STRETCHES: [u32; 10] = [
     1_024, 2_048, 4_096, 8_192, 16_384, 32_768, 65_536, 131_072, 262_144, 475_712,
 ];
 
 impl LocalState {
-    /// Takes turns as long as the processor runs, needs no shared word, and is not found to spin.
+    /// Takes turns alone until the processor stops, is at a reference to a shared word, or is found to spin.
     ///
     /// # Errors
     ///
-    /// As of [`LocalState::run_to_reference`].
+    /// Those of [`LocalState::run_to_reference`].
     pub(crate) fn settle_watched(&mut self, code: &Code, quietly: bool) -> Result<(), MoveRefusal>
         ensures gone { OnOk result (HasGone quietly code.now self.old self.new) }
         ensures still { OnOk result (IsStill code.now self.new) }
@@ -39,8 +39,8 @@ impl LocalState {
         Err(MoveRefusal::Alone)
     }
 
-    /// Takes at most this many turns, and says whether the processor has stopped, waits for a shared word, or spins: it
-    /// stands as it did before them.
+    /// Takes up to `turns` turns. Returns whether the processor has stopped, is at a reference, or spins, since it came
+    /// back to the local state in which it began.
     fn observer(&mut self, code: &Code, quietly: bool, turns: u32) -> Result<bool, MoveRefusal>
         ensures gone { OnOk result (HasGone quietly code.now self.old self.new) }
         ensures still { IfOk result (λ settles. IsTrue settles → IsStill code.now self.new) }
@@ -63,7 +63,7 @@ impl LocalState {
 }
 
 impl SavedLocalState {
-    /// Whether the processor runs, and its next turn is no reference.
+    /// Returns whether the processor runs and its next turn is not a reference.
     fn goes_on(&self, code: &Code) -> bool
         ensures { IsTrue result ↔ IsGoingOn code.now self.now }
     {
@@ -78,7 +78,7 @@ impl SavedLocalState {
 }
 
 impl StateTables {
-    /// Whether a processor of a row runs, and is not about to refer to a word: so it spins.
+    /// Returns whether a processor of a row spins: it runs, and its next turn is not a reference.
     pub(crate) fn has_spinner<const N: usize>(
         &self,
         code: &Code,
@@ -102,7 +102,7 @@ impl StateTables {
     }
 }
 
-/// Whether a processor has the number of the one before it.
+/// Returns whether a processor has the same number as the one before it.
 fn is_repeated<const N: usize>(row: &StateVector<N>, p: u8) -> bool
     requires there { p < N }
     requires narrow { N ≤ 65 }

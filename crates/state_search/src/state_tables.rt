@@ -1,4 +1,4 @@
-//! Tables of local states and of lists of words, and rows that name them.
+//! Tables of local states and of lists of words, and rows of their numbers.
 
 ghost use Rattle.std.specs.Prelude.{◌≡◌, ◌<◌, [], length, IfOk, OnOk};
 ghost use Rattle.state_search.specs.Placed.{IsSame};
@@ -13,22 +13,21 @@ use local_reduction::LiveTable;
 use std::alloc::Global;
 use std::marker::Model;
 
-/// How many processors and shared words a machine has.
+/// How many processors and shared words a machine has, and whether processors are exchanged.
 #[derive(Clone, Copy, Debug, PartialEq, Eq, Drop)]
 pub struct Extent {
     /// At most 64.
     pub processors: u8,
     pub shared_words: u32,
-    /// Whether processors that stand alike are exchanged. Then the local states of all have the number 0.
+    /// Whether alike processors are exchanged. If so, all local states have the processor number 0.
     pub exchanged: bool,
 }
 
-/// A state: the number of the local state of each processor, after them that of the list of words, and zeros.
+/// A state: the number of each processor's local state, then the number of the list of words, then zeros.
 pub type StateVector<const N: usize> = [u32; N];
 
-/// Local states and lists of shared words, each with a number. They only grow, so a row means the same in
-/// all that they become. A local state takes as much memory as it needs, and what its registers hold that are not live
-/// is not kept of it.
+/// Local states and lists of shared words, each with a number. The tables only grow, so a row keeps its meaning. A
+/// local state takes as much memory as it needs, and its registers that are not live are not kept.
 #[derive(Drop)]
 pub struct StateTables {
     live: LiveTable,
@@ -55,7 +54,7 @@ impl Model for StateTables {
 }
 
 impl StateTables {
-    /// Tables with nothing in them, of which local states are to have these live registers.
+    /// Empty tables, whose local states are to keep the registers that are live by this table.
     pub fn new(alloc: Global, live: LiveTable) -> Self
         ensures { result ≡ record { live = live; local_states = []; words = [] } }
     {
@@ -66,7 +65,7 @@ impl StateTables {
         }
     }
 
-    /// The local state of a number.
+    /// The local state with a number.
     pub fn local_state(&self, number: u32) -> &SavedLocalState
         requires { number < length self.now.local_states }
         ensures { result.now ≡ placed_at self.now number }
@@ -77,7 +76,7 @@ impl StateTables {
         }
     }
 
-    /// The list of words of a number.
+    /// The list of words with a number.
     pub fn words(&self, number: u32) -> &SparseWords
         requires { number < length self.now.words }
         ensures { result.now ≡ words_at self.now number }
@@ -88,8 +87,8 @@ impl StateTables {
         }
     }
 
-    /// The number of a local state, which is added where there is no other that is the same. What is kept of it takes
-    /// as much memory as it needs.
+    /// Returns the number of a local state, which it adds if the table has no equal one. Registers that are not live do
+    /// not count.
     ///
     /// # Errors
     ///
@@ -111,7 +110,7 @@ impl StateTables {
         }
     }
 
-    /// The number of a list of words, which is added where it is not there.
+    /// Returns the number of a list of words, which it adds if the list is new.
     ///
     /// # Errors
     ///
@@ -130,7 +129,7 @@ impl StateTables {
         }
     }
 
-    /// No two local states of one processor are kept the same, and no two lists have the same words.
+    /// No two local states of one setting are kept alike, and no two lists have the same words.
     pub fn are_different(&self)
         ensures { AreDifferent self.now }
     {

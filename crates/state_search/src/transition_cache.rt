@@ -1,4 +1,4 @@
-//! What is remembered of moves, so that none of them is made twice.
+//! A cache of moves, so that few of them are made twice.
 
 ghost use Rattle.std.specs.Prelude.{◌≡◌};
 ghost use Rattle.state_search.specs.TransitionCache.{IsForgotten, IsNoted, answer_to, nothing};
@@ -7,14 +7,14 @@ use indexmap::IndexMap;
 use std::alloc::Global;
 use std::marker::Model;
 
-/// How many answers a cache has at most.
+/// The largest number of answers in a cache.
 pub const MAX_REMEMBERED: usize = 1_048_576;
 
-/// Answers to questions of three numbers. Not all of them are kept.
+/// Answers to questions, each of three numbers. The cache may drop answers.
 #[derive(Drop)]
 pub struct TransitionCache {
     answers: IndexMap<[u32; 3], u32>,
-    /// The place of the answer that gives way next, once there is no room.
+    /// The place of the answer to drop next if the cache is full.
     next: usize,
 }
 
@@ -27,7 +27,7 @@ impl Model for TransitionCache {
 }
 
 impl TransitionCache {
-    /// A cache with nothing in it.
+    /// An empty cache.
     pub fn new(alloc: Global) -> Self
         ensures { result ≡ nothing }
     {
@@ -37,14 +37,14 @@ impl TransitionCache {
         }
     }
 
-    /// The answer to a question, where it is remembered.
+    /// The answer to a question, if the cache has it.
     pub fn get(&self, question: [u32; 3]) -> Option<u32>
         ensures { result ≡ answer_to self.now question }
     {
         self.answers.get(&question).copied()
     }
 
-    /// Notes the answer to a question. If there is no room, another gives way.
+    /// Adds the answer to a question. If the cache is full, it drops another.
     pub fn remember(&mut self, question: [u32; 3], answer: u32)
         ensures { IsNoted self.old question answer self.new }
     {
@@ -52,8 +52,7 @@ impl TransitionCache {
         self.keep(question, answer);
     }
 
-    /// Forgets an answer, if there is no room for one more: each place in its turn, so that what was noted long ago
-    /// goes first.
+    /// Drops an answer if the cache is full: each place in turn, so that old answers tend to go first.
     fn make_room(&mut self)
         ensures { IsForgotten self.old self.new }
     {
@@ -62,7 +61,7 @@ impl TransitionCache {
         }
     }
 
-    /// Forgets the answer whose turn it is.
+    /// Drops the answer whose turn it is.
     fn forget(&mut self)
         ensures { IsForgotten self.old self.new }
     {
@@ -70,7 +69,7 @@ impl TransitionCache {
         self.next = self.next.wrapping_add(1) % MAX_REMEMBERED;
     }
 
-    /// Notes the answer to a question, unless there is no memory.
+    /// Adds the answer to a question, unless out of memory.
     fn keep(&mut self, question: [u32; 3], answer: u32)
         ensures { IsNoted self.old question answer self.new }
     {
@@ -78,8 +77,9 @@ impl TransitionCache {
     }
 }
 
-/// Where references lead, by the numbers of the local state and of the word and the value of the word before; and
-/// the list that a list becomes when a word is written, by the list's number, the word's and the value.
+/// The caches of a search. `local_states` maps a local state's number, a word's number and the word's old value to the
+/// number of the local state after the move. `lists` maps a list's number, a word's number and the value written to the
+/// number of the list after the write.
 #[derive(Drop)]
 pub struct TransitionCaches {
     pub local_states: TransitionCache,
@@ -87,7 +87,7 @@ pub struct TransitionCaches {
 }
 
 impl TransitionCaches {
-    /// Caches with nothing in them.
+    /// Empty caches.
     pub fn new(alloc: Global) -> Self
         ensures { result ≡ record { local_states = nothing; lists = nothing } }
     {

@@ -1,4 +1,4 @@
-//! Which processors refer on a path of rows.
+//! The movers on a path of rows.
 
 ghost use Rattle.std.specs.Prelude.{◌<◌, ◌≤◌, OnOk};
 ghost use Rattle.local_reduction.specs.Live.{HasAllLive};
@@ -15,22 +15,21 @@ use indexmap::IndexSet;
 use local_memory::Code;
 use std::alloc::{AllocError, Global};
 
-/// Who refers on a path of rows.
+/// The movers on a path of rows.
 #[derive(Drop)]
 pub struct Walk {
-    /// One after another.
+    /// The processors that move, in order.
     pub movers: Vec<u8>,
-    /// Who stands at last at each place.
+    /// The processor that is at each place of the last row.
     pub holders: Vec<u8>,
 }
 
-/// The processors whose references, one after another, lead from the first row over the rows at these places, and who
-/// then stands at each place of the last: a row has its processors exchanged, and at first each stands at its own
-/// place.
+/// Returns the processors whose moves lead from the first row along the rows at the places of `path`, and the processor
+/// that is at each place of the last row. Processors are exchanged from row to row; at first each is at its own place.
 ///
 /// # Errors
 ///
-/// [`MoveRefusal`], as of [`next`](Tables::next).
+/// Those of [`StateTables::next`].
 pub fn movers_of<const N: usize>(
     alloc: Global,
     state_tables: &mut StateTables,
@@ -80,7 +79,7 @@ pub fn movers_of<const N: usize>(
     Ok(Walk { movers, holders })
 }
 
-/// The processors, each at its own place.
+/// The holders of the first row: each processor is at its own place.
 fn each_at_its_own(alloc: Global, processors: u8) -> Result<Vec<u8>, AllocError> {
     let mut holders = Vec::new(alloc);
     for p in 0..processors {
@@ -89,8 +88,8 @@ fn each_at_its_own(alloc: Global, processors: u8) -> Result<Vec<u8>, AllocError>
     Ok(holders)
 }
 
-/// Who stands at the place from which a reference leads from one row to the next, and trades the holders as it does.
-/// None if no reference leads there.
+/// Returns the processor whose move leads from one row to the next, or None if no move leads there, and exchanges the
+/// holders as the move does.
 fn mover<const N: usize>(
     state_tables: &mut StateTables,
     transition_caches: &mut TransitionCaches,
@@ -133,7 +132,7 @@ fn mover<const N: usize>(
     )
 }
 
-/// The same between two rows.
+/// Does what [`mover`] does, for two rows instead of their places.
 fn mover_between<const N: usize>(
     state_tables: &mut StateTables,
     transition_caches: &mut TransitionCaches,

@@ -7,7 +7,7 @@ use Rattle.state_search.proofs.RowExchanges.{next_ordered}
 use Rattle.state_search.proofs.Searching.{stood, copied_on, went}
 use Rattle.state_search.proofs.finding.add_successor.Goals as goal
 
--- what is there
+-- An option that is not None has a value with the property.
 some_there : (P : ℕ → Type 0) (o : Option ℕ) → is_some o ≡ true → IfSome o P → (q : ℕ) × P q
 some_there P None there h = absurd (cc)
 some_there P (Some q) there h = (q, h)

@@ -11,7 +11,7 @@ use Rattle.state_search.proofs.state_tables.StateTables.local_state_number.Goals
 abbrev AreBare : List (List Bool) → List Placed → Type 0
 AreBare live all = (i : ℕ) → i < length all → IsBare live (slice_index_or all i nowhere)
 
--- where one is added, or is there
+-- Dead registers are 0 in all local states after one more is added, if it is new.
 bare_on : (live : List (List Bool)) (all : List Placed) (a : Placed) (there : Bool) → AreBare live all → IsBare live a →
     AreBare live (cond there all (all ++ a ∷ []))
 bare_on live all a true h bare = h
