@@ -77,7 +77,7 @@ fn are_same(some: &[ProcessorResult], others: &[ProcessorResult]) -> bool
 /// All final results, up to exchanges of processors of one class, and whether schedules end.
 #[derive(Drop)]
 pub struct Explored {
-    /// The results, in the order of their discovery. In each, the processors of a class are sorted by their own results.
+    /// The results, in the order of their discovery. In each, the processors of a class are sorted by their results.
     pub results: Vec<FinalResult>,
     pub termination: Termination,
     /// How many states the search found.

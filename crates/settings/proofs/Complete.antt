@@ -1,4 +1,4 @@
--- At words with no fault, the program's command meets a subcommand of its own, with all that has to be given.
+-- Words without a fault name one of the program's subcommands, with everything that it requires.
 use Rattle.std.proofs.Common.{◌≡◌, ◌∙◌, ◌||◌, ◌⊎◌, ℕ, inl, inr, Bool, cond, true, false, not, refl, subst, sym}
 use Rattle.std.proofs.Common.{true≢false, List, [], ◌∷◌, drop, Option, Some, None, is_some, codes, option_map}
 use Rattle.std.specs.Prelude.{⊤, find}
@@ -27,12 +27,12 @@ use Rattle.settings.proofs.Rows.{gives_value, required_there}
 use Rattle.settings.proofs.TraceNames.{is_trace_name}
 use Rattle.settings.proofs.Walks.{neither}
 
--- a required argument that is missing is a fault
+-- A missing required argument is a fault.
 required : (given : Bool) → check_kinds false false (not given || false) ≡ [] → given ≡ true
 required true e = refl
 required false e = cc
 
--- of two required arguments neither is missing
+-- If neither of two required arguments is a fault, both are given.
 both_required : (one other : Bool) → check_kinds false false (not one || (not other || false)) ≡ [] → (one ≡ true) × (other ≡ true)
 both_required true true e = (refl, refl)
 both_required true false e = cc
@@ -43,7 +43,7 @@ built_ultra : App
 unfolding commands
 built_ultra = built ultra_command
 
--- the words name a subcommand, or are a fault
+-- Words without a fault name a subcommand.
 names_one : (rows : List Row) (has : Bool) → check_fault built_ultra.top rows has ≡ [] → has ≡ true
 unfolding built_ultra ultra_command
 names_one rows true e = refl
@@ -56,9 +56,9 @@ no_help name e = go (bytes_eq (codes "help") name) refl
     go false is = refl
     go true is = absurd (true≢false (sym ((bytes_eq-Decides name (codes "help")).1 (sym ((bytes_eq-Decides (codes "help") name).0 is))) ∙ e))
 
--- ---- what a subcommand has, where it has no fault
+-- ---- what a subcommand without a fault has
 
--- what has to be given to the subcommand of a name
+-- what the subcommand with a name requires
 abbrev Where : Bool → (has others : Type 0) → Type 0
 Where true has others = has
 Where false has others = others
@@ -87,13 +87,13 @@ is_one_of name (x ∷ xs) e = go (bytes_eq name x) refl (is_one_of name xs) e
     go true is rest e = inl ((bytes_eq-Decides name x).0 is)
     go false is rest e = inr (rest e)
 
--- a command on a trace has what has to be given
+-- A command on a trace has what it requires.
 has_replay : (c : TraceCommand) (rows : List Row) → Has (trace_name c) rows → HasReplay rows
 has_replay trace.Replay rows has = has
 has_replay trace.Story rows has = has
 has_replay trace.Stats rows has = has
 
--- and has it as any command
+-- What a command on a trace requires is what the subcommand with its name requires.
 replay_has : (c : TraceCommand) (rows : List Row) → HasReplay rows → Has (trace_name c) rows
 replay_has trace.Replay rows has = has
 replay_has trace.Story rows has = has
@@ -118,7 +118,7 @@ whole_if name rows known has = record {
 whole : (name : Text) (rows : List Row) → list_any (λ x. bytes_eq name x) command_names ≡ true → Has name rows → IsWhole name rows
 whole name rows known has = whole_if name rows (inr (is_one_of name command_names known)) has
 
--- where words are no fault at a subcommand, it has all that has to be given
+-- A subcommand whose words have no fault has everything that it requires.
 abbrev IsProvided : Shape → Type 0
 IsProvided s = (words : List Text) → level_fault s [] nothing_held words false [] ≡ [] → IsWhole s.name (rows_after s.rules [] words)
 
@@ -148,7 +148,7 @@ dis_provided words e = whole (codes "dis") _ refl (
   number_there (built_leaf dis_command.top) shared_words.bounds words refl e,
 )
 
--- the option is the only argument of its name, and takes a number within its bounds
+-- The option is the only argument with its name, and takes a number within its bounds.
 abbrev Takes : Shape → Bounds → Type 0
 Takes s o = list_all (is_apart_or_number o.name o.low o.high) s.rules ≡ true
 
@@ -171,7 +171,7 @@ run_provided words e = whole (codes "run") _ refl (
   number_there (built_leaf run_command.top) start.bounds words refl e,
 )
 
--- a trace and the image of its run have to be given
+-- The subcommand requires a trace and the image of its run.
 abbrev WantsFiles : Shape → Type 0
 WantsFiles s = (rows : List Row) → check_fault s rows false ≡ [] → (is_given (codes "TRACE") rows ≡ true) × (is_given (codes "FILE") rows ≡ true)
 
@@ -237,12 +237,12 @@ hunt_provided words e = whole (codes "hunt") _ refl (
 
 -- ---- the subcommand that words name
 
--- so do all subcommands of a list that answer to a name
+-- All subcommands of a list that answer to a name have everything that they require.
 abbrev AreProvided : Text → List Shape → Type 0
 AreProvided name [] = ⊤
 AreProvided name (s ∷ ss) = (answers_to name (label_of s) ≡ true → IsProvided s) × AreProvided name ss
 
--- the subcommand that is found is whole, where it has no fault
+-- If the subcommand found has no fault, it has everything that it requires.
 abbrev IsWholeAt : List Text → Option Shape → Type 0
 IsWholeAt words shape = option_map_or (λ s. level_fault s [] nothing_held words false []) shape [] ≡ []
     → is_some (option_map (λ s. rows_at s words) shape) ≡ true → IsComplete (option_map (λ s. rows_at s words) shape)
@@ -262,12 +262,12 @@ abbrev AreProvidedFrom : Text → ℕ → Type 0
 unfolding built_ultra commands
 AreProvidedFrom name n = AreProvided name (drop n built_ultra.subs)
 
--- `help` is none of them
+-- The subcommand is not `help`.
 helped : (h : Bool) → h ≡ false → (h || false) ≡ true → ⊥
 helped true other is = true≢false other
 helped false other is = true≢false (sym is)
 
--- the subcommand that a walk stopped at, which is not `help`
+-- A subcommand other than `help` at which the walk stopped, without a fault, has everything that it requires.
 enters : (stop : Option (Text × List Text)) → StopsAtNoHelp stop → entered_fault built_ultra stop ≡ []
     → is_some (entered built_ultra stop) ≡ true → IsComplete (entered built_ultra stop)
 unfolding built_ultra commands
@@ -290,7 +290,7 @@ enters (Some p) unhelped e has =
     let provided : AreProvidedFrom p.0 0 = ((λ is. words_provided), provided) in
     found_whole p.0 p.1 built_ultra.subs provided e has
 
--- words with no fault name a subcommand of the program's own, with all that has to be given
+-- Words without a fault name one of the program's subcommands, with everything that it requires.
 pub complete : (words : List Text) → fault_of ultra_command words ≡ [] → IsComplete (subcommand_of ultra_command words)
 unfolding built_ultra
 complete words e =

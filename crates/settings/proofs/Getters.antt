@@ -1,4 +1,4 @@
--- What a getter of clap's matches gives, over plain values.
+-- What the getters of clap's matches give, for plain values.
 use Rattle.std.proofs.Common.{◌≡◌, ◌∙◌, ◌==◌, ◌<◌, ◌≤◌, ◌^◌, ℕ, Bool, cond, ap, sym, arith, true≢false, [], ◌∷◌, drop}
 use Rattle.std.proofs.Common.{Option, Some, None, Result, Ok, true, false, option_map, is_some, refl, pos, codes}
 use Rattle.std.specs.Prelude.{IfSome, IsSome, IsSomeAnd, MatchOption, unwrap_or}
@@ -13,18 +13,18 @@ use Rattle.clap.specs.Lexer.{without_minus}
 use Rattle.clap.specs.Words.{IsSignedIn, ReadsOne, Text}
 use Rattle.clap.proofs.CallerReads.{signed_reads}
 
--- the text is there, so the getter gives it
+-- If the plain value is present, the getter gives a text.
 pub text_there : (o : Option (Bor Text)) (t : Option Text) → option_map (λ s. s.now) o ≡ t → is_some t ≡ true → IsSome o
 text_there None t e there = absurd (true≢false (sym (ap is_some e ∙ there)))
 text_there (Some s) t e there = refl
 
--- If a getter gives a text, the plain value is this text.
+-- If the getter gives a text, the plain value is this text.
 pub text_given : (o : Option (Bor Text)) (t : Option Text) (s : Bor Text) → option_map (λ s. s.now) o ≡ t → o ≡ Some s → t ≡ Some s.now
 text_given o t s e is = sym e ∙ ap (option_map (λ s. s.now)) is
 
 -- ---- flags
 
--- the text is there, and is compared
+-- If a text is present, comparing it with `true` says whether the flag is set.
 pub flag_by : (s : Text) (t : Option Text) → Some s ≡ t
     → (bytes_eq s (codes "true") ≡ true → t ≡ Some (codes "true")) × (t ≡ Some (codes "true") → bytes_eq s (codes "true") ≡ true)
 flag_by s t e = (
@@ -35,7 +35,7 @@ flag_by s t e = (
     same : (x y : Text) → Some x ≡ Some y → x ≡ y
     same x y h = cc
 
--- no text, so the flag is not set
+-- If there is no text, the flag is not set.
 pub no_flag : (t : Option Text) → None ≡ t → (false ≡ true → t ≡ Some (codes "true")) × (t ≡ Some (codes "true") → false ≡ true)
 no_flag t e = ((λ h. cc), λ h. cc)
 
@@ -55,7 +55,7 @@ no_plus (d ∷ ds) h =
     let plus : (d == 43) ≡ false = ne_eqb _ _ (λ e. omega (arith, digit_from_value d h.1.0)) in
     ap (λ (b : Bool). drop (cond b 1 0) (d ∷ ds)) plus
 
--- what is read without a minus is the number that the text spells, where that is in a range with no negative number
+-- A number read without a minus is the one that the text spells, if that is in a range without negative numbers.
 spelled : (low high : ℕ) (t : Text) (n : ℕ) → IsSignedIn (pos low) (pos high) t → n ≡ digits_value 10 (without_leading_plus (without_minus t)) →
     pos n ≡ signed_digits_value 10 t
 spelled low high t n passed is = go (starts_with_minus t) refl (is ∙ ap (λ u. digits_value 10 (without_leading_plus u)) (without_minus_by t))
@@ -71,7 +71,7 @@ spelled low high t n passed is = go (starts_with_minus t) refl (is ∙ ap (λ u.
     go false minus e = let digits : n ≡ digits_value 10 (without_leading_plus t) = rw minus at e in rw (minus, digits) refl
 
 module _ {E : Type 0} (G : Text → Result ℕ E → Type 0) (only : (u : Text) (x : Result ℕ E) → G u x → ParsesUnsigned 32 10 u x) where
-  -- the number that a getter of numbers gives, or none
+  -- A getter of numbers gives the number that the option's text spells, or None.
   pub choice_given : (low high : ℕ) (first one : Option Text) (r : Option ℕ)
       → one ≡ option_map without_minus first → IfSome first (IsSignedIn (pos low) (pos high)) → (one ≡ None → r ≡ None)
       → ((t : Text) → one ≡ Some t → ReadsOne G t r) → high < 2 ^ 32
@@ -83,7 +83,7 @@ module _ {E : Type 0} (G : Text → Result ℕ E → Type 0) (only : (u : Text) 
       let value : G (without_minus t) (Ok got.0) = rw got.1 at read in
       rw got.1 (spelled low high t got.0 passed (only (without_minus t) (Ok got.0) value).1, got.2, got.3)
 
--- the same where a default stands for none
+-- The same holds with a default instead of None.
 pub or_default : (default low high : ℕ) (first : Option Text) (r : Option ℕ)
     → MatchOption first (r ≡ None) (λ text. IsSomeAnd r (λ n. (pos n ≡ signed_digits_value 10 text) × (low ≤ n) × (n ≤ high)))
     → low ≤ default → default ≤ high

@@ -1,4 +1,4 @@
--- A walk with no fault stops at no call for help.
+-- A walk without a fault does not stop at `help`.
 use Rattle.std.proofs.Common.{◌≡◌, ◌&&◌, ℕ, Bool, cond, true, false, not, refl, true≢false, List, [], ◌∷◌, Option, Some, None, is_some, codes}
 use Rattle.std.specs.Prelude.{⊤, IfSome}
 use Rattle.std.specs.List.{fold}
@@ -24,7 +24,7 @@ abbrev StepsToNoHelp : Step → Type 0
 StepsToNoHelp (subcommand name) = IsNoHelp name
 StepsToNoHelp _ = ⊤
 
--- a word that is no flag, what a flag word came to, and any word that names no subcommand
+-- A word that is not a flag, or a flag, does not lead to `help`.
 plain_steps : (c : List Rule) (waiting : Waiting) (word : Text) (h : Held) → StepsToNoHelp (plain_word c waiting word h).1
 plain_steps c idle word h = tt
 plain_steps c positional word h = tt
@@ -45,7 +45,7 @@ other_steps c waiting word None h = go (short_of word)
     go None = plain_steps c waiting word h
     go (Some flags) = flag_steps c waiting word _ _
 
--- where `help` is a fault, no word steps to it
+-- If `help` is a fault, no word leads to it.
 module _ (s : Shape) (names : Names) (enabled : s.disable_help_subcommand ≡ false) where
   met_steps : (waiting : Waiting) (position : ℕ) (word : Text) (met : Option Text) (h : Held) → other_fault s met word h ≡ []
       → StepsToNoHelp (subcommand_or_other s.rules met waiting position word h).1
@@ -92,7 +92,7 @@ module _ (s : Shape) (names : Names) (enabled : s.disable_help_subcommand ≡ fa
           let p = neither (word_fault s names w.is_trailing w.waiting word w.held) (step_fault s w.position met.0 met.1) e in
           step_stops word w met.0 met.1 (word_steps w.is_trailing w.waiting w.position word w.held p.0) stops
 
-  -- If words have no fault for a walk that has stopped at no `help`, it has stopped at none after them.
+  -- If words have no fault, a walk that has not stopped at `help` has not stopped at it after them.
   pub walk_stops : (words : List Text) (w : Walk) → walk_fault s names w words ≡ [] → StopsAtNoHelp w.stopped →
       StopsAtNoHelp (fold (walked s.rules names) w words).stopped
   unfolding walk_fault

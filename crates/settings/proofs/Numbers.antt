@@ -1,4 +1,4 @@
--- At words with no fault, the text of an option that takes a number in a range spells such a number.
+-- In words without a fault, the text of an option that takes a number in a range spells such a number.
 use Rattle.std.proofs.Common.{◌≡◌, ◌&&◌, ◌||◌, ◌==◌, ◌++◌, ◌+◌, ◌∙◌, ℕ, Bool, cond, true}
 use Rattle.std.proofs.Common.{false, not, refl, sym, ap, true≢false, List, [], ◌∷◌, length}
 use Rattle.std.proofs.Common.{arith, Option, Some, None, pos, negsuc, min, option_map}
@@ -35,11 +35,11 @@ use Rattle.settings.proofs.Walks.{neither, rows_kept}
 
 -- ---- rows
 
--- a first value, where there is one, spells a number in the range
+-- The first value, if any, spells a number in the range.
 abbrev pub FirstIn : (low high : ℕ) → List Text → Type 0
 FirstIn low high values = IfSome (slice_get values 0) (λ v. is_signed_in (pos low) (pos high) v ≡ true)
 
--- a row of the option is read without a minus, and its first value spells a number in the range
+-- A row of the option is read without a minus, and its first value spells a number in the range.
 abbrev pub Fits : Text → (low high : ℕ) → Row → Type 0
 Fits id low high r = bytes_eq r.id id ≡ true → (r.reading ≡ reading.WithoutMinus) × FirstIn low high r.values
 
@@ -51,7 +51,7 @@ first_append : (low high : ℕ) (xs ys : List Text) → FirstIn low high xs → 
 first_append low high [] ys h k = k
 first_append low high (x ∷ xs) ys h k = h
 
--- two names of one row
+-- Two names of one row are equal.
 same_name : (x y z : Text) → bytes_eq x y ≡ true → bytes_eq x z ≡ true → bytes_eq y z ≡ true
 same_name x y z e f = rw (← (bytes_eq-Decides x y).0 e) f
 
@@ -116,7 +116,7 @@ module _ (id : Text) (low high : ℕ) where
 
 -- ---- the arguments
 
--- the parser takes numbers in the range
+-- whether the parser takes the numbers of the range
 abbrev pub is_range : (low high : ℕ) → Option ValueParser → Bool
 is_range low high (Some (vp.Signed (pos l) (pos h))) = (l == low) && (h == high)
 is_range low high _ = false
@@ -125,7 +125,7 @@ abbrev pub is_set : ArgAction → Bool
 is_set action.Set = true
 is_set _ = false
 
--- the argument has another name, or it is the option
+-- whether the argument has another name, or is the option
 abbrev pub is_apart_or_number : Text → (low high : ℕ) → Rule → Bool
 is_apart_or_number id low high a = not (bytes_eq a.id id) || (is_range low high a.parser && (is_set (action_of a) && is_empty a.defaults))
 
@@ -150,7 +150,7 @@ range_is low high (Some (vp.Values values)) e = cc
 
 -- ---- one use of an argument
 
--- values that are no fault
+-- The first of some values without a fault spells a number in the range.
 first_in : (low high : ℕ) (ignore_case : Bool) (values : List Text) → values_kinds ignore_case (vp.Signed (pos low) (pos high)) values ≡ [] →
     FirstIn low high values
 first_in low high ignore_case [] e = tt
@@ -209,7 +209,7 @@ fit_default id low high rows a good h = by_row (has_row a.id rows) (bytes_eq a.i
         let p = both (is_range low high a.parser) (is_set (action_of a) && is_empty a.defaults) good in
         none a.defaults (both (is_set (action_of a)) (is_empty a.defaults) p.1).1
 
--- ---- what the level ends with
+-- ---- the rows at the end of the level
 
 read_without_minus : (low high : ℕ) (r : Row) → r.reading ≡ reading.WithoutMinus → FirstIn low high r.values
     → (row_text r ≡ option_map without_minus (slice_get r.values 0)) × IfSome (slice_get r.values 0) (IsSignedIn (pos low) (pos high))
@@ -232,7 +232,7 @@ number_of_rows o (r ∷ rs) h = go (bytes_eq r.id o.name) refl (number_of_rows o
     go true is rest = let fits = h.0 is in read_without_minus o.low o.high r fits.0 fits.1
     go false is rest = rest
 
--- the option's text, where it has one, spells a number in the range
+-- The option's text, if given, spells a number in the range.
 pub number_there : (s : Shape) (o : Bounds) (words : List Text) → list_all (is_apart_or_number o.name o.low o.high) s.rules ≡ true
     → level_fault s [] nothing_held words false [] ≡ [] → HasNumber o (rows_after s.rules [] words)
 number_there s o words all e =

@@ -66,7 +66,7 @@ name_of (asked.Picture p) = codes "picture"
 name_of (asked.Debug d) = codes "debug"
 name_of (asked.Explain e) = codes "explain"
 
--- the settings are those of the rows
+-- The settings are those of the rows.
 abbrev AreOf : List Row → Settings → Type 0
 AreOf rows (asked.Words w) = GivesWords rows w
 AreOf rows (asked.Check c) = GivesCheck rows c
@@ -90,7 +90,7 @@ named_as stop name other rows rest is chosen =
     let pair = same_pair (other, chosen.0) (name, rows) (sym chosen.1 ∙ is) in
     (ap (λ (p : Text × List Row). p.0) pair, subst rest (ap (λ (p : Text × List Row). p.1) pair) chosen.2)
 
--- where the subcommand and its rows are known, the settings are of that subcommand, and those of the rows
+-- If the subcommand and its rows are known, the settings are those of that subcommand and its rows.
 chosen_as : (stop : Option (Text × List Row)) (name : Text) (rows : List Row) (s : Settings) → stop ≡ Some (name, rows) → IsChosen stop s →
     (name_of s ≡ name) × AreOf rows s
 unfolding name_of
@@ -107,17 +107,17 @@ chosen_as stop name rows (asked.Picture p) is chosen = named_as stop name (codes
 chosen_as stop name rows (asked.Debug d) is chosen = named_as stop name (codes "debug") rows (λ them. GivesSession them d) is chosen
 chosen_as stop name rows (asked.Explain e) is chosen = named_as stop name (codes "explain") rows (λ them. GivesExplain them e) is chosen
 
--- one of the program's subcommands is not another
+-- Texts with different bytes are different.
 apart : {P : Type 0} (x y : Text) → bytes_eq x y ≡ false → x ≡ y → P
 apart x y not e = absurd (true≢false (sym ((bytes_eq-Decides x y).1 e) ∙ not))
 
 -- ---- from the words to the settings
 
--- the words are no fault, and give these rows to this subcommand
+-- The words have no fault, and give these rows to this subcommand.
 abbrev Meets : List Text → Text → List Row → Type 0
 Meets words name rows = (fault_of ultra_command words ≡ []) × (subcommand_of ultra_command words ≡ Some (name, rows))
 
--- settings are of that kind, and none come if out of memory alone
+-- The words give settings with the property Q, unless out of memory.
 abbrev Give : List Text → (Settings → Type 0) → Type 0
 Give words Q = (r : Result Settings Error) → IfOk r (IsAsked words) → FailsBy (fault_of ultra_command words) r → MatchResult r Q (λ e. kind_of e ≡ OutOfMemory)
 
@@ -130,7 +130,7 @@ give Q words name rows met are (Err e) chosen kinds = go (rw met.0 at kinds)
     go (inl memory) = memory
     go (inr among) = absurd among
 
--- settings come of the words that these say plainly
+-- The words give settings that they say plainly.
 abbrev GivePlain : List Text → Type 0
 GivePlain words = Give words (λ given. IsPlain given words)
 
@@ -140,21 +140,21 @@ file_rows file = row (codes "FILE") file CommandLine ∷ []
 trace_rows : (trace file : Text) → List Row
 trace_rows trace file = row (codes "TRACE") trace CommandLine ∷ row (codes "FILE") file CommandLine ∷ []
 
--- the file that is read from words that name it
+-- Two texts that are both present and equal are the same.
 same_text : (x y : Text) → Some x ≡ Some y → x ≡ y
 same_text x y e = cc
 
--- so the words name the file that is read
+-- Words that name a file name the file that is read.
 file_read : {command : Text} (file read : Text) (words : List Text) → HasFile command file words → Some file ≡ Some read → HasFile command read words
 file_read {command} file read words named e = subst (λ f. HasFile command f words) (same_text file read e) named
 
--- and both files that are read
+-- Words that name two files name both files that are read.
 files_read : {command : Text} (one read other second : Text) (words : List Text) → HasFiles command one other words → Some one ≡ Some read →
     Some other ≡ Some second → HasFiles command read second words
 files_read {command} one read other second words named e f =
     subst (λ g. HasFiles command g second words) (same_text one read e) (subst (λ g. HasFiles command one g words) (same_text other second f) named)
 
--- the rows of a trace and an image give both files, for 1,024 words
+-- The rows of a trace and an image give both files, and 1,024 shared words.
 replay_is : {command : Text} (trace file : Text) (r : Replay) (words : List Text) → HasFiles command trace file words → GivesReplay (trace_rows trace file) r
     → HasTrace command r words
 unfolding row trace_rows
@@ -209,7 +209,7 @@ file_are OfDebug file words named (asked.Debug d) said =
 file_are OfDebug file words named (asked.Trace d r) said = no_trace d (codes "debug") refl said.0
 file_are OfDebug file words named other said = apart (name_of other) (codes "debug") refl said.0
 
--- the command gives the file, no trace, and each number its default
+-- The words give the command's file, no trace, and the default of each number.
 file_given : (c : FileCommand) (file : Text) (words : List Text) → HasFile (file_command c) file words → GivePlain words
 file_given c file words named = give _ words (file_command c) (file_rows file) (rw named.1 (file_met c named.0 file named.2)) (file_are c file words named)
 
@@ -252,7 +252,7 @@ trace_are OfPicture one file words named (asked.Picture p) said = (replay_is one
 trace_are OfPicture one file words named (asked.Trace d r) said = no_trace d (codes "picture") refl said.0
 trace_are OfPicture one file words named other said = apart (name_of other) (codes "picture") refl said.0
 
--- the command gives both files, for 1,024 words, and chooses nothing
+-- The words give both files of the command, 1,024 shared words, and no choice.
 trace_given : (c : OnTrace) (one file : Text) (words : List Text) → HasFiles (name_on_trace c) one file words → GivePlain words
 trace_given c one file words named =
     give _ words (name_on_trace c) (trace_rows one file) (rw named.1 (trace_met c named.0 one file named.2 named.3)) (trace_are c one file words named)
@@ -274,7 +274,7 @@ asm_are file out words named (asked.Asm a) said = files_read file a.file.now out
 asm_are file out words named (asked.Trace d r) said = no_trace d (codes "asm") refl said.0
 asm_are file out words named other said = apart (name_of other) (codes "asm") refl said.0
 
--- `asm FILE OUT` gives both files
+-- `asm FILE OUT` gives both files.
 asm_given : (file out : Text) (words : List Text) → HasFiles (codes "asm") file out words → GivePlain words
 asm_given file out words named =
     give _ words (codes "asm") (asm_rows file out) (rw named.1 (asm_met named.0 file out named.2 named.3)) (asm_are file out words named)
@@ -307,7 +307,7 @@ run_are file words named (asked.Run r) said =
 run_are file words named (asked.Trace d r) said = no_trace d (codes "run") refl said.0
 run_are file words named other said = apart (name_of other) (codes "run") refl said.0
 
--- `run FILE` gives the file, no trace, no flag, and each number its default
+-- `run FILE` gives the file, no trace, no flag, and the default of each number.
 run_given : (file : Text) (words : List Text) → HasFile (codes "run") file words → GivePlain words
 run_given file words named = give _ words (codes "run") (run_rows file) (rw named.1 (run_met named.0 file named.2)) (run_are file words named)
 
@@ -341,7 +341,7 @@ hunt_are file words named (asked.Hunt h) said =
 hunt_are file words named (asked.Trace d r) said = no_trace d (codes "hunt") refl said.0
 hunt_are file words named other said = apart (name_of other) (codes "hunt") refl said.0
 
--- `hunt FILE` gives the file, no trace, no flag, and each number its default
+-- `hunt FILE` gives the file, no trace, no flag, and the default of each number.
 hunt_given : (file : Text) (words : List Text) → HasFile (codes "hunt") file words → GivePlain words
 hunt_given file words named = give _ words (codes "hunt") (hunt_rows file) (rw named.1 (hunt_met named.0 file named.2)) (hunt_are file words named)
 
@@ -368,7 +368,7 @@ explain_are code words named (asked.Explain x) said = subst (λ c. HasCode (code
 explain_are code words named (asked.Trace d r) said = no_trace d (codes "explain") refl said.0
 explain_are code words named other said = apart (name_of other) (codes "explain") refl said.0
 
--- `explain CODE` gives the code, and `explain` none
+-- `explain CODE` gives the code, and `explain` gives none.
 explain_given : (code : Option Text) (words : List Text) → HasCode (codes "explain") code words → GivePlain words
 explain_given code words named = give _ words (codes "explain") (explain_rows code) (explain_met code words named) (explain_are code words named)
 
@@ -401,14 +401,14 @@ explore_are file words named (asked.Explore x) said =
 explore_are file words named (asked.Trace d r) said = no_trace d (codes "explore") refl said.0
 explore_are file words named other said = apart (name_of other) (codes "explore") refl said.0
 
--- `explore FILE` gives the file, no trace, no flag, no witness, and each number its default
+-- `explore FILE` gives the file, no trace, no flag, no witness, and the default of each number.
 explore_given : (file : Text) (words : List Text) → HasFile (codes "explore") file words → GivePlain words
 explore_given file words named =
     give _ words (codes "explore") (explore_rows file) (rw named.1 (explore_met named.0 file named.2)) (explore_are file words named)
 
 -- ---- all commands
 
--- words that say plainly what some settings are give settings that they say plainly
+-- Words that say some settings plainly give settings that they say plainly.
 pub plain_given : (s : Settings) (words : List Text) → IsPlain s words → GivePlain words
 plain_given (asked.Words w) words said = file_given OfWords w.file.now words said
 plain_given (asked.Check c) words said = file_given OfCheck c.file.now words said

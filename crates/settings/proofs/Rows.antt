@@ -1,4 +1,4 @@
--- At words with no fault, each row that a level of the parse ends with has a value, and what is required has a row.
+-- For words without a fault, each row at the end of a level has a value, and each required argument has a row.
 use Rattle.std.proofs.Common.{◌≡◌, ◌<◌, ◌+◌, ◌&&◌, ◌||◌, ◌⊎◌, ℕ, Bool, cond, true, false, not, inl, inr, refl, sym}
 use Rattle.std.proofs.Common.{arith, true≢false, List, [], ◌∷◌, ◌++◌, length, min, Option, Some, None, is_some}
 use Rattle.std.proofs.Common.{nat_lt}
@@ -26,7 +26,7 @@ use Rattle.settings.proofs.Walks.{neither, rows_kept}
 
 -- ---- rows
 
--- each row has a value
+-- Each row has a value.
 abbrev Valued : List Row → Type 0
 Valued [] = ⊤
 Valued (r ∷ rs) = (0 < length r.values) × Valued rs
@@ -58,7 +58,7 @@ valued_count id how s n rows h =
     valued_at id (new_count s n) (record { id = id; values = count_text n ∷ []; count = Some n; source = Some s; reading = how } ∷ []) rows
     (λ r some. (simp length-append (omega arith), tt)) (omega arith, tt) h
 
--- an argument that stands for no value itself
+-- whether an argument gives no value by itself
 abbrev pub takes_nothing : ArgAction → Bool
 takes_nothing action.Set = false
 takes_nothing action.Append = false
@@ -66,7 +66,7 @@ takes_nothing action.SetTrue = false
 takes_nothing action.SetFalse = false
 takes_nothing _ = true
 
--- a use of the argument gives it a value, or is a fault
+-- whether every use of the argument gives it a value or is a fault
 abbrev pub gives_value : Rule → Bool
 gives_value a = nat_lt 0 (unwrap_or_range a.range).start_inclusive || (not (is_empty a.missing) || takes_nothing (action_of a))
 
@@ -91,7 +91,7 @@ valued_used_as action.HelpShort id how values rows some h = h
 valued_used_as action.HelpLong id how values rows some h = h
 valued_used_as action.Version id how values rows some h = h
 
--- where no value is given, the argument takes none or has one for that
+-- If no value is given without a fault, the argument takes none or has one for that case.
 enough : (wants : Bool) (rest : Kinds) (missing : List Text) (nothing : Bool) → cond (wants && true) (kind.InvalidValue ∷ []) rest ≡ []
     → (wants || (not (is_empty missing) || nothing)) ≡ true → (nothing ≡ true) ⊎ (0 < length missing)
 enough true rest missing nothing e gives = absurd (some_kind e)
@@ -126,7 +126,7 @@ first_there : (values : List Text) → 0 < length values → is_some (slice_get 
 first_there [] lt = absurd (omega arith)
 first_there (v ∷ vs) lt = refl
 
--- an argument that was given has a value
+-- An argument that was given has a value.
 given_value : (id : Text) (rows : List Row) → Valued rows → is_given id rows ≡ true → is_some (first_of id rows) ≡ true
 given_value id [] h e = absurd (true≢false (sym e))
 given_value id (r ∷ rs) h e = go (bytes_eq r.id id) e (given_value id rs h.1)
@@ -139,7 +139,7 @@ given_value id (r ∷ rs) h e = go (bytes_eq r.id id) e (given_value id rs h.1)
     go true e rest = first_there r.values h.0
     go false e rest = rest e
 
--- an argument without which the level has a fault has a value
+-- An argument that the level requires has a value.
 pub required_there : (s : Shape) (id : Text) (words : List Text) → list_all gives_value s.rules ≡ true
     → ((rows : List Row) → check_fault s rows false ≡ [] → is_given id rows ≡ true) → level_fault s [] nothing_held words false [] ≡ []
     → is_some (first_of id (rows_after s.rules [] words)) ≡ true

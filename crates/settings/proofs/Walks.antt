@@ -1,4 +1,4 @@
--- What each use of an argument keeps true of the rows, a level of the parse keeps true, at words with no fault.
+-- If every use of an argument keeps a property of the rows, so does a level of the parse of words without a fault.
 use Rattle.std.proofs.Common.{◌≡◌, ◌&&◌, ℕ, Bool, cond, true, false, zero, suc, refl, sym, subst, List, [], ◌∷◌, length, drop, Option, Some, None, is_some}
 use Rattle.std.specs.Option.{option_map_or}
 use Rattle.std.specs.Prelude.{encode_utf8, find, slice_get}
@@ -22,12 +22,12 @@ use Rattle.clap.specs.Walk.{word_met}
 use Rattle.clap.proofs.WalkLemmas.{both}
 use Rattle.clap.specs.declared.error.kind.ErrorKind.TheVariants as kind
 
--- two steps with no fault
+-- If two steps together have no fault, neither has one.
 pub neither : (a b : Kinds) → or_else a b ≡ [] → (a ≡ []) × (b ≡ [])
 neither [] b e = (refl, e)
 neither (k ∷ ks) b e = cc
 
--- what is found passes what all pass
+-- An element found in a list passes every test that all elements pass.
 pub found_passes : {X : Type 0} (p q : X → Bool) (xs : List X) (x : X) → find p xs ≡ Some x → list_all q xs ≡ true → q x ≡ true
 found_passes p q [] x is all = cc
 found_passes p q (y ∷ ys) x is all = go (p y) is (both (q y) (list_all q ys) all) (found_passes p q ys x)
@@ -37,12 +37,12 @@ found_passes p q (y ∷ ys) x is all = go (p y) is (both (q y) (list_all q ys) a
     go true e h rest = let same : y ≡ x = cc in rw (← same) h.0
     go false e h rest = rest e h.1
 
--- a use of a good argument that is no fault keeps it true
+-- A use of a good argument without a fault keeps the property.
 abbrev pub Keeps : (List Row → Type 0) → (Rule → Bool) → Type 0
 Keeps P good =
     (again : Bool) (a : Rule) (values : List Text) (rows : List Row) → good a ≡ true → use_fault again a values rows ≡ [] → P rows → P (used a values rows)
 
--- and so do its default values
+-- The default values of a good argument keep the property.
 abbrev pub KeepsDefault : (List Row → Type 0) → (Rule → Bool) → Type 0
 KeepsDefault P good = (rows : List Row) (a : Rule) → good a ≡ true → P rows → P (with_default rows a)
 
@@ -116,7 +116,7 @@ module _ (P : List Row → Type 0) (good : Rule → Bool) (keeps : Keeps P good)
           (λ g. rest left 0 done g) e rows
       go (Some x) (suc skip) e rest = rest (drop (length (encode_utf8 x)) flags) skip so_far h e rows
 
--- a word that is no flag leaves the rows
+-- A word that is not a flag does not change the rows.
 plain_rows : (c : List Rule) (waiting : Waiting) (word : Text) (h : Held) → (plain_word c waiting word h).0.rows ≡ h.rows
 plain_rows c idle word h = refl
 plain_rows c positional word h = refl
@@ -126,7 +126,7 @@ plain_rows c (option id) word h = go (arg_by_id c id)
     go None = refl
     go (Some a) = refl
 
--- and so does what a flag word came to
+-- The outcome of a flag does not change the rows.
 flag_rows : (c : List Rule) (waiting : Waiting) (word : Text) (h : Held) (o : Outcome) → (after_flag c waiting word h o).0.rows ≡ h.rows
 flag_rows c waiting word h done = refl
 flag_rows c waiting word h (waits id) = refl
@@ -216,7 +216,7 @@ kept_defaults P good default (a ∷ rest) rows all h =
     let p = both (good a) (list_all good rest) all in
     kept_defaults P good default rest (with_default rows a) p.1 (default rows a p.0 h)
 
--- it is true of the rows that the level ends with, and the level's last check finds no fault in them
+-- The property holds of the rows at the end of the level, and the level's last check finds no fault in them.
 pub rows_kept : (P : List Row → Type 0) (good : Rule → Bool) → Keeps P good → KeepsDefault P good → P [] → (s : Shape) (words : List Text) →
     list_all good s.rules ≡ true
     → level_fault s [] nothing_held words false [] ≡ [] → P (rows_after s.rules [] words) × (check_fault s (rows_after s.rules [] words) false ≡ [])

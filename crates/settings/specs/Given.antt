@@ -1,4 +1,4 @@
--- What clap finds in words without a fault: all that has to be given to a command.
+-- What clap finds in words without a fault: everything that a command requires.
 use Rattle.std.specs.Prelude.{◌≡◌, ◌⊎◌, pos, true, List, [], ◌∷◌, codes, Option, is_some, option_map, IfSome, IsSomeAnd}
 use Rattle.clap.specs.Words.{IsSignedIn, Row, Text, first_of, one_of, without_minus}
 use Rattle.command_forms.specs.Commands.{Bounds, budget, combinations, port, processor, queue, records, runs}
@@ -9,7 +9,7 @@ use Rattle.command_forms.specs.declared.forms.TraceCommand.{TraceCommand}
 abbrev pub HasPath : Text → List Row → Type 0
 HasPath id rows = is_some (first_of id rows) ≡ true
 
--- the option's text, where it has one, spells a number in the range; clap reads it without a minus, which 0 may have
+-- The option's text, if given, spells a number in the range. Clap reads it without its minus, which 0 may have.
 abbrev pub HasNumber : Bounds → List Row → Type 0
 HasNumber o rows =
     (one_of o.name rows ≡ option_map without_minus (first_of o.name rows))
@@ -49,13 +49,13 @@ HasHunt rows =
     HasPath (codes "FILE") rows × HasSizes rows × HasNumber steps.bounds rows × HasNumber runs.bounds rows
     × HasNumber start.bounds rows
 
--- the subcommands of the program but those that `TraceCommand` has
+-- the program's subcommands except those of `TraceCommand`
 abbrev pub command_names : List Text
 command_names =
     codes "words" ∷ codes "check" ∷ codes "asm" ∷ codes "dis" ∷ codes "run" ∷ codes "hunt" ∷ codes "explore"
     ∷ codes "order" ∷ codes "picture" ∷ codes "debug" ∷ codes "explain" ∷ []
 
--- the name is of a subcommand that `TraceCommand` has
+-- The name is that of a subcommand of `TraceCommand`.
 abbrev pub IsTraceName : Text → Type 0
 IsTraceName name = (command : TraceCommand) × (name ≡ trace_name command)
 
@@ -63,7 +63,7 @@ abbrev pub IsOneOf : Text → List Text → Type 0
 IsOneOf name [] = ⊥
 IsOneOf name (x ∷ xs) = (name ≡ x) ⊎ IsOneOf name xs
 
--- the name and the rows are of a subcommand of the program's, with all that has to be given
+-- The name is that of one of the program's subcommands, and the rows have everything that it requires.
 pub record IsWhole (name : Text) (rows : List Row) : Type 0 where
   pub known : IsTraceName name ⊎ IsOneOf name command_names
   pub words : name ≡ codes "words" → HasPath (codes "FILE") rows
@@ -78,6 +78,6 @@ pub record IsWhole (name : Text) (rows : List Row) : Type 0 where
   pub picture : name ≡ codes "picture" → HasPicture rows
   pub debug : name ≡ codes "debug" → HasDebug rows
 
--- there is such a subcommand
+-- There is a subcommand with everything that it requires.
 abbrev pub IsComplete : Option (Text × List Row) → Type 0
 IsComplete stop = IsSomeAnd stop (λ p. IsWhole p.0 p.1)

@@ -1,4 +1,4 @@
--- What the settings are of the words of a command line.
+-- The settings for the words of a command line.
 use Rattle.std.specs.Prelude.{◌≡◌, ◌≤◌, ◌↔◌, ℕ, pos, Bool, true, List, codes, Option, Some, None, option_map, IsSomeAnd}
 use Rattle.std.specs.Prelude.{MatchOption}
 use Rattle.std.specs.Str.Parse.{signed_digits_value}
@@ -25,26 +25,26 @@ use Rattle.command_forms.specs.Commands.{witness, step, trace_name, ultra_comman
 abbrev pub IsPath : Text → List Row → Text → Type 0
 IsPath id rows file = first_of id rows ≡ Some file
 
--- a text that need not be given
+-- The text is that of an optional argument.
 abbrev pub IsOption : Text → List Row → Option Text → Type 0
 IsOption id rows file = first_of id rows ≡ file
 
--- a flag is set where its entry says so; that of a flag that is not given says `false`
+-- The flag is set exactly if its entry is `true`. The entry of a flag that is not given is `false`.
 abbrev pub IsFlag : Text → List Row → Bool → Type 0
 IsFlag id rows is_set = (is_set ≡ true) ↔ (first_of id rows ≡ Some (codes "true"))
 
--- the number that the option's text spells, or the default where it has none, in its range
+-- The number is the one that the option's text spells, or the default if there is no text, and it is in the range.
 abbrev pub IsNumber : Ranged → List Row → ℕ → Type 0
 IsNumber o rows n = MatchOption (first_of o.bounds.name rows) (n ≡ o.default)
     (λ text. pos n ≡ signed_digits_value 10 text) × (o.bounds.low ≤ n)
     × (n ≤ o.bounds.high)
 
--- the number that the option's text spells, in its range, or none where it has none
+-- The number is the one that the option's text spells, and it is in the range. There is none if there is no text.
 abbrev pub IsChoice : Bounds → List Row → Option ℕ → Type 0
 IsChoice o rows n = MatchOption (first_of o.name rows) (n ≡ None)
     (λ text. IsSomeAnd n (λ m. (pos m ≡ signed_digits_value 10 text) × (o.low ≤ m) × (m ≤ o.high)))
 
--- a machine's sizes
+-- The sizes are those that the options give.
 abbrev pub AreSizes : List Row → Sizes → Type 0
 AreSizes rows s = IsNumber stages rows s.k × IsNumber queue rows s.c × IsNumber records rows s.b
     × IsNumber combinations rows s.r
@@ -98,11 +98,11 @@ GivesHunt rows h = IsPath (codes "FILE") rows h.file.now
     × IsFlag (codes "overwrite") rows h.overwrite × IsFlag (codes "quiet") rows h.quiet × AreSizes rows h.sizes
     × IsNumber steps rows h.budget × IsNumber runs rows h.runs × IsNumber start rows h.start
 
--- the subcommand is this one, with these rows
+-- The subcommand has this name, and its rows have the property.
 abbrev pub Named : Option (Text × List Row) → Text → (List Row → Type 0) → Type 0
 Named stop name rest = (rows : List Row) × (stop ≡ Some (name, rows)) × rest rows
 
--- the settings are those of the subcommand and its rows
+-- The settings are those of the subcommand and its rows.
 abbrev pub IsChosen : Option (Text × List Row) → Settings → Type 0
 IsChosen stop (asked.Words w) = Named stop (codes "words") (λ rows. GivesWords rows w)
 IsChosen stop (asked.Check c) = Named stop (codes "check") (λ rows. GivesCheck rows c)
@@ -117,6 +117,6 @@ IsChosen stop (asked.Picture p) = Named stop (codes "picture") (λ rows. GivesPi
 IsChosen stop (asked.Debug d) = Named stop (codes "debug") (λ rows. GivesSession rows d)
 IsChosen stop (asked.Explain e) = Named stop (codes "explain") (λ rows. GivesExplain rows e)
 
--- the settings are those of the words
+-- The settings are those of the words.
 abbrev pub IsAsked : List Text → Settings → Type 0
 IsAsked words = IsChosen (subcommand_of ultra_command words)

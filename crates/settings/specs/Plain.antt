@@ -1,4 +1,4 @@
--- The command lines without options, in their own words.
+-- Command lines without options, word by word.
 use Rattle.std.specs.Prelude.{◌≡◌, ◌≢◌, false, List, [], ◌∷◌, codes, map, Option, Some, None, option_map, slice_get}
 use Rattle.std.specs.Prelude.{IfSome}
 use Rattle.std.specs.Borrow.{Bor}
@@ -13,38 +13,38 @@ use Rattle.settings.specs.declared.choice.Sizes.{Sizes}
 abbrev pub texts_of : List (Bor Text) → List Text
 texts_of words = map (λ word. word.now) words
 
--- the word does not begin with a hyphen (45), so it is no option
+-- The word does not begin with a hyphen (45), so it is not an option.
 abbrev pub IsNoOption : Text → Type 0
 IsNoOption word = IfSome (slice_get word 0) (λ b. b ≢ 45)
 
--- the words are the program's name and a command alone
+-- The words are the program's name and a command.
 abbrev pub IsAlone : (command : Text) → List Text → Type 0
 IsAlone command words = (program : Text) × (words ≡ program ∷ command ∷ [])
 
--- the words are the program's name, a command and a file
+-- The words are the program's name, a command and a file.
 abbrev pub HasFile : (command file : Text) → List Text → Type 0
 HasFile command file words = (program : Text) × (words ≡ program ∷ command ∷ file ∷ []) × IsNoOption file
 
--- the words are the program's name, a command and two files
+-- The words are the program's name, a command and two files.
 abbrev pub HasFiles : (command one other : Text) → List Text → Type 0
 HasFiles command one other words = (program : Text) × (words ≡ program ∷ command ∷ one ∷ other ∷ [])
     × IsNoOption one × IsNoOption other
 
--- the words are the program's name, a command, a trace and the image of its run; the machine has 1,024 words
+-- The words are the program's name, a command, a trace and an image. The machine has 1,024 shared words.
 abbrev pub HasTrace : (command : Text) → Replay → List Text → Type 0
 HasTrace command r words = HasFiles command r.trace.now r.file.now words × (r.words ≡ 1024)
 
--- the words are the program's name, a command and a code, if there is one
+-- The words are the program's name, a command and the code, if there is one.
 abbrev pub HasCode : (command : Text) → Option Text → List Text → Type 0
 HasCode command None words = IsAlone command words
 HasCode command (Some code) words = HasFile command code words
 
--- a machine's sizes if none is given
+-- The sizes are the defaults.
 abbrev pub AreUsual : Sizes → Type 0
 AreUsual s = (s.k ≡ 2) × (s.c ≡ 4) × (s.b ≡ 4) × (s.r ≡ 1) × (s.words ≡ 1024)
 
--- The words are these settings' command and its files, or its code, and nothing else. So no flag is set, no trace is
--- written, nothing is chosen, and each number is its default.
+-- The words are just the command of these settings with its files or its code. So no flag is set, no trace is written,
+-- no choice is made, and each number is its default.
 abbrev pub IsPlain : Settings → List Text → Type 0
 IsPlain (asked.Words w) words = HasFile (codes "words") w.file.now words
 IsPlain (asked.Check c) words = HasFile (codes "check") c.file.now words

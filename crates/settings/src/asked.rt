@@ -1,4 +1,4 @@
-//! The words of the command line, as settings.
+//! From the words of the command line to settings.
 ghost use Rattle.std.specs.Prelude.{◌≡◌, ◌≢◌, IfOk, MatchResult};
 ghost use Rattle.clap.specs.Words.{FailsBy, fault_of, kind_of};
 ghost use Rattle.command_forms.specs.Commands.{ultra_command};
@@ -12,7 +12,7 @@ use clap::error::ErrorKind;
 use command_forms::matches_of;
 use std::alloc::Global;
 
-/// What the words ask for, as `settings` says.
+/// What the words ask for, as [`settings`] returns it.
 fn read<'a>(alloc: Global, words: &'a [&'a str]) -> Result<Settings<'a>, Error>
     ensures asked { IfOk result (IsAsked (texts_of words.entry.now)) }
     ensures kinds { FailsBy (fault_of ultra_command (texts_of words.entry.now)) result }
@@ -21,18 +21,18 @@ fn read<'a>(alloc: Global, words: &'a [&'a str]) -> Result<Settings<'a>, Error>
     Ok(chosen(&matches))
 }
 
-/// What the words ask for, of which the first is the program's name. An `Err` is a mistake in the words, a request for
-/// help or the version, or a lack of memory, and its `Display` is the text for the user.
+/// Returns what the words ask for. The first word is the program's name. An `Err` is a mistake in the words, a request
+/// for help or the version, or out of memory, and its `Display` is the text for the user.
 pub fn settings<'a>(alloc: Global, words: &'a [&'a str]) -> Result<Settings<'a>, Error>
-    // The command, its files and its numbers are those that `clap` finds in the words.
+    // The settings have the command, the files and the numbers that `clap` finds in the words.
     ensures asked { IfOk result (IsAsked (texts_of words.entry.now)) }
 
-    // Settings come only where `clap` finds no fault in the words, and an error is one of their faults or a lack of
-    // memory. A request for help or the version is a fault too.
+    // There are settings only if `clap` finds no fault in the words, and an error is one of these faults or out of
+    // memory. A request for help or the version is a fault, too.
     ensures kinds { FailsBy (fault_of ultra_command (texts_of words.entry.now)) result }
 
-    // Words that are a command and its files, or its code, and nothing else give settings that say just this: each
-    // option is as it is if it is not given. Only a lack of memory prevents it.
+    // If the words are just a command with its files or its code, the settings say just that, with every option as if
+    // it were not given. The only possible error is out of memory.
     ensures plain { (s : Settings) → IsPlain s (texts_of words.entry.now) →
         MatchResult result (λ given. IsPlain given (texts_of words.entry.now))
         (λ e. kind_of e ≡ ErrorKind.OutOfMemory) }
@@ -40,7 +40,7 @@ pub fn settings<'a>(alloc: Global, words: &'a [&'a str]) -> Result<Settings<'a>,
     read(alloc, words)
 }
 
-/// The exit status of a command line that gives no settings.
+/// The exit status for a command line that gives no settings: 4 if out of memory, else 2.
 pub fn status_of(error: &Error) -> u8
     ensures memory { kind_of error.now ≡ ErrorKind.OutOfMemory → result ≡ 4 }
     ensures refused { kind_of error.now ≢ ErrorKind.OutOfMemory → result ≡ 2 }

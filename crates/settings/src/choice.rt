@@ -1,8 +1,8 @@
-//! What a run of the program is asked for.
+//! What the program is asked to do.
 
 use command_forms::TraceCommand;
 
-/// What to do, and with which files and numbers.
+/// A command, with its files and numbers.
 #[derive(Debug, PartialEq, Eq, Drop)]
 pub enum Settings<'a> {
     Words(Words<'a>),
@@ -22,13 +22,13 @@ pub enum Settings<'a> {
 /// The sizes of a machine.
 #[derive(Clone, Copy, Debug, PartialEq, Eq, Drop)]
 pub struct Sizes {
-    /// How many stages of switches the network has, from 0 to 6, so 2^`k` processors and modules.
+    /// The number of stages of switches, from 0 to 6. There are 2^`k` processors and as many modules.
     pub k: u8,
-    /// How many messages a queue of a switch holds, from 2 to 16.
+    /// How many messages a switch's queue holds, from 2 to 16.
     pub c: u8,
-    /// How many records a wait buffer of a switch holds, from 0 to 16.
+    /// How many records a switch's wait buffer holds, from 0 to 16.
     pub b: u8,
-    /// How often an entry of a queue is combined, from 1 to 3.
+    /// How often an entry of a queue may be combined, from 1 to 3.
     pub r: u8,
     /// How many shared words the machine has, from 1 to 262,144.
     pub words: u32,
@@ -61,7 +61,7 @@ pub struct Asm<'a> {
 pub struct Dis<'a> {
     /// The image.
     pub file: &'a str,
-    /// How many shared words the machine has that the image is read for, from 1 to 262,144.
+    /// How many shared words the machine has for which the image is read, from 1 to 262,144.
     pub words: u32,
 }
 
@@ -70,24 +70,24 @@ pub struct Dis<'a> {
 pub struct Run<'a> {
     /// The image.
     pub file: &'a str,
-    /// Where the trace of the run is written, if anywhere.
+    /// Where to write the trace of the run, if anywhere.
     pub trace: Option<&'a str>,
-    /// Whether the schedule is to be the sweep. Else each processor runs on a thread of its own.
+    /// Whether the schedule is the sweep. If not, each processor runs on a thread of its own.
     pub sweep: bool,
-    /// Whether nothing is to be reported of how far the run is.
+    /// Whether to leave out reports of the run's progress.
     pub quiet: bool,
     /// The sizes of the machine.
     pub sizes: Sizes,
-    /// How long the run may take, from 1: the rounds of each thread, or the steps of the sweep.
+    /// How long the run may take, from 1: in rounds of each thread, or in steps of the sweep.
     pub budget: u32,
-    /// Where the choices of the threads begin: any number. The sweep chooses nothing.
+    /// The number with which the threads' choices begin: any number. The sweep makes no choices.
     pub start: u32,
 }
 
-/// `replay TRACE FILE`, or what another command takes of a trace.
+/// `replay TRACE FILE`, or another command on a trace.
 #[derive(Debug, PartialEq, Eq, Drop)]
 pub struct Replay<'a> {
-    /// The trace, which has the other sizes of its machine.
+    /// The trace. It has the other sizes of the machine.
     pub trace: &'a str,
     /// The image.
     pub file: &'a str,
@@ -102,24 +102,23 @@ pub struct Explain<'a> {
     pub code: Option<&'a str>,
 }
 
-/// `order TRACE FILE`, and which of its lines are asked for.
+/// `order TRACE FILE`, and which lines it prints.
 #[derive(Debug, PartialEq, Eq, Drop)]
 pub struct Order<'a> {
     /// The trace and its machine.
     pub replay: Replay<'a>,
-    /// The processor whose entries are asked for, at most 63, or none for those of all.
+    /// The processor whose entries are printed, at most 63; None for all processors.
     pub processor: Option<u8>,
-    /// The number of the shared word on which the entries act that are asked for, at most 262,143, or none for all
-    /// entries.
+    /// The number, at most 262,143, of the shared word whose entries are printed; None for all entries.
     pub word: Option<u32>,
 }
 
-/// `picture TRACE FILE`, and after which step.
+/// `picture TRACE FILE`, and the step after which the machine is drawn.
 #[derive(Debug, PartialEq, Eq, Drop)]
 pub struct Picture<'a> {
     /// The trace and its machine.
     pub replay: Replay<'a>,
-    /// How many steps the machine has taken that is drawn, or none where it has taken all.
+    /// How many steps the machine takes before it is drawn; None for all.
     pub step: Option<u32>,
 }
 
@@ -128,13 +127,13 @@ pub struct Picture<'a> {
 pub struct Session<'a> {
     /// The image.
     pub file: &'a str,
-    /// Where the trace of the session is written, if anywhere.
+    /// Where to write the trace of the session, if anywhere.
     pub trace: Option<&'a str>,
     /// The sizes of the machine.
     pub sizes: Sizes,
     /// How many steps one command of the debugger may take, from 1 to 4,000,000.
     pub budget: u32,
-    /// The port at which the debugger is awaited, from 1.
+    /// The port on which to wait for the debugger, from 1.
     pub port: u16,
 }
 
@@ -143,21 +142,20 @@ pub struct Session<'a> {
 pub struct Explore<'a> {
     /// The image.
     pub file: &'a str,
-    /// Where the trace of a witness is written, if anywhere.
+    /// Where to write the trace of a witness, if anywhere.
     pub trace: Option<&'a str>,
-    /// Whether every result is listed by itself. Else one is for all that come of it by exchanging processors that
-    /// stand alike.
+    /// Whether to list every result. If not, one result stands for all that exchanges of alike processors make of it.
     pub each: bool,
-    /// Whether every size is explored, `k` from 0 to 6, and a line is printed for each. Else it is `sizes.k` alone.
+    /// Whether to explore every `k` from 0 to 6, and print a line for each. If not, only `sizes.k` is explored.
     pub every: bool,
-    /// Whether nothing is to be reported of how far the search is.
+    /// Whether to leave out reports of the search's progress.
     pub quiet: bool,
     /// The sizes of the machine.
     pub sizes: Sizes,
-    /// With how many states the search is given up, from 1.
+    /// The number of states at which the search gives up, from 1.
     pub states: u32,
-    /// The number of the result that the witness ends in, or 0 for a state without a way to an end, if a witness is
-    /// asked for.
+    /// If a witness is asked for, the number of the result in which it ends, or 0 for a state from which no end can be
+    /// reached.
     pub witness: Option<u32>,
 }
 
@@ -166,18 +164,18 @@ pub struct Explore<'a> {
 pub struct Hunt<'a> {
     /// The image.
     pub file: &'a str,
-    /// What the names begin with of the traces that are written, if any.
+    /// The beginning of the names of the traces to write, if any.
     pub trace: Option<&'a str>,
-    /// Whether these may be written over files that exist.
+    /// Whether the traces may overwrite existing files.
     pub overwrite: bool,
-    /// Whether nothing is to be reported of how far the hunt is.
+    /// Whether to leave out reports of the hunt's progress.
     pub quiet: bool,
     /// The sizes of the machine.
     pub sizes: Sizes,
     /// How many steps a run may take, from 1 to 4,000,000.
     pub budget: u32,
-    /// How many runs are taken, from 1 to 1,000,000.
+    /// The number of runs, from 1 to 1,000,000.
     pub runs: u32,
-    /// Where the choices of the first run begin: any number. Those of each other run begin one further.
+    /// The number with which the first run's choices begin: any number. Each later run begins with the next number.
     pub start: u32,
 }

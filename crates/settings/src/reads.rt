@@ -1,4 +1,4 @@
-//! What the matches of a subcommand say.
+//! From the matches of a subcommand to its settings.
 ghost use Rattle.std.specs.Prelude.{◌≡◌, ◌≤◌, ◌<◌, ◌^◌, codes, option_map};
 ghost use Rattle.clap.specs.Words.{found_of, rows_of, subcommand_rows_of};
 ghost use Rattle.settings.specs.Lines.{AreSizes, GivesAsm, GivesCheck, GivesDis, GivesExplain, GivesExplore};
@@ -19,7 +19,7 @@ use command_forms::{
     WITNESS,
 };
 
-/// A file that has to be given.
+/// The text of a required argument.
 fn path<'a>(matches: &ArgMatches<'a>, id: &str) -> &'a str
     requires { HasPath id.now (rows_of (found_of matches.now)) }
     ensures { IsPath id.now (rows_of (found_of matches.now)) result.now }
@@ -27,14 +27,14 @@ fn path<'a>(matches: &ArgMatches<'a>, id: &str) -> &'a str
     matches.get_str(id).unwrap()
 }
 
-/// A text that need not be given.
+/// The text of an optional argument.
 fn option<'a>(matches: &ArgMatches<'a>, id: &str) -> Option<&'a str>
     ensures { IsOption id.now (rows_of (found_of matches.now)) (option_map (λ file. file.now) result) }
 {
     matches.get_str(id)
 }
 
-/// Whether a flag is given.
+/// Returns whether a flag is given.
 fn flag(matches: &ArgMatches<'_>, id: &str) -> bool
     ensures { IsFlag id.now (rows_of (found_of matches.now)) result }
 {
@@ -44,7 +44,7 @@ fn flag(matches: &ArgMatches<'_>, id: &str) -> bool
     }
 }
 
-/// The number of the option of a name, if it is given.
+/// The number of the option with this name, if it is given.
 fn choice_of(matches: &ArgMatches<'_>, id: &str, low: u32, high: u32) -> Option<u32>
     requires { HasNumber (bounds_as id.now low high) (rows_of (found_of matches.now)) }
     ensures { IsChoice (bounds_as id.now low high) (rows_of (found_of matches.now)) result }
@@ -60,7 +60,7 @@ fn choice(matches: &ArgMatches<'_>, option: ChoiceOption) -> Option<u32>
     choice_of(matches, option.name, option.low, option.high)
 }
 
-/// The same, of an option whose numbers are bytes.
+/// The number of an option, as a byte, if it is given.
 fn byte_choice(matches: &ArgMatches<'_>, option: ChoiceOption) -> Option<u8>
     requires text { HasNumber (bounded option) (rows_of (found_of matches.now)) }
     requires byte { option.high < 2 ^ 8 }
@@ -72,7 +72,7 @@ fn byte_choice(matches: &ArgMatches<'_>, option: ChoiceOption) -> Option<u8>
     }
 }
 
-/// The number of the option of a name, or its default.
+/// The number of the option with this name, or its default.
 fn number_of(matches: &ArgMatches<'_>, id: &str, default: u32, low: u32, high: u32) -> u32
     requires text { HasNumber (bounds_as id.now low high) (rows_of (found_of matches.now)) }
     requires least { low ≤ default }
@@ -98,7 +98,7 @@ fn number(matches: &ArgMatches<'_>, option: NumberOption) -> u32
     )
 }
 
-/// The same, of an option whose numbers are bytes.
+/// The number of an option, or its default, as a byte.
 fn byte(matches: &ArgMatches<'_>, option: NumberOption) -> u8
     requires text { HasNumber (ranged option).bounds (rows_of (found_of matches.now)) }
     requires least { option.low ≤ option.default }
@@ -109,7 +109,7 @@ fn byte(matches: &ArgMatches<'_>, option: NumberOption) -> u8
     number(matches, option) as u8
 }
 
-/// The same, of an option whose numbers are those of ports.
+/// The number of an option, or its default, as a port's number.
 fn short(matches: &ArgMatches<'_>, option: NumberOption) -> u16
     requires text { HasNumber (ranged option).bounds (rows_of (found_of matches.now)) }
     requires least { option.low ≤ option.default }
@@ -272,7 +272,7 @@ fn hunt<'a>(matches: &ArgMatches<'a>) -> Hunt<'a>
     }
 }
 
-/// The settings of the subcommand that was met.
+/// The settings of the subcommand in the matches.
 pub(crate) fn chosen<'a>(matches: &ArgMatches<'a>) -> Settings<'a>
     requires { IsComplete (subcommand_rows_of matches.now) }
     ensures { IsChosen (subcommand_rows_of matches.now) result }
