@@ -16,19 +16,19 @@ use Rattle.assembler.specs.Meaning.{Labels, Piece, start, after_said, after_read
 use Rattle.assembler.specs.Meaning.{piece_of, pieces_of, labels_of, lines_of, offset_of, insn_at}
 use Rattle.assembler.specs.Meaning.{section_bytes, entry_of, word_bytes, IsMeaning}
 
--- what is known of the numbers that are written
+-- What is written of a field is read as the field.
 pub record AreRead : Type 0 where
-  -- the low 12 bits of the signed number of a 12-bit field are the field
+  -- The low 12 bits of the signed number of a 12-bit field are the field.
   pub lower : (f : ℕ) → f < 2 ^ 12 → low_bits (2 ^ 12) (signed (2 ^ 11) f) ≡ f
-  -- the low 20 bits of a 20-bit field are the field
+  -- The low 20 bits of a 20-bit field are the field.
   pub upper : (f : ℕ) → f < 2 ^ 20 → low_bits (2 ^ 20) (pos f) ≡ f
-  -- the low 13 bits of the offset of a branch's field, halved, are the field
+  -- The low 13 bits of the offset of a branch's field, halved, are the field.
   pub branch : (f : ℕ) → f < 2 ^ 12 → low_bits (2 ^ 13) (offset (2 ^ 11) f) / 2 ≡ f
-  -- the offset of a branch's field is even, and within the range of a branch
+  -- The offset of a branch's field is even, and within the range of a branch.
   pub branch_in_range : (f : ℕ) → f < 2 ^ 12 → IsEvenWithin (negsuc 4095) (pos 4094) (offset (2 ^ 11) f)
-  -- the low 21 bits of the offset of a jump's field, halved, are the field
+  -- The low 21 bits of the offset of a jump's field, halved, are the field.
   pub jump : (f : ℕ) → f < 2 ^ 20 → low_bits (2 ^ 21) (offset (2 ^ 19) f) / 2 ≡ f
-  -- the offset of a jump's field is even, and within the range of a jump
+  -- The offset of a jump's field is even, and within the range of a jump.
   pub jump_in_range : (f : ℕ) → f < 2 ^ 20 → IsEvenWithin (negsuc 1048575) (pos 1048574) (offset (2 ^ 19) f)
 
 in_range : (least most : ℤ) (labels : Labels) (at : ℕ) (z : ℤ) → IsEvenWithin least most z → offset_of least most labels at (number z) ≡ Ok z
@@ -36,7 +36,7 @@ unfolding offset_of
 in_range least most labels at z h = rw (h.0, h.1, h.2) refl
 
 module _ (known : AreRead) (labels : Labels) (at : ℕ) where
-  -- with the numbers that are written, an instruction is itself
+  -- An instruction read from the numbers written of it is the same instruction.
   pub insn_again : (i : Insn) → InRange i → insn_at labels at (as_said i) ≡ Ok i
   insn_again (OpImm op rd rs1 imm) r = ap (λ f. Ok (OpImm op rd rs1 f)) (known.lower imm r.2)
   insn_again (Load op rd rs1 imm) r = ap (λ f. Ok (Load op rd rs1 f)) (known.lower imm r.2)
@@ -71,7 +71,7 @@ module _ (text : List ℕ) (said : Instr) (i : Insn) (one_line : parts_at 10 tex
   unfolding after_said
   no_labels = ap (λ ls. labels_of ls (codes "start")) one_line ∙ ap (λ r. (after_read start r).labels (codes "start")) read
 
-  -- A text of one line that is read as an instruction means the bytes of its word, in code, and no others.
+  -- A text of one line that is read as an instruction means just the bytes of its word, in code.
   pub means_its_word : IsMeaning text (record { entry = 0x0001_0000; code = word_bytes (word_of i); local = []; shared = [] })
   means_its_word = record {
     faultless = rw pieces_again (one_ok (Code, word_bytes (word_of i)));

@@ -1,4 +1,4 @@
--- What a text means fits into its regions.
+-- The meaning of a text fits into the regions.
 use Rattle.std.proofs.Common.{◌≡◌, ℕ, ◌+◌, ◌*◌, ◌^◌, ◌≤◌, Bool, true, false, List, [], ◌∷◌, ◌++◌, length, Option}
 use Rattle.std.proofs.Common.{Some, None, Result, Ok, Err, refl, sym, ap, subst, ◌∙◌, arith, length-append}
 use Rattle.std.specs.Prelude.{pos, All, IsOk, nat_le, replicate, if◌then◌else◌}
@@ -28,7 +28,7 @@ pub bind_ok : {A B : Type 0} (r : Result A AsmFault) (f : A → Result B AsmFaul
 bind_ok (Ok x) f y h = (x, refl, h)
 bind_ok (Err e) f y h = absurd cc
 
--- ---- how long the bytes of a statement are
+-- ---- the number of bytes of a statement
 
 words_length : (labels : Labels) (vs : List Val) (bs : List ℕ) → words_bytes labels vs ≡ Ok bs → length bs ≡ 4 * length vs
 unfolding words_bytes
@@ -52,19 +52,19 @@ statement_length labels at (instruction i) bs h =
 -- ---- places
 
 pub record IsWithin (at : Place) : Type 0 where
-  -- the bytes of code are within their room
+  -- The bytes of code fit.
   pub code : at.code ≤ 65536
-  -- the local bytes are within their room
+  -- The local bytes fit.
   pub local : at.local ≤ 65536
-  -- the shared bytes are within their room
+  -- The shared bytes fit.
   pub shared : at.shared ≤ 786432
 
--- a place and the next one, with the bytes between them
+-- The bytes of a piece lead from a place to the next one.
 pub record Step (at next : Place) (piece : Piece) : Type 0 where
   code : next.code ≡ at.code + length (bytes_in Code (Ok piece))
   local : next.local ≡ at.local + length (bytes_in Local (Ok piece))
   shared : next.shared ≡ at.shared + length (bytes_in Shared (Ok piece))
-  -- the next place is within the rooms
+  -- The bytes at the next place fit.
   pub within : IsWithin next
 
 grown_step : (s : Section) (n : ℕ) (bs : List ℕ) (at : Place) → IsWithin at → count_of s at + n ≤ room_of s → length bs ≡ n → Step at (grown s n at) (s, bs)
@@ -102,7 +102,7 @@ statement_step at (instruction i) bs h fits e = grown_step at.section 4 bs at h 
 
 -- ---- lines
 
--- a label changes neither the section nor the counts
+-- A label changes neither the section nor the counts of bytes.
 step_at : (name : Option (List ℕ)) (at next : Place) (piece : Piece) → Step (labelled name at) next piece → Step at next piece
 step_at None at next piece s = s
 step_at (Some n) at next piece s = record { code = s.code; local = s.local; shared = s.shared; within = s.within }
@@ -130,7 +130,7 @@ idle_step name at h = step_at name at (labelled name at) (at.section, []) (recor
   within = within_at name at h;
 })
 
--- a statement that is placed fits, and stands at its place
+-- A placed statement fits, and is at its place.
 pub placed_fits : (fault : Option AsmFault) (at : Place) (s : Stmt) (p : Placed) → fit_or_fault fault at s ≡ Ok p →
     (nat_le (count_of at.section at + size_of s) (room_of at.section) ≡ true) × (p ≡ record { section = at.section; address = address at; statement = Some s })
 placed_fits (Some f) at s p h = absurd cc
@@ -173,7 +173,7 @@ read_step : (labels : Labels) (at : Place) (r : Result Said LineFault) (piece : 
 read_step labels at (Ok said) piece h e = said_step labels at said piece h e
 read_step labels at (Err f) piece h e = absurd cc
 
--- A line without a fault, at a place within the rooms, leads by its bytes to the next place, within them too.
+-- If the bytes at a place fit, those of a line without a fault lead to the next place, where they fit, too.
 pub line_step : (labels : Labels) (at : Place) (line : List ℕ) (piece : Piece) → IsWithin at → line_piece labels at line ≡ Ok piece →
     Step at (after at line) piece
 line_step labels at line piece h e = read_step labels at (line_of line) piece h e
@@ -185,7 +185,7 @@ record AllWithin (at : Place) (pieces : List (Result Piece AsmFault)) : Type 0 w
   local : at.local + length (section_bytes Local pieces) ≤ 65536
   shared : at.shared + length (section_bytes Shared pieces) ≤ 786432
 
--- A result that is no fault is a piece.
+-- A result that is not a fault is a piece.
 pub ok_piece : (r : Result Piece AsmFault) → IsOk r → (piece : Piece) × (r ≡ Ok piece)
 ok_piece (Ok piece) h = (piece, refl)
 ok_piece (Err f) h = absurd (false≢true h)
@@ -208,7 +208,7 @@ all_within labels at (line ∷ lines) h oks =
       shared = omega (arith, section_more Shared head.0 (pieces_from labels (after at line) lines), step.shared, more.shared);
     })
 
--- The layout that a text means fits into its regions.
+-- The layout that a text means fits into the regions.
 pub meaning_fits : (text : List ℕ) (layout : Layout) → IsMeaning text layout → FitsRegions layout
 unfolding pieces_of
 meaning_fits text layout m =

@@ -11,13 +11,13 @@ use Rattle.assembler.specs.declared.symbol.Symbol.{Symbol}
 use Rattle.assembler.specs.Meaning.{Labels, Place, labelled, address}
 use Rattle.assembler.specs.Passes.{label_values}
 
--- A map that is updated at a name has the labels that the old one has, updated at that name.
+-- The labels of a map updated at a name are those of the old map, updated at that name.
 pub one_more : (name : List ℕ) (m n : BTreeMap (Bor (List ℕ)) Symbol) (w : Option Symbol) →
     UpdatesBy (λ (x y : Bor (List ℕ)). slice_cmp nat_cmp x.now y.now) (λ (k : Bor (List ℕ)). slice_cmp nat_cmp name k.now) m n w
     → label_values n ≡ update bytes_eq (label_values m) name w
 one_more name m n w updates = λ i q. btree_map_updates_str name m n w updates q i
 
--- If the map gets a name with the place's own section and address, the place is as after this label.
+-- Adding a name with the place's own section and address to the map gives the place after this label.
 pub label_added : (s : Section) (code local shared v : ℕ) (name : List ℕ) (m n : BTreeMap (Bor (List ℕ)) Symbol)
     → UpdatesBy (λ (x y : Bor (List ℕ)). slice_cmp nat_cmp x.now y.now) (λ (k : Bor (List ℕ)). slice_cmp nat_cmp name k.now) m n
     (Some (record { section = s; address = v }))

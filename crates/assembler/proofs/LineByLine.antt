@@ -23,17 +23,17 @@ use Rattle.assembler.specs.Passes.{place_of, nows, piece_at, label_values}
 
 -- ---- the first pass
 
--- what has been placed, and the rest from here, are all
+-- The first i lines are placed, and the rest follow from the cursor.
 pub record Scanned (lines : List (Bor (List ℕ))) (i : ℕ) (placed : List LineAt) (cursor : Cursor) : Type 0 where
   pub so_far : (ls : Labels) → pieces_from ls start (nows lines) ≡ map (piece_at ls) placed ++ pieces_from ls (place_of cursor) (nows (drop i lines))
   pub count : length placed ≡ i
-  -- the place after the lines that are left, from the cursor on, is the place after all lines
+  -- The place after the remaining lines, from the cursor on, is the place after all lines.
   pub labels : fold after (place_of cursor) (nows (drop i lines)) ≡ fold after start (nows lines)
 
 at_item : (lines : List (Bor (List ℕ))) (i : ℕ) (d : Bor (List ℕ)) → i < length lines → nows (drop i lines) ≡ (get_or lines i d).now ∷ nows (drop (i + 1) lines)
 at_item lines i d lt = rw (add-one, drop-cons lines i d lt) refl
 
--- After one more line is placed, and the cursor moved past it, one line more is scanned.
+-- After one more line is placed, and the cursor has moved past it, one more line is scanned.
 pub scanned_more : (lines : List (Bor (List ℕ))) (i : ℕ) (d : Bor (List ℕ)) (placed new : List LineAt) (cursor cursor' : Cursor) (p : LineAt) →
     i < length lines → Scanned lines i placed cursor
     → ((ls : Labels) → line_piece ls (place_of cursor) (get_or lines i d).now ≡ piece_at ls p) →
@@ -55,7 +55,7 @@ get_seam : {X : Type 0} (xs : List X) (y : X) (ys : List X) → slice_get (xs ++
 get_seam [] y ys = refl
 get_seam (x ∷ xs) y ys = get_seam xs y ys
 
--- A line with a fault at the cursor has this fault among the pieces of the lines, whatever the labels are.
+-- If the line at the cursor has a fault, so does its piece among those of all lines, whatever the labels are.
 pub scanned_fault : (lines : List (Bor (List ℕ))) (i : ℕ) (d : Bor (List ℕ)) (placed : List LineAt) (cursor : Cursor) (f : AsmFault) → i < length lines →
     Scanned lines i placed cursor
     → place_line (place_of cursor) (get_or lines i d).now ≡ Err f → (ls : Labels) → slice_get (pieces_from ls start (nows lines)) (i + 1 - 1) ≡ Some (Err f)
@@ -83,14 +83,14 @@ scanned_all lines i placed cursor le before =
 
 -- ---- the second pass
 
--- the first i lines have their bytes
+-- The layout has the bytes of the first i lines.
 pub record Emitted (labels : Labels) (placed : List LineAt) (i entry : ℕ) (layout : Layout) : Type 0 where
-  -- none of them has a fault
+  -- None of these lines has a fault.
   pub faultless : All IsOk (map (piece_at labels) (take i placed))
   pub code_is : layout.code ≡ section_bytes Code (map (piece_at labels) (take i placed))
   pub local_is : layout.local ≡ section_bytes Local (map (piece_at labels) (take i placed))
   pub shared_is : layout.shared ≡ section_bytes Shared (map (piece_at labels) (take i placed))
-  -- the layout has this entry
+  -- The layout has this entry.
   pub entry_is : layout.entry ≡ entry
 
 module _ (labels : Labels) (placed : List LineAt) (i : ℕ) (d : LineAt) where
@@ -100,7 +100,7 @@ module _ (labels : Labels) (placed : List LineAt) (i : ℕ) (d : LineAt) where
       more ∙ ap (λ x. x ++ bytes_in s (piece_at labels (get_or placed i d))) before
       ∙ sym (rw (map_more (piece_at labels) placed i d lt, flat_map-append) (rw (append-nil (bytes_in s (piece_at labels (get_or placed i d)))) refl))
 
-  -- If the layout gets the bytes of the next line, which has no fault, one line more has its bytes there.
+  -- If the next line has no fault, and its bytes are added, the layout has the bytes of one more line.
   pub emitted_next : (entry : ℕ) (old new : Layout) → i < length placed → Emitted labels placed i entry old → IsOk (piece_at labels (get_or placed i d))
       → new.code ≡ old.code ++ bytes_in Code (piece_at labels (get_or placed i d)) →
       new.local ≡ old.local ++ bytes_in Local (piece_at labels (get_or placed i d)) →
@@ -149,14 +149,14 @@ pub present : (text : List ℕ) (lines : List (Bor (List ℕ))) (i : ℕ) (f : A
 unfolding pieces_of
 present text lines i f same bad = ap (λ all. slice_get (pieces_of all) i) (sym same) ∙ bad (labels_of (nows lines))
 
--- If no piece is a fault, there is none at any place.
+-- If no piece is a fault, there is no fault at any place.
 pub no_fault : (all : List (Result Piece AsmFault)) (i : ℕ) (f : AsmFault) → All IsOk all → slice_get all i ≡ Some (Err f) → ⊥
 no_fault all i f each bad =
     let at : get_or all i (Err f) ≡ Err f = get_or_from_slice_get all i (Err f) (Err f) bad in
     let ok : IsOk (get_or all i (Err f)) = each i (Err f) (slice_get_within all i (Err f) bad) in
     false≢true (subst (λ r. IsOk r) at ok)
 
--- Two layouts that have the same entry and the same sections are the same.
+-- Two layouts with the same entry and the same sections are the same.
 pub same_layout : (a b : Layout) → a.entry ≡ b.entry → a.code ≡ b.code → a.local ≡ b.local → a.shared ≡ b.shared → a ≡ b
 same_layout a b entry code local shared =
     let make = λ (e : ℕ) (c l s : List ℕ). let layout : Layout = record { entry = e; code = c; local = l; shared = s } in layout in

@@ -1,4 +1,4 @@
--- What a line says has bytes alone: numbers below 256.
+-- The bytes that a line says are numbers below 256.
 use Rattle.std.proofs.Common.{◌≡◌, ℕ, zero, suc, ◌^◌, ◌<◌, Bool, true, false, List, [], ◌∷◌, ◌++◌}
 use Rattle.std.proofs.Common.{length, Option, Some, None, Result, Ok, Err, refl, subst, arith}
 use Rattle.std.specs.Prelude.{pos, negsuc, ◌==◌, replicate, slice_index, if◌then◌else◌}
@@ -26,7 +26,7 @@ pub bytes_append : (xs ys : List ℕ) → AreBytes xs → AreBytes ys → AreByt
 bytes_append [] ys h k = k
 bytes_append (x ∷ xs) ys h k = (h.0, bytes_append xs ys h.1 k)
 
--- What is read at any place of a list of bytes is below 256.
+-- A read at any place of a list of bytes gives a number below 256.
 pub byte_below : (bs : List ℕ) → AreBytes bs → (i : ℕ) → slice_index bs i < 256
 byte_below [] h i = omega arith
 byte_below (b ∷ bs) h zero = h.0
@@ -37,7 +37,7 @@ pub zero_bytes : (n : ℕ) → AreBytes (replicate n 0)
 zero_bytes zero = tt
 zero_bytes (suc n) = (omega arith, zero_bytes n)
 
--- the bytes of a number
+-- The bytes of a number are below 256.
 pub number_bytes : (i count n : ℕ) → AreBytes (bytes_low_first i count n)
 number_bytes i zero n = tt
 number_bytes zero (suc count) n = (omega arith, number_bytes 1 count n)

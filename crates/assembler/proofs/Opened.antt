@@ -19,7 +19,7 @@ use Rattle.assembler.specs.Openings.{placed_byte, IsTextProcessor, IsTextOpening
 use Rattle.assembler.proofs.LineBytes.{byte_below}
 use Rattle.assembler.proofs.PlacedBytes.{placed_bytes}
 
--- a place after the last byte is zero
+-- A place after the last byte is read as zero.
 behind_zero : (bytes : List ℕ) (place : ℕ) → slice_index bytes place ≡ (if nat_lt place (length bytes) then slice_index bytes place else 0)
 behind_zero bytes place =
     elim (cases_lt place (length bytes)) [
@@ -27,7 +27,7 @@ behind_zero bytes place =
       | inr past ↦ let test : nat_lt place (length bytes) ≡ false = grind (arith, nat_tests, past) in rw test (get_or_past bytes place 0 past)
     ]
 
--- the entry is divisible by 4
+-- The entry is divisible by 4.
 pub entry_aligned : (o : Option Symbol) → entry_of o % 4 ≡ 0
 entry_aligned None = refl
 entry_aligned (Some symbol) = by_test (same_section symbol.section Code) (symbol.address % 4 == 0) refl

@@ -1,4 +1,4 @@
--- The high and the low part of a value make it.
+-- The high and the low part of a value make the value.
 use Rattle.std.proofs.Common.{◌≡◌, ℕ, ◌+◌, ◌-◌, ◌*◌, ◌/◌, ◌%◌, ◌^◌, ◌<◌, ◌≤◌, List, Some, refl, ap, ◌∙◌, arith, inl, inr}
 use Rattle.std.specs.Prelude.{pos, negsuc, ◌-ℤ◌}
 use Rattle.std.proofs.lemmas.Bool.{cases_lt, lt-ltb, le-ltb}
@@ -27,7 +27,7 @@ field_of m fits = elim (cases_lt m 2048) [
   | inr le ↦ rw (above m le) (omega arith)
 ]
 
--- the low part stands as the low 12 bits
+-- The field of the low part is the value's low 12 bits.
 low_is : (v : ℕ) → low_bits (2 ^ 12) (low_part v) ≡ v % 4096
 low_is v = field_of ((v + 2048) % 4096) (omega arith) ∙ omega arith
 

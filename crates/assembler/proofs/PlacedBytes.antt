@@ -1,4 +1,4 @@
--- What a text places are bytes: numbers below 256.
+-- The numbers that a text places are bytes: they are below 256.
 use Rattle.std.proofs.Common.{◌≡◌, ℕ, ◌^◌, Bool, true, false, List, [], ◌∷◌, ◌++◌, Option, Some, None, Result, Ok, Err, refl, sym, ap, subst}
 use Rattle.std.specs.Prelude.{pos, if◌then◌else◌}
 use Rattle.decode.specs.Words.{word_of}
@@ -41,7 +41,7 @@ option_are_bytes labels at (Some (instruction i)) bs small h =
 
 -- ---- lines
 
--- a statement that is placed is the statement of the line
+-- The placed statement is the statement of the line.
 placed_same : (at : Place) (o : Option Stmt) (p : Placed) → place_statement at o ≡ Ok p → o ≡ p.statement
 placed_same at None p h =
     let is_p : ◌≡◌ {A = Placed} (record { section = at.section; address = address at; statement = None }) p = cc in

@@ -6,7 +6,7 @@ use Rattle.elf_image.specs.declared.error.ImageError.TheVariants as error
 use Rattle.elf_image.specs.Images.{IsRefused}
 use Rattle.elf_image.specs.Refusals.{refusal_of}
 
--- where all of a reader's bytes are known and read, they are what was read
+-- If all of a reader's bytes are known and consumed, they are what was read.
 pub all_read : (bytes : List ℕ) (rest : Option (List ℕ)) (read : List ℕ) → ConsumesAll (Some bytes) rest read → bytes ≡ read
 all_read bytes None read h = absurd h.0
 all_read bytes (Some xs) read h = h.0 ∙ ap (λ x. read ++ x) h.1 ∙ append-nil read
@@ -19,7 +19,7 @@ none_is_none : (bytes : List ℕ) (words : ℕ) (rest : Option (List ℕ)) (e : 
     ConsumesAll (Some bytes) rest read → refusal_of words read ≡ Some e → ⊥
 none_is_none bytes words rest e none read all h = cc (none, ap (refusal_of words) (all_read bytes rest read all), h)
 
--- input that is accepted is refused by the link or if out of memory alone
+-- Accepted input is refused only for a fault of the link or if out of memory.
 pub refused_by_link_or_memory : (words : ℕ) (bytes : List ℕ) (rest : Option (List ℕ)) (e : ImageError) → length bytes ≤ 1048576 →
     refusal_of words bytes ≡ None → IsRefused words (Some bytes) rest e → (e ≡ error.Link) ⊎ (e ≡ error.Memory)
 refused_by_link_or_memory words bytes rest error.Truncated short none h = absurd (none_is_none bytes words rest error.Truncated none h.0 h.1 h.2)

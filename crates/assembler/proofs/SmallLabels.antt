@@ -1,4 +1,4 @@
--- In a text with a meaning, each label's value is a word.
+-- In a text with a meaning, the value of each label is a word.
 use Rattle.std.proofs.Common.{◌≡◌, ℕ, ◌+◌, ◌^◌, ◌<◌, Bool, true, false, cond, List, [], ◌∷◌, Option, Some, None, Result, Ok, Err, refl, sym, subst, arith}
 use Rattle.std.specs.Prelude.{All, IsOk, fold}
 use Rattle.std.specs.Str.{bytes_eq}

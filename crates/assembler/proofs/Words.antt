@@ -1,4 +1,4 @@
--- The loop over the values of .word.
+-- The loop over the values of `.word`.
 use Rattle.std.proofs.Common.{◌≡◌, ℕ, ◌+◌, ◌^◌, ◌<◌, ◌≤◌, List, ◌∷◌, ◌++◌, length, get_or, drop, Result, Ok, Err}
 use Rattle.std.proofs.Common.{Bor, BTreeMap, refl, sym, ap, ◌∙◌, append_assoc, append-nil, add-one, drop-cons}
 use Rattle.std.specs.Prelude.{map, IsOkAnd}
@@ -17,7 +17,7 @@ use Rattle.assembler.specs.Passes.{label_values, taken}
 abbrev prefixed : List ℕ → Result (List ℕ) AsmFault → Result (List ℕ) AsmFault
 prefixed front read = read >>= λ bytes. Ok (front ++ bytes)
 
--- the bytes so far, and those of the rest, are the bytes of all
+-- The bytes so far, followed by those of the remaining values, are those of all values.
 pub record WordsSoFar (m : BTreeMap (Bor (List ℕ)) Symbol) (values : List Value) (i : ℕ) (old out : List ℕ) : Type 0 where
   -- the bytes that were added
   pub done : List ℕ
@@ -28,7 +28,7 @@ module _ (m : BTreeMap (Bor (List ℕ)) Symbol) (values : List Value) (i : ℕ) 
   rest_is : i < length values → map val_of (drop i values) ≡ val_of (get_or values i d) ∷ map val_of (drop (i + 1) values)
   rest_is lt = rw (add-one, drop-cons values i d lt) refl
 
-  -- After the word of one more value is added, the bytes so far are those of one value more.
+  -- After the word of one more value is appended, the bytes so far are those of one more value.
   pub words_more : (z : _) (out' : List ℕ) → i < length values → WordsSoFar m values i old out →
       part_of (taken parts.Whole) (label_values m) (val_of (get_or values i d)) ≡ Ok z → out' ≡ out ++ to_le_bytes w32 (low_bits (2 ^ 32) z)
       → WordsSoFar m values (i + 1) old out'
@@ -48,7 +48,7 @@ module _ (m : BTreeMap (Bor (List ℕ)) Symbol) (values : List Value) (i : ℕ) 
       regroup front new (Ok bytes) = ap (λ (x : List ℕ). Ok x) (sym (append_assoc front new bytes))
       regroup front new (Err f) = refl
 
-  -- If one of the values has a fault, and none before it has, this is the fault of all of them.
+  -- If one of the values has a fault, and none before it has one, this is the fault of the whole list.
   pub words_fault : (f : AsmFault) → i < length values → WordsSoFar m values i old out →
       part_of (taken parts.Whole) (label_values m) (val_of (get_or values i d)) ≡ Err f → words_bytes (label_values m) (map val_of values) ≡ Err f
   unfolding words_bytes

@@ -10,7 +10,7 @@ abbrev pub ◌>>=◌ : {A B : Type 0} → Result A AsmFault → (A → Result B 
 (Ok x) >>= f = f x
 (Err e) >>= f = Err e
 
--- what is wrong with a line by itself
+-- the fault of a text with this fault in a line
 abbrev pub fault_of : LineFault → AsmFault
 fault_of line_faults.Unknown = UnknownWord
 fault_of line_faults.Form = Form

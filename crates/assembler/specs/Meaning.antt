@@ -1,5 +1,5 @@
--- What a text means: the bytes that its lines place, section by section, and its entry. Each line is read at its
--- place, which is known from the lines before it; labels have their values from the whole text.
+-- What a text means: the bytes that its lines place, section by section, and its entry. The lines before a line
+-- determine its place; the whole text determines the values of labels.
 --
 -- The language is this project's own. Source of %hi and %lo: the RISC-V manual, Volume I, "RISC-V Assembly Programmer's
 -- Handbook", and "Integer Register-Immediate Instructions" (LUI and AUIPC with a signed low part).
@@ -28,11 +28,11 @@ use Rattle.assembler.specs.Faults.{◌>>=◌, lifted}
 
 -- ---- places
 
--- what each label stands for, if it has been met
+-- the symbols of the labels met so far
 abbrev pub Labels : Type 0
 Labels = List ℕ → Option Symbol
 
--- the section, how many bytes each section has, and the labels, each before a line
+-- the place of a line: the section, how many bytes each section has, and the labels, all before the line
 pub record Place : Type 0 where
   pub section : Section
   pub code : ℕ
@@ -40,7 +40,7 @@ pub record Place : Type 0 where
   pub shared : ℕ
   pub labels : Labels
 
--- the text begins in code, with no byte and no label
+-- the place of the first line: in code, with no bytes and no labels
 abbrev pub start : Place
 start = record { section = Code; code = 0; local = 0; shared = 0; labels = λ _. None }
 
@@ -71,13 +71,13 @@ size_of (bytes bs) = length bs
 size_of (zeros n) = n
 size_of (instruction i) = 4
 
--- the place after this many bytes more of a section
+-- the place after `n` more bytes of a section
 abbrev pub grown : Section → ℕ → Place → Place
 grown Code n at = record at { code = at.code + n }
 grown Local n at = record at { local = at.local + n }
 grown Shared n at = record at { shared = at.shared + n }
 
--- a section word goes on where that section ended
+-- the place after a statement: a section directive continues its section
 abbrev pub after_statement : Place → Stmt → Place
 after_statement at (section s) = record at { section = s }
 after_statement at s = grown at.section (size_of s) at
@@ -86,13 +86,13 @@ abbrev pub after_option : Place → Option Stmt → Place
 after_option at None = at
 after_option at (Some s) = after_statement at s
 
--- a label's value is the address of the next byte at its line
+-- the place after a label, whose value is the address of the next byte
 abbrev pub labelled : Option (List ℕ) → Place → Place
 labelled None at = at
 labelled (Some name) at =
     record at { labels = update bytes_eq at.labels name (Some (record { section = at.section; address = address at })) }
 
--- the place after a line. A line that cannot be read takes no bytes and has no label.
+-- the place after a line; a line that cannot be read places no bytes and has no label
 unfoldable pub after_said : Place → Said → Place
 after_said at said = after_option (labelled said.name at) said.statement
 
@@ -111,14 +111,14 @@ pub record Placed : Type 0 where
   pub address : ℕ
   pub statement : Option Stmt
 
--- a statement that stands at the next byte
+-- a statement at the next byte
 abbrev pub placed_at : Place → Option Stmt → Placed
 placed_at at s = record { section = at.section; address = address at; statement = s }
 
 abbrev pub unaligned : ℕ → Option AsmFault
 unaligned n = if n % 4 == 0 then None else Some Range
 
--- instructions stand only in code; they and words need a place divisible by 4
+-- the fault of a statement at an address: instructions are allowed only in code; they and words need alignment to 4
 abbrev pub misplacement : Section → ℕ → Stmt → Option AsmFault
 misplacement Code n (instruction i) = unaligned n
 misplacement Local n (instruction i) = Some Form
@@ -154,11 +154,11 @@ place_line at line = lifted (line_of line) >>= place_said at
 abbrev pub value_of : Labels → List ℕ → Result Symbol AsmFault
 value_of labels name = ok_or (labels name) LabelMissing
 
--- %hi(label): what LUI or AUIPC takes so that adding %lo(label) gives the value
+-- %hi(label): the immediate of LUI or AUIPC to which adding %lo(label) gives the value
 abbrev pub high_part : ℕ → ℤ
 high_part v = pos ((v + 0x800) % 2 ^ 32 / 4096)
 
--- %lo(label): the low 12 bits as a signed number
+-- %lo(label): the low 12 bits, as a signed number
 abbrev pub low_part : ℕ → ℤ
 low_part v = pos ((v + 0x800) % 4096) -ℤ pos 0x800
 
@@ -167,11 +167,11 @@ abbrev pub part_of : (ℕ → ℤ) → Labels → Val → Result ℤ AsmFault
 part_of part labels (number z) = Ok z
 part_of part labels (label name) = value_of labels name >>= λ symbol. Ok (part symbol.address)
 
--- the way from the instruction's own place
+-- the offset from the instruction's own address
 abbrev pub offset_from : (at : ℕ) → ℕ → ℤ
 offset_from at v = pos v -ℤ pos at
 
--- a target as the offset from the instruction's own place: even, and in range
+-- the offset of a target from the instruction's own address, which has to be even and in range
 unfoldable pub offset_of : (least most : ℤ) → Labels → (at : ℕ) → Val → Result ℤ AsmFault
 offset_of least most labels at target = do
   z ← part_of (offset_from at) labels target
@@ -192,7 +192,7 @@ branch_field labels at v = offset_of (negsuc 4095) (pos 4094) labels at v >>= λ
 abbrev pub jump_field : Labels → (at : ℕ) → Val → Result ℕ AsmFault
 jump_field labels at v = offset_of (negsuc 1048575) (pos 1048574) labels at v >>= λ z. Ok (low_bits (2 ^ 21) z / 2)
 
--- an instruction at its place, each label with its value
+-- an instruction at its address, with the values of its labels
 abbrev pub insn_at : Labels → (at : ℕ) → Instr → Result Insn AsmFault
 insn_at labels at (whole i) = Ok i
 insn_at labels at (op_imm op rd rs1 v) = lower_field labels v >>= λ f. Ok (OpImm op rd rs1 f)
@@ -226,25 +226,25 @@ abbrev pub option_bytes : Labels → ℕ → Option Stmt → Result (List ℕ) A
 option_bytes labels at None = Ok []
 option_bytes labels at (Some s) = statement_bytes labels at s
 
--- bytes, and the section in which they stand
+-- bytes, and their section
 abbrev pub Piece : Type 0
 Piece = Section × List ℕ
 
--- what a statement at its place puts there
+-- what a statement places at its place
 unfoldable pub piece_of : Labels → Placed → Result Piece AsmFault
 piece_of labels p = option_bytes labels p.address p.statement >>= λ bs. Ok (p.section, bs)
 
 -- ---- the whole text
 
--- the lines end with LF; the last LF is optional, since a last line that is empty says nothing
+-- the lines of a text, which end with LF; the last LF is optional, since an empty last line places nothing
 abbrev pub lines_of : List ℕ → List (List ℕ)
 lines_of text = parts_at 10 text
 
--- what a line at its place puts there, or its fault
+-- what a line places at its place, or its fault
 abbrev pub line_piece : Labels → Place → List ℕ → Result Piece AsmFault
 line_piece labels at line = place_line at line >>= piece_of labels
 
--- what each line places, or its fault
+-- what each line places, or its fault, from a place on
 abbrev pub pieces_from : Labels → Place → List (List ℕ) → List (Result Piece AsmFault)
 pieces_from labels at [] = []
 pieces_from labels at (line ∷ lines) = line_piece labels at line ∷ pieces_from labels (after at line) lines
@@ -256,7 +256,7 @@ labels_of lines = (fold after start lines).labels
 unfoldable pub pieces_of : List (List ℕ) → List (Result Piece AsmFault)
 pieces_of lines = pieces_from (labels_of lines) start lines
 
--- whether two sections are one
+-- whether two sections are the same
 abbrev pub same_section : Section → Section → Bool
 same_section Code Code = true
 same_section Local Local = true
@@ -271,13 +271,13 @@ bytes_in s (Err f) = []
 abbrev pub section_bytes : Section → List (Result Piece AsmFault) → List ℕ
 section_bytes s pieces = flat_map (bytes_in s) pieces
 
--- the value of `start` where it is a label in code with a value divisible by 4
+-- the value of `start` if it is a label in code divisible by 4, else the first address of code
 abbrev pub entry_of : Option Symbol → ℕ
 entry_of None = 0x0001_0000
 entry_of (Some symbol) = if same_section symbol.section Code
     && (symbol.address % 4 == 0) then symbol.address else 0x0001_0000
 
--- The layout is what the text means: no line has a fault, and each section has the bytes that the lines place.
+-- The text means the layout: no line has a fault, and each section has the bytes that the lines place.
 pub record IsMeaning (text : List ℕ) (layout : Layout) : Type 0 where
   pub faultless : All IsOk (pieces_of (lines_of text))
   pub code : layout.code ≡ section_bytes Code (pieces_of (lines_of text))
@@ -285,12 +285,12 @@ pub record IsMeaning (text : List ℕ) (layout : Layout) : Type 0 where
   pub shared : layout.shared ≡ section_bytes Shared (pieces_of (lines_of text))
   pub entry : layout.entry ≡ entry_of (labels_of (lines_of text) (codes "start"))
 
--- Each section fits into its region, which has that many bytes.
+-- Each section fits into its region.
 pub record FitsRegions (layout : Layout) : Type 0 where
   pub code : length layout.code ≤ 65536
   pub local : length layout.local ≤ 65536
   pub shared : length layout.shared ≤ 786432
 
--- The line, counted from 1, has that fault.
+-- The line, counted from 1, has this fault.
 abbrev pub IsPresent : List ℕ → AsmError → Type 0
 IsPresent text e = (0 < e.line) × (slice_get (pieces_of (lines_of text)) (e.line - 1) ≡ Some (Err e.fault))

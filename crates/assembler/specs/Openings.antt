@@ -1,4 +1,4 @@
--- The flat state that a text means: what a machine opens with on it, address by address.
+-- The flat state with which a machine opens on a text, address by address.
 use Rattle.std.specs.Prelude.{◌≡◌, ◌⊎◌, ℕ, ◌-◌, ◌/◌, ◌%◌, ◌^◌, true, nat_lt, List, length, Option, Some, slice_get}
 use Rattle.std.specs.Prelude.{slice_index, codes, if◌then◌else◌}
 use Rattle.flat_machine.specs.declared.config.Config.{Config}
@@ -15,18 +15,18 @@ use Rattle.asm_lines.specs.declared.statement.Section.{Section}
 use Rattle.asm_lines.specs.declared.statement.Section.TheVariants.{Code, Local, Shared}
 use Rattle.assembler.specs.Meaning.{base_of, lines_of, pieces_of, section_bytes, labels_of, entry_of}
 
--- where a text starts: its label `start`, or the first address of code
+-- the entry of a text: its label `start`, or the first address of code
 abbrev pub text_entry : (text : List ℕ) → ℕ
 text_entry text = entry_of (labels_of (lines_of text) (codes "start"))
 
--- what a text has at an address of a section: the byte that it places there, and zero after the last one
+-- the byte that a text places at an address of a section; zero after the last byte
 abbrev pub placed_byte : (text : List ℕ) → Section → (address : ℕ) → ℕ
 placed_byte text s address =
     let bytes = section_bytes s (pieces_of (lines_of text)) in
     let place = address - base_of s in
     if nat_lt place (length bytes) then slice_index bytes place else 0
 
--- A processor opens on the text: it stands at the entry, its registers are zero, and it runs.
+-- A processor opens on the text: it runs at the entry, its registers are zero, and its local memory is the text's.
 pub record IsTextProcessor (text : List ℕ) (p : Processor) : Type 0 where
   pub pc : p.pc ≡ text_entry text
   pub registers : length p.registers ≡ 32
@@ -48,8 +48,8 @@ pub record IsTextOpening (text : List ℕ) (config : Config) (m : FlatState) : T
   pub code : (address : ℕ) → in_code address ≡ true →
       slice_index m.code (address % 2 ^ 16) ≡ placed_byte text Code address
 
--- Reading the bytes for a configuration gives an image on which a machine opens as on the text. There is such an image,
--- and the only errors are the link's and out of memory.
+-- Reading the bytes for a configuration gives an image on which a machine opens as on the text. Such an image exists,
+-- and the only errors are a fault of the link and out of memory.
 pub record IsReadAsText (text : List ℕ) (config : Config) (file : List ℕ) : Type 0 where
   pub accepted : IsAccepted config.shared_words file
   pub meant : (layout : Layout) × IsMeant config.shared_words file layout

@@ -1,4 +1,4 @@
--- What `%hi` and `%lo` of a label are in a processor.
+-- What `%hi` and `%lo` of a label do in a processor.
 use Rattle.std.specs.Prelude.{◌≡◌, ℕ, ◌*◌, ◌^◌, List, Ok}
 use Rattle.rv_table.specs.declared.insn.Insn.TheVariants.{OpImm, Load, Store, Upper}
 use Rattle.rv_table.specs.declared.operation.UpperOp.TheVariants.{Lui}
@@ -11,9 +11,8 @@ use Rattle.flat_machine.specs.Effects.{effect_of, register_of}
 use Rattle.asm_lines.specs.Statements.{label, op_imm, load, store, upper}
 use Rattle.assembler.specs.Meaning.{Labels, insn_at}
 
--- The immediates of instructions that name a label by `%hi` and by `%lo`, wherever they stand: what LUI leaves in a
--- register, and what ADDI adds to it, make the value. So a load or a store from there refers to the value as an
--- address.
+-- The immediates that `%hi` and `%lo` of a label give, at any address, make its value: LUI with the first and then ADDI
+-- with the second leave it in a register, and after LUI, a load or a store with the second refers to it.
 pub record MakeValue (labels : Labels) (name : List ℕ) (value : ℕ) : Type 0 where
   pub high : ℕ
   pub low : ℕ

@@ -1,4 +1,4 @@
--- What the code keeps between its two passes, in the terms of the meaning.
+-- What the code keeps between its two passes, in the terms of the meaning of texts.
 use Rattle.std.specs.Prelude.{ℕ, ℤ, pos, List, map, Option, Result}
 use Rattle.std.specs.BTreeMap.{get_by, BTreeMap}
 use Rattle.std.specs.Borrow.{Bor}
@@ -34,18 +34,18 @@ nows parts = map (λ (part : Bor (List ℕ)). part.now) parts
 abbrev pub name_of : Option (Bor (List ℕ)) → Option (List ℕ)
 name_of name = option_map (λ (n : Bor (List ℕ)). n.now) name
 
--- what an immediate takes of a label's value
+-- the part of a label's value that an immediate takes
 abbrev pub taken : Part → ℕ → ℤ
 taken parts.Whole v = pos v
 taken parts.High v = high_part v
 taken parts.Low v = low_part v
 taken (parts.Offset at) v = offset_from at v
 
--- what a statement at a line's place puts there
+-- what a line's statement places at the line's place
 unfoldable pub statement_piece : Labels → LineAt → Option Stmt → Result Piece AsmFault
 statement_piece labels p statement =
     piece_of labels (record { section = p.section; address = p.address; statement = statement })
 
--- what a line at its place puts there
+-- what a line places at its place
 unfoldable pub piece_at : Labels → LineAt → Result Piece AsmFault
 piece_at labels p = lifted (line_of p.line.now) >>= λ said. statement_piece labels p said.statement

@@ -1,4 +1,4 @@
-//! What the first pass keeps.
+//! The state of the first pass.
 
 ghost use Rattle.std.specs.Prelude.{◌≤◌};
 
@@ -15,7 +15,7 @@ pub struct LineAt<'a> {
     pub line: &'a [u8],
 }
 
-/// Where the next line stands: its section, how many bytes each section has, and the labels so far.
+/// The place of the next line: its section, how many bytes each section has, and the labels so far.
 #[derive(Drop)]
 pub struct Cursor<'a> {
     pub section: Section,

@@ -1,4 +1,4 @@
-//! Instructions to their text.
+//! From instructions to their text.
 
 ghost use Rattle.std.specs.Prelude.{◌≡◌, ◌≤◌, ◌<◌, ◌+◌, ◌*◌, ◌^◌, ◌++◌, ◌∷◌, [], length};
 ghost use Rattle.std.specs.Fmt.{signed_decimal};
@@ -11,7 +11,7 @@ use asm_lines::{Mnemonic, Order, x_name};
 use itoa::Buffer;
 use rv_table::{Immediate, Insn, Register};
 
-/// The number of a field in two's complement, whose sign bit has this weight.
+/// The number that a field means in two's complement, where the sign bit has the weight `sign`.
 fn sign_extend(sign: u32, field: u32) -> i32
     requires field { field < 2 * sign }
     requires sign { sign < 2 ^ 30 }
@@ -24,21 +24,21 @@ fn sign_extend(sign: u32, field: u32) -> i32
     }
 }
 
-/// An I- or S-immediate.
+/// The number in an I- or S-immediate.
 fn immediate(imm: Immediate<12>) -> i32
     ensures { result ≡ signed (2 ^ 11) imm }
 {
     sign_extend(0x800, imm.field())
 }
 
-/// The way that a branch takes, in bytes.
+/// The offset of a branch, in bytes.
 fn branch_offset(steps: Immediate<12>) -> i32
     ensures { result ≡ offset (2 ^ 11) steps }
 {
     sign_extend(0x1000, 2 * steps.field())
 }
 
-/// The way that a jump takes, in bytes.
+/// The offset of a jump, in bytes.
 fn jump_offset(steps: Immediate<20>) -> i32
     ensures { result ≡ offset (2 ^ 19) steps }
 {
@@ -55,7 +55,7 @@ fn put_mnemonic(insn: &Insn, text: &mut ArrayString<48>)
     text.push_str(Order::of(insn).suffix());
 }
 
-/// Adds the first operand, a register.
+/// Appends the first operand, a register.
 fn put_first(text: &mut ArrayString<48>, register: Register)
     requires { array_string_len text.old + 4 ≤ 48 }
     ensures bytes { text.new.bytes ≡ text.old.bytes ++ 32 ∷ x_name register }
@@ -65,7 +65,7 @@ fn put_first(text: &mut ArrayString<48>, register: Register)
     text.push_str(x_name(register));
 }
 
-/// Adds a further operand, a register.
+/// Appends another operand, a register.
 fn put_register(text: &mut ArrayString<48>, register: Register)
     requires { array_string_len text.old + 5 ≤ 48 }
     ensures bytes { text.new.bytes ≡ text.old.bytes ++ 44 ∷ 32 ∷ x_name register }
@@ -75,7 +75,7 @@ fn put_register(text: &mut ArrayString<48>, register: Register)
     text.push_str(x_name(register));
 }
 
-/// Adds a further operand, a number.
+/// Appends another operand, a number.
 fn put_number(text: &mut ArrayString<48>, number: i32)
     requires { array_string_len text.old + 13 ≤ 48 }
     ensures bytes { text.new.bytes ≡ text.old.bytes ++ 44 ∷ 32 ∷ signed_decimal number }
@@ -85,7 +85,7 @@ fn put_number(text: &mut ArrayString<48>, number: i32)
     text.push_str(Buffer::new().format(number));
 }
 
-/// Adds a register in brackets.
+/// Appends a register in brackets.
 fn put_base(text: &mut ArrayString<48>, register: Register)
     requires { array_string_len text.old + 5 ≤ 48 }
     ensures { text.new.bytes ≡ text.old.bytes ++ in_brackets [] (x_name register) }
@@ -95,7 +95,7 @@ fn put_base(text: &mut ArrayString<48>, register: Register)
     text.push_str(")");
 }
 
-/// Adds a further operand, as `imm(rs1)`.
+/// Appends another operand, of the form `imm(rs1)`.
 fn put_address(text: &mut ArrayString<48>, imm: Immediate<12>, rs1: Register)
     requires { array_string_len text.old + 18 ≤ 48 }
     ensures { text.new.bytes ≡ text.old.bytes
@@ -105,8 +105,8 @@ fn put_address(text: &mut ArrayString<48>, imm: Immediate<12>, rs1: Register)
     put_base(text, rs1);
 }
 
-/// Replaces the text by that of the instruction, with registers as `x0` to `x31` and numbers in
-/// decimal. No instruction needs more than 48 bytes.
+/// Replaces `text` by the text of the instruction, with registers as `x0` to `x31` and numbers in decimal. No
+/// instruction needs more than 48 bytes.
 #[tactic(auto, unfolding(asm_lines::specs::Written::text_of))]
 pub fn disassemble(insn: &Insn, text: &mut ArrayString<48>)
     ensures { text.new.bytes ≡ text_of insn.now }

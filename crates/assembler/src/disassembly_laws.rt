@@ -1,4 +1,4 @@
-//! A law of what the text of an instruction means.
+//! The law of disassembly.
 
 ghost use Rattle.std.specs.Prelude.{[]};
 ghost use Rattle.asm_lines.specs.Written.{text_of};
@@ -10,13 +10,13 @@ use decode::encode;
 use flat_machine::CODE_START;
 use rv_table::Insn;
 
-/// The text of an instruction, as `disassemble` writes it, means the instruction's one word.
+/// The text of an instruction, as `disassemble` writes it, means the instruction's word, which this returns.
 pub fn disassembled_again(insn: &Insn) -> u32
     ensures word { Spells result insn.now }
     ensures meaning { IsMeaning (text_of insn.now)
         (record { entry = CODE_START; code = word_bytes result; local = []; shared = [] }) }
 {
-    // Laws of lines, for the proof alone.
+    // Laws of lines, only for the proof.
     laws::fields_again();
     laws::written_again();
     encode(insn)

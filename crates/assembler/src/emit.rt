@@ -1,4 +1,4 @@
-//! The second pass: the bytes of each line at its place.
+//! The second pass: the bytes of each line.
 
 ghost use Rattle.std.specs.Prelude.{◌≡◌, ◌≢◌, ◌++◌, ◌<◌, ◌-◌, pos, Err, Some, IsOk, IfOk, IfErr, OnOk, IsOkAnd, All};
 ghost use Rattle.std.specs.Prelude.{map, slice_get};
@@ -18,7 +18,7 @@ use elf_image::{Bytes, Layout};
 use std::alloc::Global;
 use std::collections::BTreeMap;
 
-/// Adds the bytes of words.
+/// Appends the bytes of words.
 fn emit_words<'a>(
     labels: &BTreeMap<&'a [u8], Symbol>,
     values: &[Value<'a>],
@@ -37,7 +37,7 @@ fn emit_words<'a>(
     Ok(())
 }
 
-/// Adds the bytes of a statement at its address.
+/// Appends the bytes of a statement at its address.
 fn emit_statement<'a>(
     labels: &BTreeMap<&'a [u8], Symbol>,
     at: u32,
@@ -62,7 +62,7 @@ fn emit_statement<'a>(
     Ok(())
 }
 
-/// Adds the bytes of a statement at a line's place to the line's section.
+/// Appends the bytes of a line's statement to the line's section.
 #[tactic(auto, unfolding(crate::specs::Meaning::piece_of, crate::specs::Passes::statement_piece))]
 fn emit_in_section<'a>(
     labels: &BTreeMap<&'a [u8], Symbol>,
@@ -89,7 +89,7 @@ fn emit_in_section<'a>(
     }
 }
 
-/// Adds the bytes of a line to its section.
+/// Appends the bytes of a line to its section.
 #[tactic(auto, unfolding(crate::specs::Meaning::piece_of, crate::specs::Passes::statement_piece, crate::specs::Passes::piece_at))]
 fn emit_line<'a>(
     alloc: Global,
@@ -117,7 +117,7 @@ fn emit_line<'a>(
     }
 }
 
-/// The bytes of each section, with this entry.
+/// Returns the layout with the bytes of all lines and this entry.
 pub fn emit_lines<'a>(
     alloc: Global,
     labels: &BTreeMap<&'a [u8], Symbol>,

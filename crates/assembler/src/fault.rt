@@ -8,33 +8,33 @@ use asm_lines::LineFault;
 use std::alloc::{AllocError, AllocFailed};
 use thiserror::Error;
 
-/// What is wrong with a line, or that memory was short at it.
+/// What is wrong with a line, or out of memory.
 #[derive(Clone, Copy, Debug, PartialEq, Eq, Drop, Error)]
 pub enum AsmFault {
-    /// The first word of the statement is no mnemonic and no directive.
+    /// The first word of the statement is neither a mnemonic nor a directive.
     #[error("A1")]
     UnknownWord,
     /// Any other fault of form, or an instruction outside code.
     #[error("A2")]
     Form,
-    /// A number out of range, a target odd or too far, or a place not divisible by 4.
+    /// A number is out of range, a target is odd or too far, or a place is not divisible by 4.
     #[error("A3")]
     Range,
-    /// A label that stands on a line before.
+    /// An earlier line has the same label.
     #[error("A4")]
     LabelTwice,
-    /// A label that stands on no line.
+    /// No line has the label.
     #[error("A5")]
     LabelMissing,
     /// The section has no room for the statement.
     #[error("A6")]
     SectionFull,
-    /// There was no memory.
+    /// Out of memory.
     #[error("A7")]
     Memory,
 }
 
-/// Why a text was not assembled.
+/// Why a text could not be assembled.
 #[derive(Clone, Copy, Debug, PartialEq, Eq, Drop, Error)]
 #[error("{fault} line {line}")]
 pub struct AsmError {
@@ -45,7 +45,7 @@ pub struct AsmError {
 }
 
 impl AsmFault {
-    /// The fault of a line by itself.
+    /// The fault of a text with this fault in a line.
     pub fn of(fault: LineFault) -> AsmFault
         ensures { result ≡ fault_of fault }
     {

@@ -1,4 +1,4 @@
-//! Laws of what a text means.
+//! Laws of the meaning of a text.
 
 ghost use Rattle.std.specs.Prelude.{◌≡◌, ◌≤◌, ◌<◌, ◌*◌, ◌^◌, ℕ, true, List, length, Some};
 ghost use Rattle.flat_machine.specs.declared.config.Config.{Config};
@@ -18,19 +18,18 @@ pub fn fault_or_meaning()
     ensures { (text : List ℕ) (layout : Layout) (e : AsmError) → IsMeaning text layout → IsPresent text e → ⊥ }
 {}
 
-/// A text has one meaning at most.
+/// A text has at most one meaning.
 pub fn one_meaning()
     ensures { (text : List ℕ) (one other : Layout) → IsMeaning text one → IsMeaning text other → one ≡ other }
 {}
 
-/// What a text means fits into the regions of the memory.
+/// The meaning of a text fits into the regions of memory.
 pub fn meaning_fits()
     ensures { (text : List ℕ) (layout : Layout) → IsMeaning text layout → FitsRegions layout }
 {}
 
-/// `%hi` and `%lo` of a label give its value back: what LUI leaves in a register by the one, ADDI makes
-/// the value by the other, and a load or a store from there refers to it. In a text that has a meaning
-/// this holds of each label.
+/// `%hi` and `%lo` of a label give back its value: after LUI with the first, ADDI with the second makes the value, and
+/// a load or a store with the second refers to it. In a text with a meaning this holds of every label.
 pub fn high_and_low_make_the_value()
     ensures value { (labels : Labels) (name : List ℕ) (symbol : Symbol) → labels name ≡ Some symbol
         → symbol.address < 2 ^ 32 → MakeValue labels name symbol.address }
@@ -38,16 +37,16 @@ pub fn high_and_low_make_the_value()
         → labels_of (lines_of text) name ≡ Some symbol → MakeValue (labels_of (lines_of text)) name symbol.address }
 {}
 
-/// From text to image to flat state: where a text has a meaning, the entry lies in code and the shared
-/// section fits the configuration, the spelling of its layout is accepted, and is read for that
-/// configuration (a fault of the link and out of memory aside). The machine that opens on what was
-/// read stands at the entry with all processors, and has at each address what the text places there.
+/// From text to image to flat state. If a text has a meaning, with an entry in code and a shared section that fits the
+/// configuration, the spelling of its layout is accepted and read for that configuration, unless the link fails or
+/// memory runs out. The machine that opens on what was read has all processors at the entry, and at each address what
+/// the text places there.
 pub fn image_opens_on_the_text()
     ensures { (config : Config) (text : List ℕ) (layout : Layout) → IsMeaning text layout
         → in_code layout.entry ≡ true → length layout.shared ≤ 4 * config.shared_words
         → IsReadAsText text config (spelling layout) }
 {
-    // Laws of images, for the proof alone.
+    // Laws of images, only for the proof.
     laws::input_means_one_layout();
     laws::machine_opens_on_the_layout();
     laws::not_refused_is_accepted();

@@ -1,35 +1,32 @@
-//! Assembler text to a program, and instructions to their text.
+//! An assembler from text to a program, and a disassembler from instructions to their text.
 //!
-//! What a text means is `specs/Meaning.antt`, line by line at the places that the lines before have
-//! left, with label values from the whole text. The code works in two passes: the first finds the
-//! place of each line and the value of each label, the second the bytes.
+//! `specs/Meaning.antt` defines what a text means, line by line. The lines before a line determine its place, and the
+//! whole text determines the values of labels. The code works in two passes: the first finds the place of each line and
+//! the value of each label, the second finds the bytes.
 //!
-//! [`Program::to_elf`] gives a program's image file. `specs/Openings.antt` says with what a machine
-//! opens on a text, address by address, and the law [`image_opens_on_the_text`] that it does so on the
-//! image file.
+//! [`Program::to_elf`] makes a program's image file. `specs/Openings.antt` says, address by address, what a machine that
+//! opens on a text has. The law [`image_opens_on_the_text`] shows that a machine opens so on the image file.
 //!
 //! [`disassemble`] writes the text that `asm_lines` defines for an instruction (`text_of`). The law
-//! [`disassembled_again`] says that the text means the instruction's one word.
+//! [`disassembled_again`] shows that this text means the word that spells the instruction.
 //!
 //! # The language
 //!
-//! - Lines end with LF; the last LF is optional. `#` begins a comment up to the line's end. Blanks are
-//!   spaces and tabs. They may stand at a line's ends and round each comma, bracket and colon, and one
-//!   at least stands between a statement's first word and its operands.
-//! - A line is an optional label, `name:`, and an optional statement. A name is a letter or `_` and then
-//!   letters, digits and `_`, all ASCII.
-//! - `.code` (from 0x00010000, at most 65,536 bytes), `.local` (from 0x00020000, at most 65,536) and
-//!   `.shared` (from 0x80000000, at most 786,432) go on where that section ended. The text begins in
-//!   `.code`.
-//! - `.word v, ..` places words, numbers from -2^31 to 2^32 - 1 or labels; `.byte v, ..` bytes, from
-//!   -128 to 255; `.zero n` n zero bytes, n at most 1,048,576. Instructions stand only in code. They
-//!   and `.word` need a place divisible by 4.
-//! - A number is decimal digits after an optional `-`, or `0x` and hex digits. A register is `x0` to
-//!   `x31` or a name by use, as `a0`.
-//! - A label's value is the address of the next byte of its section at its line. `%hi(label)` stands
-//!   where an upper immediate stands, `%lo(label)` where an I- or S-immediate stands. A target is a
-//!   label, or a number that is the offset itself.
-//! - The entry is the value of `start`, where that is a label in code divisible by 4, else 0x00010000.
+//! - Lines end with LF; the last LF is optional. `#` begins a comment, up to the end of the line. Blanks are spaces and
+//!   tabs. They are allowed at both ends of a line and around each comma, bracket and colon. At least one blank
+//!   separates the first word of a statement from its operands.
+//! - A line is an optional label, `name:`, and an optional statement. A name is a letter or `_`, followed by letters,
+//!   digits and `_`, all ASCII.
+//! - `.code` (from 0x00010000, at most 65,536 bytes), `.local` (from 0x00020000, at most 65,536) and `.shared` (from
+//!   0x80000000, at most 786,432) continue their section. A text begins in `.code`.
+//! - `.word v, ..` places words: numbers from -2^31 to 2^32 - 1, or labels. `.byte v, ..` places bytes, from -128 to
+//!   255. `.zero n` places n zero bytes, n at most 1,048,576. Instructions are allowed only in code. The addresses of
+//!   instructions and of words must be divisible by 4.
+//! - A number is decimal digits after an optional `-`, or `0x` and hex digits. A register is `x0` to `x31` or an ABI
+//!   name, such as `a0`.
+//! - The value of a label is the address of the next byte of its section at its line. `%hi(label)` may be an upper
+//!   immediate, and `%lo(label)` an I- or S-immediate. A target is a label, or a number: the offset itself.
+//! - The entry is the value of `start` if that is a label in code divisible by 4, and 0x00010000 otherwise.
 //!
 //! | Instruction | Text | Range |
 //! |---|---|---|
@@ -45,8 +42,8 @@
 //! | `ecall`, `ebreak` | `ecall` | |
 //! | atomic memory operations | `op rd, rs2, (rs1)`, with `.aq`, `.rl` or `.aqrl` after `op` | |
 //!
-//! Source of register names, `%hi` and `%lo`: The RISC-V Instruction Set Manual, Volume I, "RISC-V
-//! Assembly Programmer's Handbook". The rest is this project's own.
+//! Source of register names, `%hi` and `%lo`: The RISC-V Instruction Set Manual, Volume I, "RISC-V Assembly
+//! Programmer's Handbook". The rest is this project's own.
 #![tactic(auto)]
 
 mod cursor;

@@ -1,4 +1,4 @@
-//! A text to a program.
+//! From a text to a program.
 
 ghost use Rattle.std.specs.Prelude.{◌≡◌, ◌≢◌, IfOk, IfErr, codes};
 ghost use Rattle.assembler.specs.declared.fault.AsmFault.TheVariants.{Memory};
@@ -16,7 +16,7 @@ use flat_machine::CODE_START;
 use std::alloc::Global;
 use std::collections::BTreeMap;
 
-/// The value of the label `start`, if it is an instruction's address, else the first address of code.
+/// The value of the label `start` if it is an address in code divisible by 4, else the first address of code.
 fn entry_of<'a>(labels: &BTreeMap<&'a [u8], Symbol>) -> u32
     ensures { result ≡ entry_of (label_values labels.now (codes "start")) }
 {
@@ -31,16 +31,15 @@ fn entry_of<'a>(labels: &BTreeMap<&'a [u8], Symbol>) -> u32
     }
 }
 
-/// The program that the text means.
+/// Assembles a text: returns the program that it means.
 ///
-/// Lines end with LF. A line is an optional label and an optional statement, and `#` begins a comment
-/// up to its end. `.code`, `.local` and `.shared` name the section in which the next lines stand,
-/// `.word`, `.byte` and `.zero` place data, and an instruction stands in code.
+/// Lines end with LF. A line is an optional label and an optional statement, and `#` begins a comment up to its end.
+/// `.code`, `.local` and `.shared` name the section of the lines that follow, `.word`, `.byte` and `.zero` place data,
+/// and instructions are allowed in code.
 ///
 /// # Errors
 ///
-/// A line of the text and a fault that it has (of several, any), or [`AsmFault::Memory`] where memory
-/// was short.
+/// A line of the text and its fault (any one, if the text has several), or [`AsmFault::Memory`] if out of memory.
 pub fn assemble(alloc: Global, text: &str) -> Result<Program, AsmError>
     ensures meaning { IfOk result (λ program. IsMeaning text.now program) }
     ensures fault { IfErr result (λ e. e.fault ≢ Memory → IsPresent text.now e) }
@@ -54,7 +53,7 @@ pub fn assemble(alloc: Global, text: &str) -> Result<Program, AsmError>
     let (placed, cursor) = place_lines(alloc, &lines)?;
     let entry = entry_of(&cursor.labels);
     let layout = emit_lines(alloc, &cursor.labels, &placed, entry)?;
-    // A law of texts, for the proof alone.
+    // A law of texts, only for the proof.
     laws::meaning_fits();
     Ok(Program::new(layout))
 }

@@ -1,4 +1,4 @@
-//! The first pass: each line at its place, and the labels.
+//! The first pass: the place of each line, and the labels.
 
 ghost use Rattle.std.specs.Prelude.{◌≡◌, ◌≢◌, ◌≤◌, ◌-◌, ℕ, IfOk, IfErr, OnOk, true, false, ◌<◌, Ok, Err, Some, fold};
 ghost use Rattle.std.specs.Prelude.{slice_get, map};
@@ -20,7 +20,7 @@ use std::alloc::Global;
 use std::collections::BTreeMap;
 
 impl<'a> Cursor<'a> {
-    /// The beginning of a text.
+    /// The place of a text's first line.
     pub fn new(alloc: Global) -> Cursor<'a>
         ensures { place_of result ≡ start }
     {
@@ -33,7 +33,7 @@ impl<'a> Cursor<'a> {
         }
     }
 
-    /// How many bytes the section has.
+    /// How many bytes the section has so far.
     fn count(&self) -> u32
         ensures { result ≡ count_of self.now.section (place_of self.now) }
     {
@@ -55,7 +55,7 @@ impl<'a> Cursor<'a> {
         }
     }
 
-    /// Goes after a statement, where it may stand here.
+    /// Advances past a statement, if it is allowed at this place and there is room for it.
     fn place_statement(&mut self, statement: &Statement<'_>) -> Result<(), AsmFault>
         ensures ok { OnOk result (place_statement (place_of self.old) (Some (stmt_of statement.now))
             ≡ Ok (placed_at (place_of self.old) (Some (stmt_of statement.now)))) }
@@ -102,7 +102,7 @@ impl<'a> Cursor<'a> {
         Ok(())
     }
 
-    /// Takes what a line says.
+    /// Advances past a line that is read: its label and its statement.
     #[tactic(auto, unfolding(crate::specs::Meaning::place_said, crate::specs::Meaning::after_said))]
     fn place_said(&mut self, said: &Line<'a>) -> Result<(), AsmFault>
         ensures ok { OnOk result (place_said (place_of self.old) (said_of said.now)
@@ -117,7 +117,7 @@ impl<'a> Cursor<'a> {
         }
     }
 
-    /// Takes the next line.
+    /// Reads the next line, advances past it, and returns it with its place.
     #[tactic(auto, unfolding(crate::specs::Passes::statement_piece, crate::specs::Passes::piece_at))]
     pub fn place_line(&mut self, alloc: Global, line: &'a [u8]) -> Result<LineAt<'a>, AsmFault>
         ensures ok { IfOk result (λ p. (ls : Labels) → line_piece ls (place_of self.old) line.now ≡ piece_at ls p) }
@@ -139,7 +139,7 @@ impl<'a> Cursor<'a> {
     }
 }
 
-/// Each line at its place, and the place after the last.
+/// Returns each line with its place, and the place after the last line.
 pub fn place_lines<'a>(
     alloc: Global,
     lines: &[&'a [u8]],

@@ -1,4 +1,4 @@
-//! What a text means.
+//! Programs: assembled texts.
 
 ghost use Rattle.std.specs.Prelude.{◌≡◌, IfOk, IsOkUnless};
 ghost use Rattle.elf_image.specs.Spellings.{spelling};
@@ -11,7 +11,7 @@ use link::Meter;
 use std::alloc::Global;
 use std::marker::Model;
 
-/// An assembled text, seen as what it places where. Each part fits into its region.
+/// An assembled text. Its model is its layout, each part of which fits into its region.
 #[derive(Debug, Drop)]
 pub struct Program {
     layout: Layout,
@@ -29,7 +29,7 @@ impl Model for Program {
 }
 
 impl Program {
-    /// The program that places this.
+    /// The program with this layout.
     pub(crate) fn new(layout: Layout) -> Self
         requires { FitsRegions layout }
         ensures { result ≡ layout }
@@ -49,13 +49,13 @@ impl Program {
     ///
     /// # Errors
     ///
-    /// [`AsmFault::Memory`] alone, where memory was short. Line 1 is named, since none is at fault.
+    /// Only [`AsmFault::Memory`], if out of memory. It names line 1, since no line is at fault.
     pub fn to_elf(&self, alloc: Global) -> Result<Vec<u8>, AsmError>
         ensures ok { IfOk result (λ file. file.items ≡ spelling self.now) }
         ensures err { IsOkUnless result (record { line = 1; fault = Memory }) }
     {
         let mut writer = Meter::new(Vec::new(alloc));
-        // A vector refuses bytes if out of memory alone.
+        // A vector refuses bytes only if out of memory.
         match write_image(&mut writer, &self.layout) {
             Ok(()) => Ok(writer.device),
             Err(_) => Err(AsmError {

@@ -1,4 +1,4 @@
-//! Where sections begin and how much room they have, and what a statement places in one.
+//! Where sections begin, how much room they have, and how much of it a statement takes.
 
 ghost use Rattle.std.specs.Prelude.{◌≡◌, ◌-◌, ◌^◌, min};
 ghost use Rattle.asm_lines.specs.Statements.{stmt_of};
@@ -19,7 +19,7 @@ pub fn base_of(section: Section) -> u32
     }
 }
 
-/// How many bytes a section may have.
+/// The largest number of bytes of a section.
 pub fn room_of(section: Section) -> u32
     ensures { result ≡ room_of section }
 {
@@ -29,7 +29,7 @@ pub fn room_of(section: Section) -> u32
     }
 }
 
-/// How many bytes a statement places; where they are more than a number can have, the greatest.
+/// How many bytes a statement places, or the largest `u64` if there are more.
 pub fn size_of(statement: &Statement<'_>) -> u64
     ensures { result ≡ min (size_of (stmt_of statement.now)) (2 ^ 64 - 1) }
 {
@@ -42,8 +42,8 @@ pub fn size_of(statement: &Statement<'_>) -> u64
     }
 }
 
-/// Why a statement may not stand at this address of a section: an instruction that is not in the code is a fault of
-/// form, and an instruction or words at an address that 4 does not divide are out of range.
+/// Why a statement is not allowed at this address of a section: an instruction outside code is a fault of form, and an
+/// instruction or words at an address not divisible by 4 are out of range.
 pub fn misplacement(section: Section, address: u64, statement: &Statement<'_>) -> Option<AsmFault>
     ensures { result ≡ misplacement section address (stmt_of statement.now) }
 {

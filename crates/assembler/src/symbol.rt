@@ -1,4 +1,4 @@
-//! What a label stands for.
+//! The symbol that a label names.
 
 use asm_lines::Section;
 

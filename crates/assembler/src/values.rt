@@ -1,4 +1,4 @@
-//! Labels with their values, and instructions that have theirs.
+//! The values of labels, and instructions with these values.
 
 ghost use Rattle.std.specs.Prelude.{◌≡◌};
 ghost use Rattle.asm_lines.specs.Number.{low_bits};
@@ -13,16 +13,16 @@ use asm_lines::{Instruction, Value, low_bits};
 use rv_table::{Immediate, Insn};
 use std::collections::BTreeMap;
 
-/// What an immediate takes of a label's value.
+/// The part of a label's value that an immediate takes.
 #[derive(Clone, Copy, Debug, PartialEq, Eq, Drop)]
 pub enum Part {
     /// The value itself.
     Whole,
-    /// `%hi`: what LUI or AUIPC takes so that adding `%lo` gives the value.
+    /// `%hi`: the immediate of LUI or AUIPC to which adding `%lo` gives the value.
     High,
-    /// `%lo`: the low 12 bits as a signed number.
+    /// `%lo`: the low 12 bits, as a signed number.
     Low,
-    /// The way to it from this address.
+    /// The offset from this address.
     Offset(u32),
 }
 
@@ -40,14 +40,14 @@ impl Part {
     }
 }
 
-/// What the label stands for.
+/// Returns the section and the value of a label.
 pub fn value_of<'a>(labels: &BTreeMap<&'a [u8], Symbol>, name: &'a [u8]) -> Result<Symbol, AsmFault>
     ensures { result ≡ value_of (label_values labels.now) name.now }
 {
     labels.get(&name).copied().ok_or(AsmFault::LabelMissing)
 }
 
-/// A number, or the part of a label's value.
+/// Returns a number, or a part of a label's value.
 pub fn number_of<'a>(
     labels: &BTreeMap<&'a [u8], Symbol>,
     part: Part,
@@ -64,7 +64,7 @@ pub fn number_of<'a>(
     }
 }
 
-/// An I- or S-immediate.
+/// Returns the field of an I- or S-immediate.
 fn lower<'a>(
     labels: &BTreeMap<&'a [u8], Symbol>,
     value: &Value<'a>,
@@ -75,7 +75,7 @@ fn lower<'a>(
     Ok(Immediate::new(low_bits(0x1000, number) as u32))
 }
 
-/// A U-immediate.
+/// Returns the field of a U-immediate.
 fn upper<'a>(
     labels: &BTreeMap<&'a [u8], Symbol>,
     value: &Value<'a>,
@@ -86,7 +86,7 @@ fn upper<'a>(
     Ok(Immediate::new(low_bits(0x10_0000, number) as u32))
 }
 
-/// A target as the way to it: even, from `least` to `most`.
+/// Returns the offset of a target. It has to be even, and from `least` to `most`.
 #[tactic(auto, unfolding(crate::specs::Meaning::offset_of))]
 fn offset_of<'a>(
     least: i64,
@@ -104,7 +104,7 @@ fn offset_of<'a>(
     Ok(offset)
 }
 
-/// The target of a branch, in steps of two bytes.
+/// Returns the offset of a branch's target, in steps of two bytes.
 fn branch_field<'a>(
     labels: &BTreeMap<&'a [u8], Symbol>,
     at: u32,
@@ -116,7 +116,7 @@ fn branch_field<'a>(
     Ok(Immediate::new((low_bits(0x2000, offset) / 2) as u32))
 }
 
-/// The target of a jump, in steps of two bytes.
+/// Returns the offset of a jump's target, in steps of two bytes.
 fn jump_field<'a>(
     labels: &BTreeMap<&'a [u8], Symbol>,
     at: u32,
@@ -128,12 +128,11 @@ fn jump_field<'a>(
     Ok(Immediate::new((low_bits(0x20_0000, offset) / 2) as u32))
 }
 
-/// An instruction at its place, each label with its value.
+/// Returns an instruction at its address, with the values of its labels.
 ///
 /// # Errors
 ///
-/// [`AsmFault::LabelMissing`] where its label stands on no line, [`AsmFault::Range`] where its target
-/// is odd or too far.
+/// [`AsmFault::LabelMissing`] if no line has its label; [`AsmFault::Range`] if its target is odd or too far.
 pub fn insn_at<'a>(
     labels: &BTreeMap<&'a [u8], Symbol>,
     at: u32,

@@ -1,5 +1,5 @@
--- Of two logs of one image, where the steps that one was asked for go on where those of the other stop, and the other has ended
--- there: both enter the same.
+-- Two logs of one image enter the same steps if one is asked for the steps of the other and more, and the other has ended
+-- there.
 use Rattle.std.proofs.Common.{◌≡◌, ℕ, ◌^◌, ◌<◌, ◌≤◌, ◌⊎◌, inl, inr, List, [], ◌∷◌, ◌++◌, length, take, refl, sym, ap, ap₂, ◌∙◌, subst, arith}
 use Rattle.std.proofs.lemmas.Bool.{cases_lt}
 use Rattle.std.proofs.lemmas.List.{append-nil, length-append, take_at}
@@ -17,7 +17,7 @@ use Rattle.schedules.specs.Sweeps.{IsFault, IsOver, RunsAfter, entered_of, statu
 use Rattle.schedules.proofs.Asking.{asked_append, none_asked}
 use Rattle.schedules.proofs.Own.{own_behind, own_entered}
 
--- what is no longer than before is what was before
+-- If no more steps are entered than there were, the steps are those that there were.
 no_longer : (m : MachineLists) (done asked : List Step) → AreOwn asked → length (entered_of m done asked) ≤ length done → entered_of m done asked ≡ done
 no_longer m done asked own short = by (own_entered m done asked own)
   where
@@ -25,7 +25,7 @@ no_longer m done asked own short = by (own_entered m done asked own)
     by ([], o, is) = is ∙ append-nil done
     by (x ∷ rest, o, is) = absurd (let count = ap length is in let more = length-append done (x ∷ rest) in omega (arith, count, more, short))
 
--- ---- machines that are one
+-- ---- equal machines
 
 module _ (m n : MachineLists) (config : m.config ≡ n.config) (code : m.code ≡ n.code) (machine : machine_of m (λ p. []) ≡ machine_of n (λ p. [])) where
   same_answer : (done : List Step) (s : Step) → answer_after m done s ≡ answer_after n done s
@@ -49,7 +49,7 @@ module _ (m n : MachineLists) (config : m.config ≡ n.config) (code : m.code �
 
 -- ---- two logs
 
--- A log whose machine opened on the image was asked for these steps, this many at most, and then drained. It was not over before.
+-- A log whose machine opened on the image was asked for these steps, up to the limit, and then drained. It was not over before.
 pub record WasAskedFor (c : Config) (image : ImageContents) (limit : ℕ) (asked : List Step) (middle log : Log) : Type 0 where
   -- Its machine opened on the image.
   pub opens : IsOpening c image log.opening
@@ -66,7 +66,7 @@ pub record WasAskedFor (c : Config) (image : ImageContents) (limit : ℕ) (asked
   -- Then come the steps of the drain of the middle log's machine.
   pub drained : log.steps ≡ middle.steps ++ drain_steps middle.machine
 
--- it is over, or it has all the steps that it may, or no more were to be asked for
+-- The sweep is over, or has as many steps as the limit, or no more steps were to be asked for.
 abbrev pub HasEnded : (limit : ℕ) → (opening : MachineLists) → (steps rest : List Step) → Type 0
 HasEnded limit m steps rest = IsOver m 0 steps ⊎ ((length steps ≡ limit) ⊎ (rest ≡ []))
 
@@ -96,7 +96,7 @@ module _ {c : Config} {image : ImageContents} {limit : ℕ} {xs ys : List Step} 
       own : AreOwn rest
       own = own_behind xs rest (subst AreOwn is two.own)
 
-      -- what the first entered is the beginning of what the second did
+      -- The second log begins with what the first entered.
       begins : take (length first.steps) second.steps ≡ first.steps
       begins =
           let e = own_entered a.opening first.steps rest own in
@@ -115,18 +115,18 @@ module _ {c : Config} {image : ImageContents} {limit : ℕ} {xs ys : List Step} 
           let same : second.steps ≡ first.steps = there ∙ ap (entered_of a.opening first.steps) none ∙ sym (none_asked a.opening first.steps) in
           subst (λ xs. length xs ≤ length first.steps) (sym same) (omega arith)
 
-  -- where they followed the same steps, they were drained of the same
+  -- If both followed the same steps, their drains took the same steps.
   logs_alike : first.steps ≡ second.steps → a.steps ≡ b.steps
   logs_alike same = one.drained ∙ ap₂ (λ (xs ys : List Step). xs ++ ys) same
       (drained_alike c image a.opening b.opening one.opens two.opens second.steps first.machine second.machine
       (subst (λ xs. IsReplay a.opening xs first.machine) same one.replay) two.replay)
       ∙ sym two.drained
 
--- the second list goes on where the first stops
+-- The second list continues the first.
 abbrev pub GoesOnFrom : List Step → List Step → Type 0
 GoesOnFrom xs ys = (rest : List Step) × (ys ≡ xs ++ rest)
 
--- one of the lists goes on where the other stops
+-- If one of the lists continues the other, both logs have the same steps.
 pub goes_on : {c : Config} {image : ImageContents} {limit : ℕ} {xs ys : List Step} {first second a b : Log} →
     WasAskedFor c image limit xs first a → WasAskedFor c image limit ys second b → GoesOnFrom xs ys ⊎ GoesOnFrom ys xs →
     ((rest : List Step) → ys ≡ xs ++ rest → HasEnded limit a.opening first.steps rest) →

@@ -1,4 +1,4 @@
--- What is entered of steps that are asked for.
+-- What is entered of the steps asked for.
 use Rattle.std.proofs.Common.{◌≡◌, ℕ, zero, suc, ◌+◌, ◌<◌, ◌≤◌, Bool, true, false, List, [], ◌∷◌, ◌++◌, length, take, Some, refl, sym, ap, ◌∙◌, subst, arith}
 use Rattle.std.specs.Prelude.{slice_get, slice_index_or, if◌then◌else◌}
 use Rattle.std.proofs.lemmas.List.{length-append, take_more}
@@ -18,7 +18,7 @@ use Rattle.schedules.specs.Sweeps.{entered_of, rounds}
 
 -- ---- one step
 
--- a step is entered, or the steps stay as they are
+-- A step adds at most one to the steps, and removes none.
 entered_count : (steps : List Step) (s : Step) (o : Outcome) → (length steps ≤ length (entered steps s o)) × (length (entered steps s o) ≤ length steps + 1)
 entered_count steps s o = by (is_stalled o)
   where
@@ -26,7 +26,7 @@ entered_count steps s o = by (is_stalled o)
     by true = (omega arith, omega arith)
     by false = let more : length (steps ++ s ∷ []) ≡ length steps + 1 = length-append steps (s ∷ []) in (omega (arith, more), omega (arith, more))
 
--- If a step is asked for, the steps are at most one more.
+-- Asking for a step adds at most one step.
 pub at_most_one : (steps steps' : List Step) (s : Step) (o : Outcome) → steps' ≡ entered steps s o → length steps' ≤ length steps + 1
 at_most_one steps steps' s o is = subst (λ xs. length xs ≤ length steps + 1) (sym is) (entered_count steps s o).1
 
@@ -34,7 +34,7 @@ pub is_entered : (steps steps' : List Step) (s : Step) (o : Outcome) → steps' 
 is_entered steps steps' s o is moves =
     let more : length steps' ≡ length steps + 1 = ap length (is ∙ entered_moving steps s o moves) ∙ length-append steps (s ∷ []) in omega (arith, more)
 
--- If a log takes a step, its steps are what is entered of that step alone.
+-- If a log takes a step, its new steps are what is entered of that one step.
 pub one_asked : (old new : Log) (s : Step) (o : Outcome) → IsReplay old.opening old.steps old.machine → HasTaken old s o new →
     new.steps ≡ entered_of old.opening old.steps (s ∷ [])
 unfolding entered_of
@@ -42,13 +42,13 @@ one_asked old new s o r t = t.steps ∙ ap (entered old.steps s) (t.step.step.ou
 
 -- ---- one after another
 
--- What is entered of two lists joined is what is entered of the second after what is entered of the first.
+-- Asking for two lists joined is asking for the first and then for the second.
 pub asked_append : (m : MachineLists) (done xs ys : List Step) → entered_of m done (xs ++ ys) ≡ entered_of m (entered_of m done xs) ys
 unfolding entered_of
 asked_append m done [] ys = refl
 asked_append m done (x ∷ xs) ys = asked_append m (entered done x (answer_after m done x)) xs ys
 
--- After steps are asked for, there are no fewer steps than before.
+-- Asking for steps removes none.
 pub longer : (m : MachineLists) (done asked : List Step) → length done ≤ length (entered_of m done asked)
 unfolding entered_of
 longer m done [] = omega arith
@@ -56,7 +56,7 @@ longer m done (s ∷ ss) =
     let one = (entered_count done s (answer_after m done s)).0 in
     let more = longer m (entered done s (answer_after m done s)) ss in omega (arith, one, more)
 
--- where nothing is entered, each step stalls
+-- If nothing is entered, each of the steps asked for stalls.
 pub each_stalls : (m : MachineLists) (done asked : List Step) → length (entered_of m done asked) ≤ length done → (i : ℕ) (s : Step) →
     slice_get asked i ≡ Some s → answer_after m done s ≡ Stalled
 unfolding entered_of
@@ -75,7 +75,7 @@ each_stalls m done (x ∷ xs) none i s there =
 
 -- ---- rounds
 
--- a step more of the round
+-- one more step of the round
 pub next_asked : (old l : Log) (k i : ℕ) (s : Step) (steps' : List Step) → l.opening ≡ old.opening → i < length (round k) → slice_get (round k) i ≡ Some s →
     l.steps ≡ entered_of old.opening old.steps (take i (round k)) →
     steps' ≡ entered_of l.opening l.steps (s ∷ []) → steps' ≡ entered_of old.opening old.steps (take (i + 1) (round k))
@@ -89,18 +89,18 @@ next_asked old l k i s steps' opens within there before is =
     ∙ ap (λ x. entered_of old.opening old.steps (take i all ++ x ∷ [])) (sym here)
     ∙ ap (entered_of old.opening old.steps) (sym (take_more all i (step.Turn 0) within))
 
--- If no step is asked for, the steps stay as they are.
+-- Asking for no step changes nothing.
 pub none_asked : (m : MachineLists) (done : List Step) → done ≡ entered_of m done []
 unfolding entered_of
 none_asked m done = refl
 
--- this many rounds, and then a part of one
+-- whole rounds, and then a part of one
 module _ (opening : MachineLists) (old middle new : List Step) (k whole part : ℕ) (before : middle ≡ entered_of opening old (rounds k whole)) (more : new
     ≡ entered_of opening middle (take part (round k))) where
-  -- What is entered of whole rounds, and then of a part of one, is what is entered of both together.
+  -- Asking for whole rounds and then for a part of one is asking for both together.
   pub rounds_more : new ≡ entered_of opening old (rounds k whole ++ take part (round k))
   rounds_more = more ∙ ap (λ xs. entered_of opening xs (take part (round k))) before ∙ sym (asked_append opening old (rounds k whole) (take part (round k)))
 
-  -- where the part is whole there is a round more
+  -- If the part is a whole round, there is one more round.
   pub round_more : take part (round k) ≡ round k → new ≡ entered_of opening old (rounds k (suc whole))
   round_more all = rounds_more ∙ ap (λ xs. entered_of opening old (rounds k whole ++ xs)) all

@@ -148,7 +148,7 @@ module _ (k : ℕ) where
   are_all (Turn p) h = absurd h
   are_all (Poke poke) h = absurd h
 
--- a number counted round and round is a place of the list
+-- A number modulo the list's length is a place of the list.
 pub in_the_list : (k j x : ℕ) → j ≡ k → k ≤ 6 → x % (2 * j * (1 * 2 ^ k % 4294967296) + 1 * 2 ^ k % 4294967296) < 2 * k * 2 ^ k + 2 ^ k
 in_the_list zero j x is few = omega arith
 in_the_list (suc zero) j x is few = omega arith
@@ -159,7 +159,7 @@ in_the_list (suc (suc (suc (suc (suc zero))))) j x is few = omega arith
 in_the_list (suc (suc (suc (suc (suc (suc zero)))))) j x is few = omega arith
 in_the_list (suc (suc (suc (suc (suc (suc (suc n))))))) j x is few = absurd (omega arith)
 
--- a place of the list is of one of its rows
+-- Each place of the list is in one of its rows.
 pub in_a_row : (k x : ℕ) → k ≤ 6 → x < 2 * k * 2 ^ k + 2 ^ k → x / (1 * 2 ^ k % 4294967296) < 2 * k + 1
 in_a_row zero x few inside = omega arith
 in_a_row (suc zero) x few inside = omega arith

@@ -1,4 +1,4 @@
--- Where a sweep is over: what a step more says of it, and that what has not ended in one part has not ended in all.
+-- Whether a sweep is over after one more step, and after one part and another.
 use Rattle.std.proofs.Common.{◌≡◌, ℕ, zero, suc, ◌^◌, ◌<◌, ◌≤◌, Bool, true, false, ◌⊎◌, inl, inr, List}
 use Rattle.std.proofs.Common.{[], ◌∷◌, ◌++◌, length, take, refl, sym, ap, ◌∙◌, subst, arith}
 use Rattle.std.specs.Prelude.{if◌then◌else◌}
@@ -43,24 +43,24 @@ take_length zero xs few = refl
 take_length (suc n) [] few = absurd (omega (arith, few))
 take_length (suc n) (x ∷ xs) few = let r = take_length n xs (omega (arith, few)) in ap suc r
 
--- ---- the machine and what the definition says of it
+-- ---- the machine, and what the definition says about it
 
 module _ (opening m : MachineLists) (steps : List Step) (r : IsReplay opening steps m) where
   status_is : (p : ℕ) → (processor_of m p).status ≡ status_after opening steps p
   unfolding machine_of_parts
   status_is p = ap (λ (M : theory.Machine ObservedCore). (M.core p).state.status) (r.run.after (λ q. []))
 
-  -- If a processor of the machine that the steps leave runs, one runs after the steps.
+  -- If a processor of the machine runs that the steps leave, one runs after the steps.
   pub runs_after : HasRunning m → RunsAfter opening steps
   runs_after (p, within, runs) = (p, subst (λ (k : ℕ). p < 2 ^ k) (ap (λ (c : Config). c.k) r.run.config) within, sym (status_is p) ∙ runs)
 
-  -- If a processor runs after the steps, one of the machine that they leave runs.
+  -- If a processor runs after the steps, one of the machine runs that they leave.
   pub has_running : RunsAfter opening steps → HasRunning m
   has_running (p, within, runs) = (p, subst (λ (k : ℕ). p < 2 ^ k) (sym (ap (λ (c : Config). c.k) r.run.config)) within, status_is p ∙ runs)
 
--- ---- a step more
+-- ---- one more step
 
--- a step that stops no processor leaves one running
+-- If a processor runs, a step that stops none leaves one running.
 pub runs_on : (m : MachineLists) (done : List Step) (s : Step) → IsOwn s → (IsStop (answer_after m done s) → ⊥) → RunsAfter m done →
     RunsAfter m (entered done s (answer_after m done s))
 runs_on m done s own plain (p, within, runs) = by (is_stalled (answer_after m done s))
@@ -76,26 +76,26 @@ runs_on m done s own plain (p, within, runs) = by (is_stalled (answer_after m do
         )
 
 module _ (m : MachineLists) (start : ℕ) where
-  -- a sweep that has come so far is not over: a processor runs, and the last step was no fault
+  -- The sweep is not over after these steps: a processor runs, and the last step was not a fault.
   pub record IsUnder (steps : List Step) : Type 0 where
     -- A processor runs.
     pub running : RunsAfter m steps
     -- The sweep's last step is not one in which a fault stopped a processor.
     pub sound : EndsInFault m start steps → ⊥
 
-  -- If a processor runs and the sweep's last step was no fault, the sweep is not over.
+  -- If a processor runs and the sweep's last step was not a fault, the sweep is not over.
   pub not_over : (steps : List Step) → IsUnder steps → IsOver m start steps → ⊥
   not_over steps u (inl fault) = u.sound fault
   not_over steps u (inr none) = none u.running
 
-  -- it begins with no step of its own
+  -- A sweep without a step of its own has not ended in a fault.
   pub none_faulted : (steps : List Step) → length steps ≤ start → EndsInFault m start steps → ⊥
   none_faulted steps short f =
       let count = ap length f.is in
       let more = length-append f.before (f.last ∷ []) in
       let behind = f.behind in omega (arith, count, more, behind, short)
 
-  -- a step more that is no fault
+  -- After one more step that is not a fault, the sweep has not ended in a fault.
   pub sound_on : (done : List Step) (s : Step) → (IsFault (answer_after m done s) → ⊥) → (EndsInFault m start done → ⊥) →
       EndsInFault m start (entered done s (answer_after m done s)) → ⊥
   sound_on done s plain before = by (is_stalled (answer_after m done s))
@@ -106,7 +106,7 @@ module _ (m : MachineLists) (start : ℕ) where
           let same = same_last done f.before s f.last f.is in
           plain (subst IsFault (λ i. answer_after m (sym same.0 i) (sym same.1 i)) f.fault)
 
-  -- a step more that is one
+  -- After one more step that is a fault, the sweep has ended in a fault.
   pub ends_in : (done : List Step) (s : Step) → start ≤ length done → IsFault (answer_after m done s) →
       EndsInFault m start (entered done s (answer_after m done s))
   ends_in done s behind fault = record {
@@ -120,11 +120,11 @@ module _ (m : MachineLists) (start : ℕ) where
       no_stall : (o : Outcome) → IsFault o → o ≡ Stalled → ⊥
       no_stall o is e = absurd (subst IsFault e is)
 
-  -- no beginning of the steps, of this many at least, is where the sweep is over
+  -- The sweep is over after no proper beginning of the steps with at least `start` of them.
   abbrev pub IsFirst : List Step → Type 0
   IsFirst steps = (place : ℕ) → start ≤ place → place < length steps → IsOver m start (take place steps) → ⊥
 
-  -- A sweep that has no step of its own was over at no place before.
+  -- A sweep without a step of its own was over at no place before.
   pub first_begins : (steps : List Step) → length steps ≤ start → IsFirst steps
   first_begins steps short place from inside = absurd (omega (arith, short, from, inside))
 
@@ -147,15 +147,15 @@ module _ (m : MachineLists) (start : ℕ) where
       by true = before
       by false = λ place from inside over. entered_first place from inside over (cases_lt place (length done))
 
--- ---- of parts
+-- ---- parts of a sweep
 
--- What is over after this many steps is over after fewer.
+-- A sweep that is over is also over if it began earlier.
 pub over_sooner : (m : MachineLists) (start mid : ℕ) (steps : List Step) → start ≤ mid → IsOver m mid steps → IsOver m start steps
 over_sooner m start mid steps less (inl f) =
     inl (record { before = f.before; last = f.last; is = f.is; behind = (let behind = f.behind in omega (arith, behind, less)); fault = f.fault })
 over_sooner m start mid steps less (inr none) = inr none
 
--- what is over after few is over after more, where it has more
+-- A sweep that is over is also over if it began later, but has a step of its own.
 over_later : (m : MachineLists) (start mid : ℕ) (steps : List Step) → mid < length steps → IsOver m start steps → IsOver m mid steps
 over_later m start mid steps more (inl f) =
     inl (record {
@@ -167,7 +167,7 @@ over_later m start mid steps more (inl f) =
     })
 over_later m start mid steps more (inr none) = inr none
 
--- one part after another
+-- If a sweep is over nowhere within one part, nor at its end, nor within the next part, it is over nowhere within both.
 pub first_joined : (m : MachineLists) (start : ℕ) (middle rest : List Step) → start ≤ length middle → IsFirst m start middle → IsUnder m start middle →
     IsFirst m (length middle) (middle ++ rest) → IsFirst m start (middle ++ rest)
 first_joined m start middle rest less one under other place from inside over = by (cases_lt place (length middle)) (cases_eq place (length middle))

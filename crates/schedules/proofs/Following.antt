@@ -1,4 +1,4 @@
--- A sweep from round to round.
+-- A sweep, round by round.
 use Rattle.std.proofs.Common.{◌≡◌, ℕ, suc, ◌<◌, ◌≤◌, Bool, true, false, ◌⊎◌, inl, inr, List, [], ◌∷◌, ◌++◌, length, take, refl, sym, ap, ◌∙◌, subst, arith}
 use Rattle.std.proofs.lemmas.List.{append-nil, length-append}
 use Rattle.steps.specs.declared.step.Step.{Step}
@@ -12,15 +12,15 @@ use Rattle.schedules.proofs.Asking.{none_asked, round_more, rounds_more}
 use Rattle.schedules.proofs.Own.{own_asked, own_entered}
 use Rattle.schedules.proofs.Ending.{IsFirst, IsUnder, first_begins, first_joined, has_running, none_faulted, not_over, over_sooner, runs_after}
 
--- The sweep has come so far, and is not over: it goes on with a whole round, where there is room.
+-- The log has followed the sweep so far, and it is not over. If there is room, it continues with a whole round.
 pub record IsFollowing (limit : ℕ) (old l : Log) : Type 0 where
-  -- It has the opening of the log that the sweep began with.
+  -- The log has the opening of the log with which the sweep began.
   pub opening : l.opening ≡ old.opening
-  -- Its machine is what its steps make of the opening.
+  -- Its machine is the one to which its steps lead from the opening.
   pub replay : IsReplay l.opening l.steps l.machine
   pub whole : ℕ
   pub part : ℕ
-  -- Its steps are what is entered of whole rounds and of a part of one.
+  -- Its steps are what is entered of whole rounds and a part of one.
   pub steps : l.steps ≡ entered_of old.opening old.steps (rounds old.machine.config.k whole ++ take part (round old.machine.config.k))
   pub cut : (take part (round old.machine.config.k) ≡ []) ⊎ (limit ≤ length l.steps)
   pub longer : length old.steps ≤ length l.steps
@@ -29,7 +29,7 @@ pub record IsFollowing (limit : ℕ) (old l : Log) : Type 0 where
   pub first : IsFirst old.opening (length old.steps) l.steps
   pub under : IsUnder old.opening (length old.steps) l.steps
 
--- A log within the limit on whose machine a processor runs follows the sweep from itself on.
+-- A log within the limit on whose machine a processor runs begins to follow the sweep.
 pub following_begins : (limit : ℕ) (l : Log) → length l.steps ≤ limit → IsReplay l.opening l.steps l.machine → HasRunning l.machine → IsFollowing limit l l
 following_begins limit l few replay runs = record {
   opening = refl;
@@ -44,7 +44,7 @@ following_begins limit l few replay runs = record {
   under = record { running = runs_after l.opening l.machine l.steps replay runs; sound = none_faulted l.opening (length l.steps) l.steps (omega arith) };
 }
 
--- where no processor runs, the sweep is over at once
+-- If no processor runs, the sweep is over at once.
 pub over_at_once : (limit : ℕ) (l : Log) → length l.steps ≤ limit → IsReplay l.opening l.steps l.machine → (RunsAfter l.opening l.steps → ⊥) →
     HasFollowed limit l Over l
 over_at_once limit l few replay none = record {
@@ -58,11 +58,11 @@ over_at_once limit l few replay none = record {
   ends = inr none;
 }
 
--- a processor runs
+-- If the log is following the sweep, a processor runs.
 pub runs_there : (limit : ℕ) (old l : Log) → IsFollowing limit old l → HasRunning l.machine
 runs_there limit old l f = has_running l.opening l.machine l.steps f.replay (subst (λ m. RunsAfter m l.steps) (sym f.opening) f.under.running)
 
--- where there is no room, the budget is used up
+-- If there is no room, the budget is used up.
 pub budget_used : (limit : ℕ) (old l : Log) → IsFollowing limit old l → limit ≤ length l.steps → HasFollowed limit old Budget l
 budget_used limit old l f full = record {
   opening = f.opening;
@@ -86,7 +86,7 @@ module _ (limit : ℕ) (old l new : Log) (f : IsFollowing limit old l) (size : l
   opens : new.opening ≡ old.opening
   opens = r.opening ∙ f.opening
 
-  -- so far there were whole rounds
+  -- So far there were only whole rounds.
   so_far : l.steps ≡ entered_of old.opening old.steps (rounds k f.whole)
   so_far = by f.cut
     where
@@ -101,7 +101,7 @@ module _ (limit : ℕ) (old l new : Log) (f : IsFollowing limit old l) (size : l
   after : new.steps ≡ entered_of old.opening old.steps (rounds k f.whole ++ take r.part (round k))
   after = rounds_more old.opening old.steps l.steps new.steps k f.whole r.part so_far part_is
 
-  -- what it has more stands after what it had
+  -- The new steps come after the old ones.
   behind : (rest : List Step) × (new.steps ≡ l.steps ++ rest)
   behind = let e = own_entered old.opening l.steps (take r.part (round k)) (own_asked k 0 r.part) in (e.0, part_is ∙ e.2)
 
@@ -113,7 +113,7 @@ module _ (limit : ℕ) (old l new : Log) (f : IsFollowing limit old l) (size : l
       subst (IsFirst old.opening start) (sym behind.1)
       (first_joined old.opening start l.steps behind.0 f.longer f.first f.under (subst (IsFirst old.opening (length l.steps)) behind.1 first_here))
 
-  -- If the next round ends where the sweep is over, the log has followed the sweep to its end.
+  -- If the sweep is over after the next round, the log has followed the sweep to its end.
   pub following_over : b ≡ true → HasFollowed limit old Over new
   following_over is = record {
     opening = opens;
@@ -126,7 +126,7 @@ module _ (limit : ℕ) (old l new : Log) (f : IsFollowing limit old l) (size : l
     ends = over_sooner old.opening start (length l.steps) new.steps f.longer (subst (λ m. IsOver m (length l.steps) new.steps) f.opening (r.over is));
   }
 
-  -- If the next round ends where the sweep is not over, the log is still following the sweep.
+  -- If the sweep is not over after the next round, the log is still following the sweep.
   pub following_more : b ≡ false → IsFollowing limit old new
   following_more is = by g.whole
     where

@@ -1,4 +1,4 @@
--- A round goes on: by a step that is asked for, by steps that are left out, and from part to part.
+-- A round advances: by a step asked for, by steps skipped, and from part to part.
 use Rattle.std.proofs.Common.{◌≡◌, ℕ, ◌+◌, ◌*◌, ◌^◌, ◌<◌, ◌≤◌, ◌⊎◌, Bool, true, false, length, take, Option, Some, None, refl, sym, ap, ◌∙◌, subst, arith}
 use Rattle.flat_machine.specs.declared.config.Config.{Config}
 use Rattle.steps.specs.declared.step.Step.{Step}
@@ -26,7 +26,7 @@ under_of limit start i l b = record { running = b.running; sound = b.sound }
 size_of : (limit : ℕ) (start : Log) (i : ℕ) (l : Log) → IsInRound limit start i l → l.machine.config.k ≡ start.machine.config.k
 size_of limit start i l b = ap (λ (d : Config). d.k) b.config
 
--- ---- a step that is asked for
+-- ---- a step asked for
 
 module _ (limit : ℕ) (start l new : Log) (i j : ℕ) (s : Step) (o : Outcome) (b : IsInRound limit start i l) (n : IsNext l.machine i s j)
     (taken : HasTaken l s o new) (replayed : IsReplay new.opening new.steps new.machine) (inside : length l.steps < limit) where
@@ -39,7 +39,7 @@ module _ (limit : ℕ) (start l new : Log) (i j : ℕ) (s : Step) (o : Outcome) 
   few : length new.steps ≤ limit
   few = let one = at_most_one l.steps new.steps s o taken.steps in omega (arith, one, inside)
 
-  -- If the step is no fault, and stops no processor or leaves one running, the round goes on at the next place.
+  -- If the step is not a fault, and stops no processor or leaves one running, the round goes on at the next place.
   pub step_goes_on : (IsFault o → ⊥) × ((IsStop o → ⊥) ⊎ HasRunning new.machine) → IsInRound limit start j new
   step_goes_on plain =
       let under = step_under start l new s o b.opening b.replay own taken (under_of limit start i l b) replayed plain in
@@ -62,7 +62,7 @@ module _ (limit : ℕ) (start l new : Log) (i j : ℕ) (s : Step) (o : Outcome) 
       (step_over start l new s o b.opening b.replay own taken (under_of limit start i l b) replayed
       (subst (λ xs. length start.steps ≤ length xs) (sym b.steps) (longer start.opening start.steps (take i (round start.machine.config.k)))) over)
 
--- ---- steps that are left out
+-- ---- steps skipped
 
 pub quiet_goes_on : (limit : ℕ) (start l : Log) (i j : ℕ) → IsInRound limit start i l → i ≤ j → j ≤ length (round start.machine.config.k) →
     AreQuiet l.machine i j → IsInRound limit start j l
@@ -77,7 +77,7 @@ quiet_goes_on limit start l i j b ahead within quiet = record {
   sound = b.sound;
 }
 
--- there is no room
+-- If there is no room, the round ends.
 pub full_ends : (limit : ℕ) (start l : Log) (i : ℕ) → IsInRound limit start i l → length start.steps < limit → limit ≤ length l.steps →
     WasAskedRound limit start false l
 full_ends limit start l i b room full =
@@ -85,11 +85,11 @@ full_ends limit start l i b room full =
 
 -- ---- a row
 
--- the first wire of a row that is found, on a machine of this many stages
+-- The wire found is in the row, and the steps from a wire up to it stall.
 abbrev IsFound : (number : ℕ → ℕ) → MachineLists → (k wire next : ℕ) → Type 0
 IsFound number m k wire next = (wire ≤ next) × (next < 2 ^ k) × AreQuiet m (number k * 2 ^ k + wire) (number k * 2 ^ k + next)
 
--- the step of that wire is there, and comes next
+-- The step at that wire is the next one of the round.
 pub row_step : (number : ℕ → ℕ) (seen m : MachineLists) (k wire next : ℕ) (s : Step) → seen ≡ m → m.config.k ≡ k →
     IsFound number seen seen.config.k wire next → (next < 2 ^ k → slice_get (round k) (number k * 2 ^ k + next) ≡ Some s) →
     (next < 2 ^ k) × IsNext m (number k * 2 ^ k + wire) s (number k * 2 ^ k + (next + 1))
@@ -107,7 +107,7 @@ row_step number seen m k wire next s same size first there =
       },
     )
 
--- If the steps of a row from a wire on stall on the machine that is seen, they stall on the machine.
+-- If the steps of a row from a wire on stall on the machine seen, they stall on the machine.
 pub quiet_here : (number : ℕ → ℕ) (seen m : MachineLists) (k wire : ℕ) → seen ≡ m → m.config.k ≡ k →
     AreQuiet seen (number seen.config.k * 2 ^ seen.config.k + wire) ((number seen.config.k + 1) * 2 ^ seen.config.k) →
     AreQuiet m (number k * 2 ^ k + wire) ((number k + 1) * 2 ^ k)
@@ -121,7 +121,7 @@ row_is_within k number few less =
     let all = round_length k few in
     omega (arith, most, all)
 
--- the rest of a row is left out
+-- If the rest of a row stalls, the round advances to the next row.
 pub row_goes_on : (limit k number wire : ℕ) (start l : Log) → k ≤ 6 → number < 2 * k + 2 → wire ≤ 2 ^ k → l.machine.config.k ≡ k →
     IsInRound limit start (number * 2 ^ k + wire) l → AreQuiet l.machine (number * 2 ^ k + wire) ((number + 1) * 2 ^ k) →
     IsInRound limit start ((number + 1) * 2 ^ k) l
@@ -132,11 +132,11 @@ row_goes_on limit k number wire start l few less within size b quiet =
 
 -- ---- from part to part
 
--- A round whose log stays as it is has come from a place to the same place.
+-- A round whose log does not change has advanced from a place to itself.
 pub gone_nowhere : (limit i : ℕ) (l : Log) → HasGone limit i i l None l
 gone_nowhere limit i l = record { config = refl; on = λ e start b. b; ended = λ is_over e start room b. absurd (cc) }
 
--- A round that has come from one place to another, and from there to a third, has come from the first to the third.
+-- A round that has advanced from one place to another, and from there to a third, has advanced from the first to the third.
 pub gone_on : (limit i j k : ℕ) (old mid new : Log) (end : Option Bool) → HasGone limit i j old None mid → HasGone limit j k mid end new →
     HasGone limit i k old end new
 gone_on limit i j k old mid new end first second = record {
@@ -145,23 +145,23 @@ gone_on limit i j k old mid new end first second = record {
   ended = λ is_over e start room b. second.ended is_over e start room (first.on refl start b);
 }
 
--- A round that has come from i to j has come from i' to j' if these are the same places.
+-- Advances from i to j and from i' to j' are the same if the places are.
 pub gone_at : {limit i j i' j' : ℕ} {old new : Log} {end : Option Bool} → HasGone limit i j old end new → i ≡ i' → j ≡ j' → HasGone limit i' j' old end new
 gone_at {limit} {i} {j} {i'} {j'} {old} {new} {end} gone same same' =
     subst (λ n. HasGone limit n j' old end new) same (subst (λ n. HasGone limit i n old end new) same' gone)
 
--- a round that has ended has ended, wherever it might have come to
+-- A round that has ended has ended, whatever place it was to reach.
 pub ended_before : {limit i j j' : ℕ} {old new : Log} {is_over : Bool} → HasGone limit i j old (Some is_over) new → HasGone limit i j' old (Some is_over) new
 ended_before gone = record { config = gone.config; on = λ e. absurd (cc); ended = gone.ended }
 
 abbrev pub stages_of : Log → ℕ
 stages_of l = l.machine.config.k
 
--- A machine that is seen has as many stages as the configuration that is its own.
+-- A machine seen has as many stages as its own configuration says.
 pub same_stages : {d : Config} {m n : MachineLists} → d ≡ m.config → m ≡ n → d.k ≡ n.config.k
 same_stages config machine = ap (λ (d : Config). d.k) (config ∙ ap (λ (m : MachineLists). m.config) machine)
 
--- it goes on from where it has come to, on a machine of as many stages
+-- A round advances from where it is, on a machine with the same number of stages.
 pub then_gone : (limit i : ℕ) (from to : ℕ → ℕ) (old l new : Log) (end : Option Bool) → HasGone limit i (from (stages_of old)) old None l →
     HasGone limit (from (stages_of l)) (to (stages_of l)) l end new → HasGone limit i (to (stages_of old)) old end new
 then_gone limit i from to old l new end before gone =
@@ -169,7 +169,7 @@ then_gone limit i from to old l new end before gone =
     gone_on limit i (from k) (to k) old l new end before
     (subst (λ n. HasGone limit (from n) (to n) l end new) (ap (λ (d : Config). d.k) before.config) gone)
 
--- by a row
+-- A round advances by one row.
 pub row_gone : (limit from row number : ℕ) (old l new : Log) (end : Option Bool) → number ≡ row → HasGone limit from (row * 2 ^ stages_of old) old None l →
     HasGone limit (number * 2 ^ stages_of l) ((number + 1) * 2 ^ stages_of l) l end new → HasGone limit from ((row + 1) * 2 ^ stages_of old) old end new
 row_gone limit from row number old l new end same before gone =
@@ -192,11 +192,11 @@ module _ (limit : ℕ) (old new : Log) (room : length old.steps < limit) (is : I
     sound = none_faulted old.opening (length old.steps) old.steps (omega arith);
   }
 
-  -- If a round from its beginning has ended, it was asked for, and the sweep is over if the end says so.
+  -- A round that has ended was asked for, and the sweep is over if the end says so.
   pub round_ends : (to : ℕ) (end : Option Bool) (is_over : Bool) → HasGone limit 0 to old end new → end ≡ Some is_over → WasAskedRound limit old is_over new
   round_ends to end is_over gone e = gone.ended is_over e old room begins
 
-  -- If a round has come to its last place, it was asked for, and the sweep is not over.
+  -- A round that has reached its last place was asked for, and the sweep is not over.
   pub round_is_through : (to : ℕ) → HasGone limit 0 to old None new → length (round old.machine.config.k) ≤ to → WasAskedRound limit old false new
   round_is_through to gone all =
       let b = gone.on refl old begins in

@@ -1,4 +1,4 @@
--- Rows by their kinds: what their steps are, and that those that find no message stall.
+-- Rows by their kinds: their steps, and that those that find no message stall.
 use Rattle.std.proofs.Common.{◌≡◌, ℕ, ◌+◌, ◌-◌, ◌*◌, ◌^◌, ◌<◌, ◌≤◌, false, Some, refl, ◌∙◌, subst, ap, arith}
 use Rattle.std.specs.Prelude.{is_some, slice_get}
 use Rattle.steps.specs.declared.step.Step.TheVariants as step

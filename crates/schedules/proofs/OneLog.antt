@@ -1,4 +1,4 @@
--- The steps that a run enters are a function of the machine's size, the image and the most steps that its sweep enters.
+-- The log of a run depends only on the machine's configuration, the image and the limit of steps.
 use Rattle.std.proofs.Common.{◌≡◌, ℕ, zero, suc, ◌+◌, ◌-◌, ◌<◌, ◌≤◌, ◌⊎◌, inl, inr, List, [], ◌∷◌}
 use Rattle.std.proofs.Common.{◌++◌, take, drop, refl, sym, ap, ◌∙◌, subst, arith, append_assoc}
 use Rattle.std.proofs.lemmas.Bool.{cases_lt, cases_eq}
@@ -16,9 +16,9 @@ use Rattle.schedules.specs.declared.sweeping.SweepEnd.TheVariants.{Over, Budget}
 use Rattle.schedules.proofs.Alike.{GoesOnFrom, HasEnded, WasAskedFor, goes_on}
 use Rattle.schedules.proofs.Own.{own_asked}
 
--- ---- of two sweeps one goes on where the other stops
+-- ---- of two sweeps, one continues the other
 
--- what is asked for in this many rounds and a part of one
+-- the steps of whole rounds and a part of one
 abbrev asked : (k whole part : ℕ) → List Step
 asked k whole part = rounds k whole ++ take part (round k)
 
@@ -85,7 +85,7 @@ has_ended : (m : MachineLists) (limit : ℕ) (steps rest : List Step) (e : Sweep
 has_ended m limit steps rest Over over = inl over
 has_ended m limit steps rest Budget used = inr (inl used.0)
 
--- two runs of one image enter the same steps
+-- Two runs of one image enter the same steps.
 pub one_log : (c : Config) (image : ImageContents) (most : ℕ) (end other : SweepEnd) (a b : Log) → IsWholeRun c image most end a →
     IsWholeRun c image most other b → a.steps ≡ b.steps
 one_log c image most end other a b one two =

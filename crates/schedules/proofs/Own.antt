@@ -1,4 +1,4 @@
--- Steps that write nothing from outside: those of a round, and those of a drain. Where such a step does something, a trace has a
+-- Steps that write nothing from outside: those of a round, and those of a drain. If such a step does something, a trace has a
 -- record of it.
 use Rattle.std.proofs.Common.{◌≡◌, ℕ, zero, suc, ◌^◌, Bool, true, false, List, [], ◌∷◌, ◌++◌, take, map, Option, Some, None, sym, ◌∙◌, subst, append_assoc}
 use Rattle.std.specs.Prelude.{slice_get, if◌then◌else◌}
@@ -75,15 +75,15 @@ own_rounds k (suc n) = own_both (rounds k n) (round k) (own_rounds k n) (own_rou
 pub step_of_round : (k place : ℕ) (s : Step) → slice_get (round k) place ≡ Some s → IsOwn s
 step_of_round k place s there = own_at (round k) place s (own_round k) there
 
--- what is asked for in this many rounds and a part of one
+-- No step of whole rounds and a part of one writes anything from outside.
 pub own_asked : (k whole part : ℕ) → AreOwn (rounds k whole ++ take part (round k))
 own_asked k whole part = own_both (rounds k whole) (take part (round k)) (own_rounds k whole) (own_front part (round k) (own_round k))
 
--- what is entered of such steps stands after what was there, and is such
+-- The new steps are the old ones, followed by steps that write nothing from outside.
 abbrev IsOwnBehind : (done new : List Step) → Type 0
 IsOwnBehind done new = (rest : List Step) × AreOwn rest × (new ≡ done ++ rest)
 
--- What is entered of steps that write nothing from outside comes after the steps before, and writes nothing either.
+-- What is entered of steps that write nothing from outside follows the old steps, and writes nothing from outside either.
 pub own_entered : (m : MachineLists) (done asked : List Step) → AreOwn asked → IsOwnBehind done (entered_of m done asked)
 unfolding entered_of
 own_entered m done [] own = ([], tt, sym (append-nil done))

@@ -12,7 +12,7 @@ use Rattle.steps.specs.declared.step.Step.{Step}
 use Rattle.steps.specs.declared.step.Step.TheVariants.{Turn, Up, Serve, Down}
 use Rattle.schedules.specs.Rounds.{round}
 
--- rows of a step for each wire: turns, the moves up by stage from the last, services, and the moves down by stage
+-- the step at a wire of a row: the turns, the moves up from the last stage, the services, and the moves down from the first
 abbrev pub in_row : (k row wire : ℕ) → Step
 in_row k row wire =
     if row == 0 then Turn wire else
@@ -23,7 +23,7 @@ in_row k row wire =
 abbrev pub there : (k place : ℕ) → Step
 there k place = in_row k (place / 2 ^ k) (place % 2 ^ k)
 
--- each round by computing it
+-- Each round is the list of these steps, by computation.
 round_is : (k : ℕ) → k ≤ 6 → round k ≡ map (there k) (range_with_len 0 (2 ^ k * (2 * k + 2)))
 unfolding round
 round_is zero few = refl

@@ -29,7 +29,7 @@ use Rattle.schedules.proofs.Own.{IsOwn, drain_is_own}
 
 -- ---- the steps of a round
 
--- the step asks a machine of k stages for something
+-- The step names a processor, a module, or a stage and a wire that a machine of k stages has.
 abbrev pub IsOfRound : (k : ℕ) → Step → Type 0
 IsOfRound k (step.Turn p) = p < 2 ^ k
 IsOfRound k (step.Up s w) = (s < k) × (w < 2 ^ k)
@@ -37,7 +37,7 @@ IsOfRound k (step.Serve m) = m < 2 ^ k
 IsOfRound k (step.Down s w) = (s < k) × (w < 2 ^ k)
 IsOfRound k (step.Poke q) = ⊥
 
--- the step stands somewhere in the list
+-- The step is in the list.
 abbrev pub Stands : List Step → Step → Type 0
 Stands xs s = (i : ℕ) × (slice_get xs i ≡ Some s)
 
@@ -78,7 +78,7 @@ in_downs k (suc stage) s w few within = by (cases_eq s stage) (λ less. in_downs
 abbrev turns_and_ups : ℕ → List Step
 turns_and_ups k = on_each_wire k step.Turn ++ ups k k
 
--- Each step that asks a machine of k stages for something is in its round.
+-- Each step that a machine of k stages can take is in its round.
 pub in_round : (k : ℕ) (s : Step) → IsOfRound k s → Stands (round k) s
 unfolding round
 in_round k (step.Turn p) within =
@@ -95,7 +95,7 @@ in_round k (step.Serve m) within =
 in_round k (step.Down s w) within = behind (turns_and_ups k ++ on_each_wire k step.Serve) (downs k k) (step.Down s w) (in_downs k k s w within.0 within.1)
 in_round k (step.Poke q) within = absurd within
 
--- ---- what does not stall is of the round
+-- ---- steps that do not stall are of the round
 
 module _ (c : Config) (code : List ℕ) (M : theory.Machine ObservedCore) where
   abbrev turns : ℕ → Turn
@@ -138,7 +138,7 @@ module _ (c : Config) (code : List ℕ) (M : theory.Machine ObservedCore) where
   )
   of_round (step.Poke q) plain moves = absurd plain
 
-  -- ---- where no reference is open, a processor that runs has a turn
+  -- ---- if no reference is open, a running processor has a turn
 
   begins : (p : ℕ) (t : Turn) → turns p ≡ t → answers (begin (program c code) M p (kind_of_turn t)).outcome ≡ Stalled → ⊥
   begins p (Retires after retired) e s = (let wrong : outcome_of_turn (Retires after retired) ≡ Stalled = ap outcome_of_turn (sym e) ∙ s in absurd (cc))

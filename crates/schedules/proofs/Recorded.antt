@@ -31,7 +31,7 @@ of_round_has_record k (step.Serve m) within = lt-ltb m (2 ^ k) within
 of_round_has_record k (step.Down s w) within = both s w k (2 ^ k) within.0 within.1
 of_round_has_record k (step.Poke q) within = absurd within
 
--- steps that all do something, and write nothing from outside
+-- A trace has a record of each of these steps, all of which do something and write nothing from outside.
 pub moves_have_records : (c : Config) (code : List ℕ) (M : theory.Machine ObservedCore) (steps : List Step) → AreOwn steps → NoneStalls c code M steps →
     HaveRecords c.k steps
 moves_have_records c code M [] own moves = All-nil (HasRecord c.k)
@@ -45,11 +45,11 @@ unfolding all_after
 later_moves c code M [] ys moves = moves
 later_moves c code M (x ∷ xs) ys moves = later_moves c code (after c code M x) xs ys moves.1
 
--- a log that was asked for steps that write nothing from outside, and was drained then
+-- a log that was asked for steps that write nothing from outside, and then drained
 module _ (old middle new : Log) (asked : List Step) (asked_are_own : AreOwn asked) (entered : middle.steps ≡ entered_of old.opening old.steps asked)
     (opening : new.opening ≡ old.opening) (drained : new.steps ≡ middle.steps ++ drain_steps middle.machine)
     (replay : IsReplay new.opening new.steps new.machine) (size : old.machine.config ≡ old.opening.config) where
-  -- what the log has more
+  -- the steps that the log has in addition
   more : (rest : List Step) × AreOwn rest × (new.steps ≡ old.steps ++ rest)
   more =
       let e = own_entered old.opening old.steps asked asked_are_own in (

@@ -1,4 +1,4 @@
--- A step of a round, and where a round ends.
+-- A step of a round, and the end of a round.
 use Rattle.std.proofs.Common.{◌≡◌, ℕ, ◌<◌, ◌≤◌, Bool, true, false, ◌⊎◌, inl, inr, length, take, sym, ap, ◌∙◌, subst, arith}
 use Rattle.std.proofs.lemmas.Bool.{cases_lt, true≢false}
 use Rattle.std.proofs.lemmas.List.{take_all}
@@ -21,7 +21,7 @@ use Rattle.schedules.proofs.Own.{IsOwn}
 
 module _ (old l new : Log) (s : Step) (o : Outcome) (opens : l.opening ≡ old.opening) (replay : IsReplay l.opening l.steps l.machine) (own : IsOwn s)
     (taken : HasTaken l s o new) (under : IsUnder old.opening (length old.steps) l.steps) where
-  -- what it answered is what the definition says
+  -- The outcome is the one that the definition gives.
   answer_is : o ≡ answer_after old.opening l.steps s
   answer_is = taken.step.step.outcome ∙ sym (outcome_there l.opening l.machine l.steps replay.run s) ∙ ap (λ m. answer_after m l.steps s) opens
 
@@ -41,7 +41,7 @@ module _ (old l new : Log) (s : Step) (o : Outcome) (opens : l.opening ≡ old.o
     running_on (inl plain) =
         subst (RunsAfter old.opening) (sym steps_are) (runs_on old.opening l.steps s own (λ stop. plain (subst IsStop (sym answer_is) stop)) under.running)
 
-    -- If the step is no fault, and stops no processor or leaves one running, the sweep is not over.
+    -- If the step is not a fault, and stops no processor or leaves one running, the sweep is not over.
     pub step_under : (IsFault o → ⊥) × ((IsStop o → ⊥) ⊎ HasRunning new.machine) → IsUnder old.opening (length old.steps) new.steps
     step_under (plain, runs) = record {
       running = running_on runs;
@@ -62,7 +62,7 @@ module _ (old l new : Log) (s : Step) (o : Outcome) (opens : l.opening ≡ old.o
 module _ (limit : ℕ) (old l : Log) (i : ℕ) (opens : l.opening ≡ old.opening) (replayed : IsReplay l.opening l.steps l.machine) (steps : l.steps
     ≡ entered_of old.opening old.steps (take i (round old.machine.config.k))) (few : length l.steps ≤ limit)
     (first : IsFirst old.opening (length old.steps) l.steps) where
-  -- the sweep is over
+  -- If the sweep is over, the round has ended.
   pub round_over : (b : Bool) → b ≡ true → IsOver old.opening (length old.steps) l.steps → WasAskedRound limit old b l
   round_over b is over = record {
     opening = opens;
@@ -89,11 +89,11 @@ module _ (limit : ℕ) (old l : Log) (i : ℕ) (opens : l.opening ≡ old.openin
       goes_on = λ e. record { running = under.running; sound = under.sound; whole = whole; some = some };
     }
 
-    -- there is no room
+    -- If there is no room, the round has ended.
     pub full_round : length old.steps < limit → limit ≤ length l.steps → WasAskedRound limit old b l
     full_round room full = goes_on_by (inr full) (omega (arith, room, full))
 
-    -- the round has no step more
+    -- If the round has no more steps, it has ended.
     pub whole_round : IsMachine old.machine → HasRunning old.machine → IsReplay old.opening old.steps old.machine → length (round old.machine.config.k) ≤ i →
         WasAskedRound limit old b l
     whole_round is running replay over = goes_on_by (inl all) (some (cases_lt (length old.steps) (length l.steps)))

@@ -1,4 +1,4 @@
--- From wire to wire of a row.
+-- From one wire of a row to the next.
 use Rattle.std.proofs.Common.{◌≡◌, ℕ, ◌+◌, ◌-◌, ◌*◌, ◌<◌, ◌≤◌, Bool, false, ◌⊎◌, inl, inr, Option, Some, None, sym, ◌∙◌, subst, arith}
 use Rattle.std.specs.Prelude.{IfSome}
 use Rattle.std.proofs.Math.Nat.{mul-le-mul_right}
@@ -22,12 +22,12 @@ module _ (m : MachineLists) (base wires wire : ℕ) (set : ℕ → Bool) (few : 
       by (inl less) = less
       by (inr past) = absurd (true≢false (sym f.member ∙ few w past))
 
-  -- If the first wire of the set from a wire on is found, it is in the row.
+  -- The first wire of the set from a wire on is in the row.
   pub found_inside : (o : Option ℕ) → IfSome o (IsFirst set wire) → IfSome o (λ w. w < wires)
   found_inside None f = f
   found_inside (Some w) f = inside w f
 
-  -- The steps up to it stall.
+  -- The steps up to the first wire of the set stall.
   pub first_found : (o : Option ℕ) → IfSome o (IsFirst set wire) → IfSome o (λ w. AreQuiet m (base + wire) (base + w))
   first_found None f = f
   first_found (Some w) f = let less = inside w f in up_to w (omega (arith, less)) f.first
@@ -42,12 +42,12 @@ pub found_ahead : (set : ℕ → Bool) (wire : ℕ) (o : Option ℕ) → IfSome 
 found_ahead set wire None f = f
 found_ahead set wire (Some w) f = f.behind
 
--- after the last row there is no step
+-- After the last row there are no more steps.
 pub past_rows : (wires rows row wire : ℕ) → rows ≤ row → wires * rows ≤ row * wires + wire
 past_rows wires rows row wire past =
     let least : rows * wires ≤ row * wires = mul-le-mul_right wires past in
     omega (arith, least)
 
--- The next row begins as many places after a row as there are wires.
+-- A row begins as many places after the row before it as there are wires.
 pub row_ends : (row wires : ℕ) → (row + 1) * wires ≡ row * wires + wires
 row_ends row wires = omega arith

@@ -1,4 +1,4 @@
--- What is left out of a round enters nothing.
+-- Skipped steps of a round would enter nothing.
 use Rattle.std.proofs.Common.{◌≡◌, ℕ, zero, suc, ◌+◌, ◌-◌, ◌<◌, ◌≤◌, List, [], ◌∷◌, length, take, get_or, Some, sym, ap, ◌∙◌, subst, arith}
 use Rattle.std.specs.Prelude.{slice_get}
 use Rattle.std.proofs.lemmas.Option.{slice_get-get_or, slice_get_within}
@@ -15,7 +15,7 @@ use Rattle.schedules.specs.Skips.{AreQuiet, IsNext, IsQuiet}
 use Rattle.schedules.specs.Sweeps.{entered_of}
 use Rattle.schedules.proofs.Asking.{next_asked}
 
--- a step that stalls is not entered
+-- A step that stalls is not entered.
 left_out : (l : Log) (s : Step) → IsReplay l.opening l.steps l.machine →
     outcome_of l.machine.config l.machine.code (machine_of l.machine (λ p. [])) s ≡ Stalled → l.steps ≡ entered_of l.opening l.steps (s ∷ [])
 unfolding entered_of
@@ -25,7 +25,7 @@ module _ (old l : Log) (opens : l.opening ≡ old.opening) (size : l.machine.con
   abbrev all : List Step
   all = round old.machine.config.k
 
-  -- the log has entered what is entered of this many steps of the round
+  -- The steps are what is entered of the first i steps of the round.
   abbrev pub HasAsked : (List Step) → ℕ → Type 0
   HasAsked steps i = steps ≡ entered_of old.opening old.steps (take i all)
 
@@ -51,7 +51,7 @@ module _ (old l : Log) (opens : l.opening ≡ old.opening) (size : l.machine.con
       let same : i + (j - i) ≡ j = omega (arith, ahead) in
       subst (HasAsked l.steps) same (skipped i (j - i) (subst (λ n. n ≤ length all) (sym same) within) (subst (AreQuiet l.machine i) (sym same) quiet) before)
 
-  -- the next step that is asked for
+  -- After the next step is asked for, the log has entered what is entered of the steps up to it.
   pub next_is_asked : (i j : ℕ) (s : Step) (steps' : List Step) → IsNext l.machine i s j → HasAsked l.steps i →
       steps' ≡ entered_of l.opening l.steps (s ∷ []) → HasAsked steps' j
   next_is_asked i j s steps' n before is =

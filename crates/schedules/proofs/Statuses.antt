@@ -1,4 +1,4 @@
--- A step that stops no processor leaves what each processor is doing as it was.
+-- A step that stops no processor changes no processor's status.
 use Rattle.std.proofs.Common.{◌≡◌, ℕ, ◌^◌, Bool, true, false, nat_lt, List, [], ◌∷◌, eqb-true, refl, sym, ap, ◌∙◌, subst}
 use Rattle.std.specs.Prelude.{◌%◌, ◌==◌, cond, eqb, Result, Ok, Err, if◌then◌else◌}
 use Rattle.flat_machine.specs.rv_table.declared.insn.Insn.{Insn}
@@ -38,7 +38,7 @@ use Rattle.schedules.proofs.Own.{IsOwn}
 
 -- ---- a turn
 
--- what the turn makes of the processor, if anything, does what the processor does
+-- The turn, unless it stops the processor, does not change its status.
 abbrev KeepsStatus : Processor → Turn → Type 0
 KeepsStatus p (Retires after retired) = after.status ≡ p.status
 KeepsStatus p (Reaches word change after) = (found : ℕ) → (after found).0.status ≡ p.status
@@ -150,7 +150,7 @@ module _ (c : Config) (code : List ℕ) (M : theory.Machine ObservedCore) where
   keeps_all (step.Down s w) own = either (nat_lt w (2 ^ c.k)) (went_down M (moved_down (sizes_of c) M.net s w)) (goes_down (moved_down (sizes_of c) M.net s w))
   keeps_all (step.Poke q) own = absurd own
 
-  -- A step that writes nothing from outside and stops no processor leaves what each processor is doing as it was.
+  -- A step that writes nothing from outside and stops no processor changes no processor's status.
   pub statuses_kept : (s : Step) → IsOwn s → (IsStop (outcome_of c code M s) → ⊥) → (q : ℕ) → ((after c code M s).core q).state.status ≡ (M.core q).state.status
   unfolding outcome_of after
   statuses_kept s own plain = keeps_all s own plain

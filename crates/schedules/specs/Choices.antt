@@ -1,4 +1,4 @@
--- The steps that an arbiter picks from, and the numbers that it picks by.
+-- The steps from which an arbiter picks, and the numbers by which it picks.
 use Rattle.std.specs.Prelude.{ℕ, zero, suc, ◌+◌, ◌*◌, ◌/◌, ◌%◌, ◌^◌, ◌<◌, ◌==◌, List, [], ◌++◌, map, bit_xor}
 use Rattle.std.specs.Prelude.{if◌then◌else◌}
 use Rattle.std.specs.List.{range_with_len}
@@ -11,7 +11,7 @@ use Rattle.steps.specs.declared.step.Step.TheVariants.{Turn, Up, Serve, Down, Po
 abbrev pub by_wire : (k : ℕ) → (ℕ → Step) → List Step
 by_wire k step = map step (range_with_len 0 (2 ^ k))
 
--- a step for each of the first stages and each wire, by stage, and by wire in each
+-- a step for each of the first stages and each wire, by stage, and within each stage by wire
 abbrev pub by_stage : (k stages : ℕ) → (ℕ → ℕ → Step) → List Step
 by_stage k zero step = []
 by_stage k (suc stage) step = by_stage k stage step ++ by_wire k (step stage)
@@ -30,11 +30,11 @@ IsOfNetwork k (Poke poke) = ⊥
 
 -- ---- the generator, whose states are numbers below 2 ^ 32
 
--- the number that a run begins with and the processor's number, where these are not 0 together
+-- the sum of the number with which a run begins and the processor's number, or 1 if that is 0
 abbrev pub first_state : (start p : ℕ) → ℕ
 first_state start p = let sum = (start + p) % 2 ^ 32 in if sum == 0 then 1 else sum
 
--- the bits of a number, each changed where the bit this many places below it, or above it, is 1
+-- the number with each bit flipped if the bit `places` below it (`mixed_up`) or above it (`mixed_down`) is 1
 abbrev pub mixed_up : (x places : ℕ) → ℕ
 mixed_up x places = bit_xor x ((x * 2 ^ places) % 2 ^ 32)
 

@@ -3,7 +3,7 @@ use Rattle.std.specs.Prelude.{List, [], ◌∷◌}
 use Rattle.steps.specs.declared.step.Step.{Step}
 use Rattle.steps.specs.declared.step.Step.TheVariants as step
 
--- the step writes nothing from outside
+-- The step writes nothing from outside.
 abbrev pub IsOwn : Step → Type 0
 IsOwn (step.Poke q) = ⊥
 IsOwn (step.Turn p) = Unit {0}

@@ -16,7 +16,7 @@ pub fn choice_at(k: u8, place: u32) -> Step
     choice_in(k, (place / wires) as u8, (place % wires) as u8)
 }
 
-/// The step on a wire of a row of the list. A row has a step for each wire. The first `k` rows have the moves up by
+/// The step at a wire of a row of the list. A row has a step for each wire. Rows 0 to `k - 1` have the moves up by
 /// stage, row `k` has the services, and the rows after it have the moves down by stage.
 fn choice_in(k: u8, row: u8, wire: u8) -> Step
     requires stages { k ≤ 6 }

@@ -4,7 +4,7 @@ ghost use Rattle.std.specs.Prelude.{◌≡◌, ℕ, ◌+◌, ◌*◌, ◌^◌, S
 ghost use Rattle.steps.specs.declared.step.Step.{Step};
 ghost use Rattle.schedules.specs.Choices.{choices, IsOfNetwork};
 
-/// The list has a step for each move of the network and each service, and names no place that the machine has not.
+/// The list has exactly the moves of the network's messages and the services of its modules.
 pub fn choices_are_of_the_network()
     ensures count { (k : ℕ) → length (choices k) ≡ 2 * k * 2 ^ k + 2 ^ k }
     ensures named { (k place : ℕ) (s : Step) → slice_get (choices k) place ≡ Some s → IsOfNetwork k s }

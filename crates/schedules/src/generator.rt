@@ -1,9 +1,9 @@
-//! The generator of numbers.
+//! The generator of pseudorandom numbers.
 
 ghost use Rattle.std.specs.Prelude.{◌≡◌};
 ghost use Rattle.schedules.specs.Choices.{first_state, next_state};
 
-/// The state with which the choices of processor `p` begin, in a run that begins with this number.
+/// The state with which the choices of processor `p` begin, in a run that begins with `start`.
 pub fn first_state(start: u32, p: u8) -> u32
     ensures { result ≡ first_state start p }
 {

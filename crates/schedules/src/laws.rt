@@ -1,4 +1,4 @@
-//! What holds of sweeps and their runs. Each law is the contract of a function that does nothing.
+//! Laws of sweeps and their runs. Each is the contract of a function that does nothing.
 
 ghost use Rattle.std.specs.Prelude.{◌≡◌, ℕ, Some, length, slice_get};
 ghost use Rattle.flat_machine.specs.declared.config.Config.{Config};
@@ -16,8 +16,8 @@ ghost use Rattle.schedules.specs.declared.sweeping.SweepEnd.{SweepEnd};
 
 pub use crate::choice_laws::choices_are_of_the_network;
 
-/// The steps that a run enters are a function of the machine's size, the image and how many steps it
-/// enters at most: the same run comes out each time.
+/// The log of a run depends only on the machine's configuration, the image and the limit of steps: runs are
+/// reproducible.
 pub fn runs_have_one_log()
     ensures { (c : Config) (image : ImageContents) (most : ℕ) (end other : SweepEnd) (first second : Log) →
         IsWholeRun c image most end first →

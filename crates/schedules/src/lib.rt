@@ -1,13 +1,13 @@
-//! Schedules: which steps a machine is asked to take.
+//! Schedules: the steps that a machine is asked to take.
 //!
 //! [`follow_sweep`] follows the sweep, round after round, and enters the steps that do something, until a fault stops a
-//! processor, none runs, or the budget is used up; then it drains the machine. It does not ask for steps that find no
+//! processor, no processor runs, or the budget is used up. Then it drains the machine. It skips steps that find no
 //! message, since they would stall: it goes through the rows of a round by the kind of their steps ([`Row`]). A caller
-//! that may stand anywhere in a round is reported its steps one at a time ([`Round`]).
+//! that may be anywhere in a round gets its steps one at a time ([`Round`]).
 //!
-//! On threads, an [`Arbiter`] says which step of the network a thread asks for next; each thread has one of its own.
-//! [`Shuffled`] is the program's: a generator of numbers, which picks a step of the list of all moves of the network
-//! and all services. `specs/Choices.antt` has the list and the generator.
+//! Each thread has an [`Arbiter`] of its own, which names the step of the network that the thread asks for next.
+//! [`Shuffled`] is the program's arbiter: by a generator of numbers, it picks a step from the list of all moves and
+//! services of the network. `specs/Choices.antt` defines the list and the generator.
 #![tactic(auto)]
 
 mod arbiter;

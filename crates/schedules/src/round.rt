@@ -1,4 +1,4 @@
-//! A round of the sweep, from step to step that may do something.
+//! A round of the sweep, without the steps that would stall for lack of a message.
 
 ghost use Rattle.std.specs.Prelude.{◌≡◌, ◌≤◌, ◌<◌, ◌+◌, ◌*◌, ◌^◌, None, IfSome, length};
 ghost use Rattle.schedules.specs.Rounds.{round};
@@ -10,12 +10,12 @@ use machine_steps::Machine;
 use std::marker::Model;
 use steps::Step;
 
-/// How far a machine has come in a round of the sweep.
+/// A position in a round of the sweep.
 #[derive(Debug, Drop)]
 pub struct Round {
     k: u8,
     row: u8,
-    /// The next wire of the row, or how many there are.
+    /// The next wire of the row, or the number of wires at the row's end.
     wire: u8,
 }
 
@@ -39,8 +39,8 @@ impl Round {
         Round { k, row: 0, wire: 0 }
     }
 
-    /// The next step of the round that may do something on a machine: a turn, or a move or a service of a
-    /// message that stands there. Each step that it leaves out would stall. None where no step is left.
+    /// Returns the next step of the round that may do something on a machine: a turn, or a move or service that finds a
+    /// message. The steps that it skips would stall. None if no step is left.
     pub fn next(&mut self, machine: &Machine) -> Option<Step>
         requires { machine.now.config.k ≡ self.old.k }
         ensures size { self.new.k ≡ self.old.k }
@@ -61,7 +61,7 @@ impl Round {
     }
 }
 
-/// The first wire of a row, this one or one after it, whose step may do something.
+/// The first wire of a row, from `wire` on, whose step may do something.
 fn first_from(machine: &Machine, row: u8, wire: u8) -> Option<u8>
     requires stages { machine.now.config.k ≤ 6 }
     requires row { row < 2 * machine.now.config.k + 2 }

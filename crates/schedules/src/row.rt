@@ -1,4 +1,4 @@
-//! The rows of a round: steps of one kind each.
+//! The rows of a round, each with steps of one kind.
 
 ghost use Rattle.std.specs.Prelude.{◌≡◌, ◌≤◌, ◌<◌, ◌+◌, ◌*◌, ◌^◌, ℕ, None, Some, IfSome, slice_get};
 ghost use Rattle.schedules.specs.Rounds.{place_of, round};
@@ -9,17 +9,17 @@ use omega_wires::WireSet;
 use steps::Step;
 
 /// A row of a round: a step of one kind for each wire.
-// Each kind is a type of its own, so that who goes through a row is compiled for steps of that kind alone.
+// Each kind is a type of its own, so that the loop over a row is compiled for steps of that kind alone.
 pub trait Row {
     ghost use Rattle.std.specs.Prelude.{ℕ};
 
-    /// Whether a round of a machine of this many stages has the row.
+    /// Whether a round of a machine with this number of stages has the row.
     ghost is_there: { Self → ℕ → Type 0 };
 
-    /// Which row it is, from 0, in a round of a machine of this many stages.
+    /// The row's number, from 0, in a round of a machine with this number of stages.
     ghost number: { Self → ℕ → ℕ };
 
-    /// The first wire of the row, this one or one after it, whose step may do something.
+    /// The first wire of the row, from `wire` on, whose step may do something.
     fn first(&self, machine: &Machine, wire: u8) -> Option<u8>
         requires there { Self.is_there self.now machine.now.config.k }
         ensures ahead { IfSome result (λ w. wire ≤ w) }
@@ -27,12 +27,12 @@ pub trait Row {
         ensures first { IfSome result (AreQuietInRow machine.now (Self.number self.now machine.now.config.k) wire) }
         ensures none { result ≡ None → IsRestQuiet machine.now (Self.number self.now machine.now.config.k) wire };
 
-    /// The step of a wire.
+    /// The step at a wire.
     fn step(&self, wire: u8) -> Step
         ensures { (k : ℕ) → k ≤ 6 → Self.is_there self.now k → wire < 2 ^ k →
             slice_get (round k) (place_of k (Self.number self.now k) wire) ≡ Some result };
 
-    /// It is one of the rows that a round has.
+    /// The row's number is below the number of rows in a round.
     ghost is_within: { (row : Self) (k : ℕ) → is_there row k → number row k < 2 * k + 2 };
 }
 

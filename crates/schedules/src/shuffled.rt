@@ -1,4 +1,4 @@
-//! The program's arbiter.
+//! The arbiter that the program uses.
 
 ghost use Rattle.std.specs.Prelude.{◌≡◌, ◌≤◌, ◌+◌, ◌*◌, ◌%◌, ◌^◌, Some, slice_get};
 ghost use Rattle.schedules.specs.Choices.{choices, first_state, next_state};
@@ -9,7 +9,7 @@ use crate::generator::{first_state, next_state};
 use std::marker::Model;
 use steps::Step;
 
-/// An arbiter that picks by a generator of numbers. Contracts see its state.
+/// An arbiter that picks by a generator of numbers. Its model is the generator's state.
 #[derive(Debug, Drop)]
 pub struct Shuffled {
     state: u32,
@@ -24,7 +24,7 @@ impl Model for Shuffled {
 }
 
 impl Shuffled {
-    /// The arbiter of processor `p`, in a run that begins with this number.
+    /// The arbiter of processor `p`, in a run that begins with `start`.
     pub fn new(start: u32, p: u8) -> Self
         ensures { result ≡ first_state start p }
     {
@@ -35,7 +35,7 @@ impl Shuffled {
 }
 
 impl Arbiter for Shuffled {
-    /// Goes on to the next state, and picks the step at that place of the list, counted round and round.
+    /// Advances to the next state, and picks the step whose place in the list is that number modulo the list's length.
     fn next(&mut self, k: u8) -> Step
         requires { k ≤ 6 }
         ensures state { self.new ≡ next_state self.old }

@@ -15,27 +15,27 @@ use machine_log::{LockRefusal, Logged, ReservedLog};
 use machine_steps::{Machine, any_runs};
 use steps::Outcome;
 
-/// The largest budget: a sweep enters this many steps at most. The log of a new machine has room for them, and
-/// for those of a drain.
+/// The largest budget: the most steps that a sweep enters. The log of a new machine has room for them and for those of
+/// a drain.
 pub const MAX_BUDGET: u32 = 4_000_000;
 
-/// Where a sweep ended.
+/// Why a sweep ended.
 #[derive(Clone, Copy, Debug, PartialEq, Eq, Drop)]
 pub enum SweepEnd {
     /// A fault stopped a processor, or no processor runs.
     Over,
-    /// As many steps were entered as the budget has. A processor runs, and no fault has stopped one.
+    /// The budget is used up. A processor still runs, and no fault has stopped one.
     Budget,
 }
 
-/// Follows the sweep, from the beginning of a round, until a fault stops a processor, no processor runs, or
-/// as many steps are entered as the budget has, [`MAX_BUDGET`] at most. Then takes steps until no reference
-/// is open, as [`Logged::drain`] does. For all these steps it makes room first.
+/// Follows the sweep from the beginning of a round, until a fault stops a processor, no processor runs, or the budget,
+/// [`MAX_BUDGET`] at most, is used up. Then it takes steps until no reference is open, as [`Logged::drain`] does. It
+/// reserves room for all these steps first.
 ///
 /// # Errors
 ///
-/// [`LockRefusal::Full`] where the log would pass [`steps::MAX_STEPS`] steps with as many, else
-/// [`LockRefusal::Memory`] where there is no memory for them. Each leaves all as it was.
+/// [`LockRefusal::Full`] if that many steps could take the log past [`steps::MAX_STEPS`]; otherwise
+/// [`LockRefusal::Memory`] if out of memory. Either error changes nothing.
 pub fn follow_sweep(log: &mut Logged, budget: u32) -> Result<SweepEnd, LockRefusal>
     ensures swept { IfOk result (λ end. IsSwept (most_of budget) log.old end log.new) }
     ensures records { OnOk result (HaveRecords log.old.machine.config.k log.old.steps →
@@ -51,7 +51,7 @@ pub fn follow_sweep(log: &mut Logged, budget: u32) -> Result<SweepEnd, LockRefus
     Ok(sweep(log.room(room)?, most))
 }
 
-/// How many steps a sweep that enters this many, and its drain, enter at most.
+/// The most steps that a sweep of at most `most` steps and its drain enter.
 pub fn most_steps(machine: &Machine, most: u32) -> u32
     requires { most ≤ 4000000 }
     ensures { result ≡ most + drain_bound machine.now.config }
@@ -60,7 +60,7 @@ pub fn most_steps(machine: &Machine, most: u32) -> u32
     most + machine.drain_bound()
 }
 
-/// Follows the sweep for this many steps at most, and then drains the machine. There is room for the steps.
+/// Follows the sweep for at most `most` steps, and then drains the machine. The log has room for all these steps.
 fn sweep(log: &mut ReservedLog, most: u32) -> SweepEnd
     requires few { most ≤ 4000000 }
     requires room { most + drain_bound log.old.log.machine.config ≤ log.old.capacity_left }
@@ -76,7 +76,7 @@ fn sweep(log: &mut ReservedLog, most: u32) -> SweepEnd
     end
 }
 
-/// Follows the sweep until it is over, or the log has this many steps.
+/// Follows the sweep until it is over, or the log has `limit` steps.
 fn follow(log: &mut ReservedLog, limit: usize) -> SweepEnd
     requires few { length log.old.log.steps ≤ limit }
     requires room { limit ≤ length log.old.log.steps + log.old.capacity_left }
@@ -87,7 +87,7 @@ fn follow(log: &mut ReservedLog, limit: usize) -> SweepEnd
     if !any_runs(log.machine()) {
         return SweepEnd::Over;
     }
-    // While the sweep is not over, a round enters a step.
+    // While the sweep is not over, each round enters at least one step.
     while log.steps().len() < limit {
         if take_round(log, limit) {
             return SweepEnd::Over;
@@ -96,8 +96,8 @@ fn follow(log: &mut ReservedLog, limit: usize) -> SweepEnd
     SweepEnd::Budget
 }
 
-/// Takes a round of the sweep, up to the step by which the sweep is over, or after which the log has this many
-/// steps. Answers whether it is over.
+/// Takes a round of the sweep, up to the step after which the sweep is over or the log has `limit` steps. Returns
+/// whether the sweep is over.
 fn take_round(log: &mut ReservedLog, limit: usize) -> bool
     requires few { length log.old.log.steps < limit }
     requires room { limit ≤ length log.old.log.steps + log.old.capacity_left }
@@ -167,9 +167,9 @@ fn take_downs(log: &mut ReservedLog, limit: usize) -> Option<bool>
     None
 }
 
-/// Asks for the steps of a row that may do something, one after another. Where the round ends among them, answers
-/// whether the sweep is over: it is by the last step, or else the log has this many steps.
-// A part of its caller, for each kind of row: what a step of one kind may do, and answer, is known there.
+/// Asks for the steps of a row that may do something, one after another. If the round ends among them, returns whether
+/// the sweep is over; if it is not, the log has `limit` steps.
+// Inlined for each kind of row, so that the compiler knows what a step of that kind may do and answer.
 #[inline(always)]
 fn take_row<R: Row>(log: &mut ReservedLog, limit: usize, row: &R) -> Option<bool>
     requires there { R.is_there row.now log.old.log.machine.config.k }
@@ -190,7 +190,7 @@ fn take_row<R: Row>(log: &mut ReservedLog, limit: usize, row: &R) -> Option<bool
     Some(false)
 }
 
-/// Whether a sweep is over after a step that answered this, on the machine that it left.
+/// Returns whether a sweep is over after a step with this outcome that left this machine.
 pub fn is_over(outcome: &Outcome, machine: &Machine) -> bool
     ensures over { result ≡ true → IsFault outcome.now ⊎ (HasRunning machine.now → ⊥) }
     ensures not { result ≡ false → (IsFault outcome.now → ⊥) × ((IsStop outcome.now → ⊥) ⊎ HasRunning machine.now) }
