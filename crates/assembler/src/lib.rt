@@ -4,8 +4,8 @@
 //! whole text determines the values of labels. The code works in two passes: the first finds the place of each line and
 //! the value of each label, the second finds the bytes.
 //!
-//! [`Program::to_elf`] makes a program's image file. `specs/Openings.antt` says, address by address, what a machine that
-//! opens on a text has. The law [`image_opens_on_the_text`] shows that a machine opens so on the image file.
+//! [`Program::to_elf`] makes a program's image file. `specs/Openings.antt` says, address by address, what a machine has
+//! after it opens on a text. The law [`image_opens_on_the_text`] shows that the image file does this.
 //!
 //! [`disassemble`] writes the text that `asm_lines` defines for an instruction (`text_of`). The law
 //! [`disassembled_again`] shows that this text means the word that spells the instruction.

@@ -21,7 +21,7 @@ pub enum LocalEnd {
 }
 
 /// Runs a core's local instructions one after another, and lists what each retired. The run ends after the first that
-/// writes a byte to the console, before the first that is not local, and when the list is full. It allocates no memory.
+/// writes a byte to the console, before the first that is not local, or when the list is full. It allocates no memory.
 pub fn run_local(core: &mut Core, code: &Code, retirements: &mut Retirements) -> LocalEnd
     ensures { HasRunLocally code.now core.old core.new retirements.old retirements.new result }
 {
