@@ -16,7 +16,7 @@ ghost use Rattle.schedules.specs.declared.sweeping.SweepEnd.{SweepEnd};
 
 pub use crate::choice_laws::choices_are_of_the_network;
 
-/// The log of a run depends only on the machine's configuration, the image and the limit of steps: runs are
+/// The steps that a run enters depend only on the machine's configuration, the image and the limit of steps: runs are
 /// reproducible.
 pub fn runs_have_one_log()
     ensures { (c : Config) (image : ImageContents) (most : ℕ) (end other : SweepEnd) (first second : Log) →

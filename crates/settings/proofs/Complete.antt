@@ -32,7 +32,7 @@ required : (given : Bool) → check_kinds false false (not given || false) ≡ [
 required true e = refl
 required false e = cc
 
--- If neither of two required arguments is a fault, both are given.
+-- If two required arguments cause no fault, both are given.
 both_required : (one other : Bool) → check_kinds false false (not one || (not other || false)) ≡ [] → (one ≡ true) × (other ≡ true)
 both_required true true e = (refl, refl)
 both_required true false e = cc

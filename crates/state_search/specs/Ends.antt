@@ -15,7 +15,7 @@ AreRows e t rows = (i : ℕ) → i < length rows → IsRow e t (slice_index_or r
 abbrev pub AreDifferentStates : (count : ℕ) → (state : ℕ → MacroState) → Type 0
 AreDifferentStates count state = (i j : ℕ) → i < count → j < count → state i ≡ state j → i ≡ j
 
--- The rows mean all states that moves reach from a first one, up to exchanges, with their successors, in breadth-first
+-- The rows mean states that moves reach from a first one, up to exchanges, with their successors, in breadth-first
 -- order. No two mean the same state.
 pub record AreFound (e : Extent) (code : List ℕ) (classes : List ℕ) (t : TableLists) (rows moves : List (List ℕ))
     (first : MacroState) : Type 0 where

@@ -29,8 +29,8 @@ pub struct StateSpace<const N: usize> {
     pub moves: Successors,
 }
 
-/// Finds all rows to which references lead from `first`, up to exchanges of processors of one class. It reports their
-/// number to `observer` as it finds them.
+/// Finds all rows to which references lead from `first`, up to exchanges of processors of one class. It does not search
+/// beyond a row in which a processor spins. It reports the number of rows to `observer` as it finds them.
 ///
 /// # Errors
 ///

@@ -2,9 +2,8 @@
 //!
 //! In a state, every processor is at its next reference to a shared word, has stopped, or spins. The state also has
 //! what each processor has printed, and the shared words: it is a `MacroState` of `local_reduction`. Tables that only
-//! grow hold the local states and the lists of words ([`StateTables`]). A state is a row of their numbers, a
-//! [`StateVector`].
-//! [`explore_states`] finds every row that references lead to from a first one.
+//! grow hold the local states and the lists of words ([`StateTables`]). A row of their numbers represents a state
+//! ([`StateVector`]). [`explore_states`] finds every row to which references lead from a first one.
 #![tactic(auto)]
 
 mod classes;

@@ -30,8 +30,8 @@ pub fn canonical<const N: usize>(
     new
 }
 
-/// Trades two processors if they are of one class and the first has the greater number. If they trade, returns the
-/// other place than `at`, to which the processor at `at` has moved.
+/// Trades two processors if they are of one class and the first has the greater number. Returns where the processor
+/// that was at `at`, one of the two places, is afterwards.
 fn step<const N: usize>(
     row: &mut StateVector<N>,
     classes: &[u8],
