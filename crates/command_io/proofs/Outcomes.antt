@@ -1,4 +1,4 @@
--- What a command reports, of what it comes to.
+-- What a command reports of its result.
 use Rattle.std.proofs.Common.{◌≡◌, ◌↔◌, ◌∙◌, Bool, true, ℕ, ap, sym, refl}
 use Rattle.std.specs.Prelude.{Err, IfErr, IfOk, Ok, Result}
 use Rattle.std.proofs.lemmas.Result.{IfErr-at_err, IfOk-at_ok}
@@ -10,7 +10,7 @@ module _ {T F : Type 0} where
   error_or other (Ok x) = other
   error_or other (Err f) = f
 
-  -- If a result is the error of a link exactly if the link has failed, so is the error of the result.
+  -- If a result is the link's error exactly if the link has failed, the same holds of the error in the result.
   pub of_link : (r : Result T F) (f x : F) (has_failed : Bool) → r ≡ Err f → (r ≡ Err x) ↔ (has_failed ≡ true) → IsOfLink x has_failed f
   unfolding error_or
   of_link r f x has_failed is exact = (
@@ -19,7 +19,7 @@ module _ {T F : Type 0} where
   )
 
 module _ {T F : Type 0} {status_of : F → ℕ} {is_reported : F → Type 0} {status : ℕ} where
-  -- If each error that the result can be has this cause, the cause is reported.
+  -- If each error of the result has a cause, a report of the result's error is a report of that cause.
   pub reports_with : (r : Result T F) (is_cause : F → Type 0) → ((f : F) → r ≡ Err f → is_cause f) →
       ReportsRefusal status_of (λ f. r ≡ Err f) is_reported status → ReportsRefusal status_of is_cause is_reported status
   reports_with r is_cause causes known = record {

@@ -1,4 +1,4 @@
--- A text that is written in several writes.
+-- A text that several writes append.
 use Rattle.std.proofs.Common.{◌≡◌, ℕ, ◌+◌, ◌-◌, ◌<◌, ◌≤◌, List, [], ◌∷◌, ◌++◌, take, drop, get_or}
 use Rattle.std.proofs.Common.{length, refl, sym, subst, append_assoc, append-nil, length-append, add-one, drop-cons, Option, Bor, arith, inl, inr}
 use Rattle.std.proofs.lemmas.List.{drop_all, take-append-drop}
@@ -7,18 +7,18 @@ use Rattle.std.proofs.KnownBytes.{Appends-nil, Appends-trans}
 use Rattle.std.specs.Io.KnownBytes.{Appends}
 use Rattle.command_io.specs.FaultTexts.{AppendsOrPart, joined}
 
--- all of the text but this rest is written
+-- All of the text but this rest is written.
 pub record IsBegun (old new : Option (List ℕ)) (text rest : List ℕ) : Type 0 where
   pub written : List ℕ
   -- The text is what is written, and then the rest.
   pub whole : text ≡ written ++ rest
   pub appends : Appends old new written
 
--- nothing is written yet
+-- Before the first write, the rest is the whole text.
 pub begun_none : (old : Option (List ℕ)) (text : List ℕ) → IsBegun old old text text
 begun_none old text = record { written = []; whole = refl; appends = Appends-nil old }
 
--- one more write
+-- After one more write, the rest is shorter by what was written.
 pub begun_more : (old between new : Option (List ℕ)) (text rest : List ℕ) (n k : ℕ) → length rest ≤ k → IsBegun old between text rest →
     Appends between new (take n rest) → IsBegun old new text (take (k - n) (drop n rest))
 begun_more old between new text rest n k h b more = record {
@@ -27,7 +27,7 @@ begun_more old between new text rest n k h b more = record {
   appends = Appends-trans old between new b.written (take n rest) b.appends more;
 }
 
--- one more text whole
+-- After the next text is written whole, the rest is what comes after it.
 pub begun_whole : (old between new : Option (List ℕ)) (text part rest : List ℕ) → IsBegun old between text (part ++ rest)
     → Appends between new part → IsBegun old new text rest
 begun_whole old between new text part rest b more = record {
@@ -36,7 +36,7 @@ begun_whole old between new text part rest b more = record {
   appends = Appends-trans old between new b.written part b.appends more;
 }
 
--- one more text, or a beginning of it
+-- If the next text or a beginning of it is written, the whole text or a beginning of it is written.
 pub begun_part : (old between new : Option (List ℕ)) (text part rest : List ℕ) → IsBegun old between text (part ++ rest)
     → AppendsOrPart between new part → AppendsOrPart old new text
 begun_part old between new text part [] b (inl whole) =

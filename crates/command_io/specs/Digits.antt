@@ -7,11 +7,11 @@ use Rattle.flat_machine.specs.declared.event.Status.{Status}
 use Rattle.flat_machine.specs.declared.event.Status.TheVariants.{Running, Halted, Faulted}
 use Rattle.flat_machine.specs.State.{number_of_fault}
 
--- two hex digits in lower case for each byte
+-- each byte as two lower-case hex digits
 abbrev pub hex_of_bytes : List ℕ → List ℕ
 hex_of_bytes bytes = encode_lower bytes
 
--- eight hex digits, the highest first
+-- eight hex digits, most significant first
 abbrev pub hex_of_word : ℕ → List ℕ
 hex_of_word word = hex_of_bytes (to_be_bytes w32 word)
 
@@ -23,7 +23,7 @@ hex_of_byte byte = hex_of_bytes (byte ∷ [])
 abbrev pub line_feed : List ℕ
 line_feed = 10 ∷ []
 
--- what a processor is doing
+-- the status of a processor
 abbrev pub status_text : Status → List ℕ
 status_text Running = codes "run"
 status_text (Halted byte) = codes "halt " ++ hex_of_byte byte

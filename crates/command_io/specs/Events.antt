@@ -4,7 +4,7 @@ use Rattle.flat_machine.specs.declared.event.Event.{Event}
 use Rattle.flat_machine.specs.declared.event.Event.TheVariants.{Retired, Stopped}
 use Rattle.command_io.specs.Tallies.{ShownBy, TallyState, nothing_shown, with_retired}
 
--- one event more
+-- what has been shown after one more event
 abbrev pub with_event : ShownBy → Event → ShownBy
 with_event s (Retired retired) = with_retired s retired.out
 with_event s (Stopped cause) = s
@@ -17,7 +17,7 @@ shown_from s (event ∷ events) = shown_from (with_event s event) events
 abbrev pub shown_by : List Event → ShownBy
 shown_by events = shown_from nothing_shown events
 
--- The tally has what each of this many processors has shown in this many steps.
+-- The tally has one entry for each processor, with what that processor's events show, and has noted this many steps.
 pub record IsTally (processors : ℕ) (t : TallyState) (events : ℕ → List Event) (steps : ℕ) : Type 0 where
   pub all : length t.shown ≡ processors
   pub each : (p : ℕ) → p < processors → slice_index_or t.shown p nothing_shown ≡ shown_by (events p)

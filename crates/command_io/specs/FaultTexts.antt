@@ -1,4 +1,4 @@
--- What is printed of a fault on standard error.
+-- How a fault is printed on standard error.
 use Rattle.std.specs.Prelude.{◌⊎◌, ℕ, List, [], ◌++◌, Option, codes}
 use Rattle.std.specs.Borrow.{Bor}
 use Rattle.std.specs.Fmt.{decimal}
@@ -15,7 +15,7 @@ use Rattle.command_io.specs.declared.fault.Fault.{Fault}
 use Rattle.command_io.specs.declared.fault.Fault.TheVariants as fault
 use Rattle.command_io.specs.Digits.{line_feed}
 
--- the codes of the assembler's faults
+-- the codes of assembler faults
 abbrev pub text_code : AsmFault → List ℕ
 text_code line_fault.UnknownWord = codes "A1"
 text_code line_fault.Form = codes "A2"
@@ -25,7 +25,7 @@ text_code line_fault.LabelMissing = codes "A5"
 text_code line_fault.SectionFull = codes "A6"
 text_code line_fault.Memory = codes "A7"
 
--- the codes of images that are not there
+-- the codes of image errors
 abbrev pub image_code : ImageError → List ℕ
 image_code image.Truncated = codes "I1"
 image_code image.NotExecutable = codes "I2"
@@ -38,7 +38,7 @@ image_code image.TooLong = codes "I8"
 image_code image.Link = codes "I9"
 image_code image.Memory = codes "I10"
 
--- the codes of traces that are not there
+-- the codes of trace errors
 abbrev pub trace_code : TraceError → List ℕ
 trace_code trace.Truncated = codes "X1"
 trace_code trace.Header = codes "X2"
@@ -47,7 +47,7 @@ trace_code trace.Trailing = codes "X4"
 trace_code trace.Link = codes "X5"
 trace_code trace.Memory = codes "X6"
 
--- the code of a fault, a name that it has for whoever reads standard error
+-- the code of a fault, which names it on standard error
 abbrev pub code_of : Fault → List ℕ
 code_of (fault.Line number) = codes "V1"
 code_of (fault.Text e) = text_code e.fault
@@ -65,14 +65,14 @@ code_of fault.Alone = codes "alone"
 code_of fault.Link = codes "link"
 code_of fault.Memory = codes "memory"
 
--- where the fault is in its file: a line, from 1, or a step, from 0
+-- the place of a fault in its file: a line, counted from 1, or a step, counted from 0
 abbrev pub place_of : Fault → List ℕ
 place_of (fault.Line number) = codes " line " ++ decimal number
 place_of (fault.Text e) = codes " line " ++ decimal e.line
 place_of (fault.Stalled place) = codes " step " ++ decimal place
 place_of other = []
 
--- a fault's code, and where it is
+-- the code of a fault, and its place
 unfoldable pub fault_text : Fault → List ℕ
 fault_text f = code_of f ++ place_of f
 
@@ -80,7 +80,7 @@ fault_text f = code_of f ++ place_of f
 unfoldable pub fault_line : Fault → List ℕ
 fault_line f = codes "ultra: " ++ fault_text f ++ line_feed
 
--- The text stands after what was there; or, if a write failed, a beginning of it.
+-- All of the text is appended, or, if a write failed, a beginning of it.
 abbrev pub AppendsOrPart : (old new : Option (List ℕ)) → (text : List ℕ) → Type 0
 AppendsOrPart old new text = Appends old new text ⊎ AppendsPart old new text
 
@@ -88,6 +88,6 @@ AppendsOrPart old new text = Appends old new text ⊎ AppendsPart old new text
 abbrev pub joined : List (Bor (List ℕ)) → List ℕ
 joined parts = flat_map (λ (part : Bor (List ℕ)). part.now) parts
 
--- Standard error has got the line that reports the fault; or, if a write failed, a beginning of it.
+-- Standard error got the line that reports the fault, or, if a write failed, a beginning of it.
 abbrev pub IsReported : (old new : Option (List ℕ)) → Fault → Type 0
 IsReported old new f = AppendsOrPart old new (fault_line f)

@@ -5,7 +5,7 @@ use Rattle.flat_machine.specs.declared.event.Status.{Status}
 use Rattle.command_io.specs.Digits.{hex_of_bytes, hex_of_word, line_feed, status_text}
 use Rattle.command_io.specs.Tallies.{ShownBy}
 
--- two hex digits for each byte, or `-` where there is none
+-- two hex digits for each byte, or `-` if there are none
 abbrev pub console_text : List ℕ → List ℕ
 console_text [] = codes "-"
 console_text (byte ∷ bytes) = hex_of_bytes (byte ∷ bytes)
@@ -20,6 +20,6 @@ processor_line number pc status shown =
 unfoldable pub word_line : (number word : ℕ) → List ℕ
 word_line number word = codes "word " ++ decimal number ++ codes " " ++ hex_of_word word ++ line_feed
 
--- a word that is zero has no line
+-- the line of a word; a word that is zero has none
 abbrev pub word_lines : (number word : ℕ) → List ℕ
 word_lines number word = if word == 0 then [] else word_line number word

@@ -7,7 +7,7 @@ use Rattle.steps.specs.declared.step.Step.TheVariants.{Turn}
 use Rattle.steps.specs.declared.step.Outcome.{Outcome}
 use Rattle.steps.specs.declared.step.Outcome.TheVariants.{Retired}
 
--- how many instructions of a processor have retired, and the bytes that it gave to the console
+-- How many instructions a processor has retired, and the bytes that it wrote to the console.
 pub record ShownBy : Type 0 where
   pub retired : ℕ
   pub console : List ℕ
@@ -16,16 +16,16 @@ pub record ShownBy : Type 0 where
 abbrev pub nothing_shown : ShownBy
 nothing_shown = record { retired = 0; console = [] }
 
--- one instruction more has retired
+-- what has been shown after one more instruction has retired
 abbrev pub with_retired : ShownBy → (out : Option ℕ) → ShownBy
 with_retired s out = record { retired = s.retired + 1; console = with_byte s.console out }
 
--- what the processors of a machine have shown in this many steps
+-- What the processors of a machine have shown in the `observed` steps.
 pub record TallyState : Type 0 where
   pub shown : List ShownBy
   pub observed : ℕ
 
--- no processor has shown more than there were steps
+-- No processor has retired more instructions than there were steps.
 abbrev pub AreFew : TallyState → Type 0
 AreFew t = All (λ (s : ShownBy). s.retired ≤ t.observed) t.shown
 
@@ -33,7 +33,7 @@ abbrev pub retired_at : List ShownBy → ℕ → (out : Option ℕ) → Option S
 retired_at shown p out None = shown
 retired_at shown p out (Some s) = slice_set shown p (with_retired s out)
 
--- what a step's outcome adds
+-- what has been shown after a step with this outcome
 abbrev pub shown_after : List ShownBy → Step → Outcome → List ShownBy
 shown_after shown (Turn p) (Retired retired) = retired_at shown p retired.out (slice_get shown p)
 shown_after shown _ _ = shown

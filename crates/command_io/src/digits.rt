@@ -1,4 +1,4 @@
-//! Digits.
+//! Numbers, bytes and statuses as they are printed.
 
 ghost use Rattle.std.specs.Prelude.{◌≡◌, ◌++◌, codes, OnOk, string_bytes};
 ghost use Rattle.std.specs.Fmt.{decimal};
@@ -9,11 +9,11 @@ use flat_machine::Status;
 use std::alloc::{AllocError, Global};
 use std::fmt::Write;
 
-/// Appends two hex digits in lower case for each byte.
+/// Appends each byte as two lower-case hex digits.
 ///
 /// # Errors
 ///
-/// [`AllocError`] where there is no memory for them.
+/// [`AllocError`] if there is no memory for them.
 pub fn push_bytes(alloc: Global, text: &mut String, bytes: &[u8]) -> Result<(), AllocError>
     ensures { OnOk result (string_bytes text.new ≡ string_bytes text.old ++ hex_of_bytes bytes.now) }
 {
@@ -21,22 +21,22 @@ pub fn push_bytes(alloc: Global, text: &mut String, bytes: &[u8]) -> Result<(), 
     text.push_str(digits.as_str())
 }
 
-/// Appends eight hex digits in lower case, the highest first.
+/// Appends a word as eight lower-case hex digits, most significant first.
 ///
 /// # Errors
 ///
-/// [`AllocError`] where there is no memory for them.
+/// [`AllocError`] if there is no memory for them.
 pub fn push_word(alloc: Global, text: &mut String, word: u32) -> Result<(), AllocError>
     ensures { OnOk result (string_bytes text.new ≡ string_bytes text.old ++ hex_of_word word) }
 {
     push_bytes(alloc, text, &word.to_be_bytes())
 }
 
-/// Appends what a processor is doing: `run`, `halt HH` or `fault N`.
+/// Appends the status of a processor: `run`, `halt HH` or `fault N`.
 ///
 /// # Errors
 ///
-/// [`AllocError`] where there is no memory for it.
+/// [`AllocError`] if there is no memory for it.
 pub fn push_status(alloc: Global, text: &mut String, status: Status) -> Result<(), AllocError>
     ensures { OnOk result (string_bytes text.new ≡ string_bytes text.old ++ status_text status) }
 {

@@ -1,4 +1,4 @@
-//! Why a command does not print all that it was asked for, and how that is reported.
+//! Why a command fails, and how it reports that.
 
 ghost use Rattle.std.specs.Prelude.{◌≡◌, ◌≤◌, Err, IfOk, Ok};
 ghost use Rattle.command_io.specs.declared.fault.Fault.TheVariants.{Link as LinkFailed, Memory as NoMemory};
@@ -15,12 +15,12 @@ use std::alloc::AllocError;
 use std::io::Write;
 use trace_file::TraceError;
 
-/// Why a command does not print or write all that it was asked for. What it prints is what standard error is reported.
+/// Why a command does not print or write all that it was asked for. Its `Display` is what standard error gets.
 #[derive(Clone, Copy, Debug, PartialEq, Eq, Drop)]
 pub enum Fault {
-    /// The file of words is no program, by this line of it, from 1.
+    /// The file of words is refused at this line, counted from 1.
     Line(u32),
-    /// The assembler's text is refused, at a line.
+    /// The assembler refuses the text, at a line.
     Text(AsmError),
     /// The assembler's text is not UTF-8.
     NotUtf8,
@@ -28,21 +28,21 @@ pub enum Fault {
     Image(ImageError),
     /// The trace is refused, or cannot be read or written.
     Trace(TraceError),
-    /// The machine's size is out of its limits.
+    /// The machine's size is out of limits.
     Size,
-    /// The trace's step at this place, from 0, stalls.
+    /// The step of the trace at this place, counted from 0, stalls.
     Stalled(usize),
-    /// The budget is used up, a processor runs, and no fault has stopped one.
+    /// The budget is used up, a processor still runs, and no fault has stopped one.
     Budget,
     /// The log is full: it has 4,194,304 steps.
     Full,
-    /// A core that a thread had on loan was not taken back.
+    /// The machine did not take back a core that it had lent to a thread.
     Loan,
-    /// A thread could not be started.
+    /// A thread failed to start.
     Start,
-    /// A program has as many states between references as the limit, or more.
+    /// A program reaches the limit on states between references.
     States,
-    /// A processor goes on for too long without a reference to a shared word.
+    /// A processor runs for too long without a reference to a shared word.
     Alone,
     /// A file cannot be opened, a text cannot be read, or standard output cannot be written.
     Link,
@@ -51,7 +51,7 @@ pub enum Fault {
 }
 
 impl Fault {
-    /// The exit status that says the fault.
+    /// The exit status for the fault.
     pub fn status(self) -> u8
         ensures fault { result ≡ status_of_fault self }
         ensures high { 2 ≤ result }
@@ -121,19 +121,19 @@ impl From<AllocError> for Fault {
     }
 }
 
-/// Reports a fault on standard error, by one line, and answers its exit status.
+/// Reports a fault in one line on standard error, and returns its exit status.
 pub fn report_fault<E: Write>(fault: Fault, err: &mut E) -> u8
     ensures fault { result ≡ status_of_fault fault }
     ensures high { 2 ≤ result }
     ensures reported { IsReported (E.contents err.old) (E.contents err.new) fault }
 {
-    // Where standard error fails too, the exit status alone reports the fault.
+    // If standard error fails too, only the exit status reports the fault.
     write_error(fault.line().as_str(), err);
     fault.status()
 }
 
-/// The exit status of a command: that of what it has printed, or else that of the fault for which it fails, which is
-/// reported on standard error.
+/// Returns the exit status of a command: its own if it succeeds. If it fails, reports the fault on standard error and
+/// returns the status of the fault.
 pub fn report_outcome<E: Write>(outcome: Result<u8, Fault>, err: &mut E) -> u8
     requires low { IfOk outcome (λ status. status ≤ 1) }
     ensures done { result ≤ 1 → outcome ≡ Ok result }

@@ -1,4 +1,4 @@
-//! What is printed of a fault on standard error.
+//! How a fault is printed on standard error.
 
 ghost use Rattle.std.specs.Prelude.{◌≡◌, ◌≤◌, ◌+◌, ◌++◌, Some, length};
 ghost use Rattle.std.specs.Fmt.{decimal};
@@ -15,7 +15,7 @@ use std::error::Error;
 use std::fmt;
 use trace_file::TraceError;
 
-/// The code of one of the assembler's faults.
+/// The code of an assembler fault.
 fn text_code(fault: AsmFault) -> &'static str
     ensures code { result.now ≡ text_code fault }
     ensures short { length result.now ≤ 6 }
@@ -31,7 +31,7 @@ fn text_code(fault: AsmFault) -> &'static str
     }
 }
 
-/// The code of an image that is not there.
+/// The code of an image error.
 fn image_code(error: ImageError) -> &'static str
     ensures code { result.now ≡ image_code error }
     ensures short { length result.now ≤ 6 }
@@ -50,7 +50,7 @@ fn image_code(error: ImageError) -> &'static str
     }
 }
 
-/// The code of a trace that is not there.
+/// The code of a trace error.
 fn trace_code(error: TraceError) -> &'static str
     ensures code { result.now ≡ trace_code error }
     ensures short { length result.now ≤ 6 }
@@ -65,7 +65,7 @@ fn trace_code(error: TraceError) -> &'static str
     }
 }
 
-/// Adds words, and a number after them.
+/// Appends words and then a number.
 fn push_place(text: &mut ArrayString<32>, words: &str, place: usize)
     requires short { length words.now ≤ 6 }
     requires room { array_string_len text.old ≤ 6 }
@@ -76,7 +76,7 @@ fn push_place(text: &mut ArrayString<32>, words: &str, place: usize)
 }
 
 impl Fault {
-    /// The fault's code, a name that it has for whoever reads standard error.
+    /// The code of the fault, which names it on standard error.
     pub fn code(self) -> &'static str
         ensures code { result.now ≡ code_of self }
         ensures short { length result.now ≤ 6 }
@@ -99,7 +99,7 @@ impl Fault {
         }
     }
 
-    /// The fault's code, and where the fault is in its file.
+    /// The code of the fault, and its place in the file.
     #[tactic(auto, unfolding(crate::specs::FaultTexts::fault_text))]
     pub fn text(self) -> ArrayString<32>
         ensures { result.bytes ≡ fault_text self }
@@ -128,7 +128,7 @@ impl Fault {
     }
 }
 
-/// What standard error is reported, after `ultra: `.
+/// What standard error gets after `ultra: `.
 impl fmt::Display for Fault {
     ghost output = { λ f. Some (fault_text f) };
 

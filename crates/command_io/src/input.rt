@@ -14,12 +14,12 @@ use machine_steps::{Machine, NewError};
 use std::alloc::Global;
 use std::io::Read;
 
-/// The image that a file is, for machines of this size.
+/// Reads the image in a file, for machines of this size.
 ///
 /// # Errors
 ///
-/// [`Fault::Image`] with [`ImageError::Link`] exactly if a read fails, and with another error where the file is
-/// refused; and [`Fault::Memory`].
+/// [`Fault::Image`] with [`ImageError::Link`] exactly if a read fails, and with another error if the file is refused;
+/// and [`Fault::Memory`].
 pub fn image_of<R: LinkRead>(alloc: Global, file: &mut R, config: &Config) -> Result<Image, Fault>
     requires works { R.has_failed file.old ≡ false }
     ensures image { IfOk result (IsImageOf config.now.shared_words (R.remaining file.old)) }
@@ -29,11 +29,11 @@ pub fn image_of<R: LinkRead>(alloc: Global, file: &mut R, config: &Config) -> Re
     Ok(read_image(alloc, file, config)?)
 }
 
-/// The image that a file is, which nobody reads afterwards, for machines of this size.
+/// Reads the image in a file that nobody reads afterwards, for machines of this size.
 ///
 /// # Errors
 ///
-/// [`Fault::Image`] where the file is refused or cannot be read, and [`Fault::Memory`].
+/// [`Fault::Image`] if the file is refused or cannot be read, and [`Fault::Memory`].
 pub fn image_in<R: Read + Drop>(alloc: Global, file: R, config: &Config) -> Result<Image, Fault>
     ensures image { IfOk result (IsImageOf config.now.shared_words (R.remaining file)) }
     ensures refused { IfErr result (IsFaultOfImage config.now.shared_words (R.remaining file)) }
@@ -41,11 +41,11 @@ pub fn image_in<R: Read + Drop>(alloc: Global, file: R, config: &Config) -> Resu
     image_of(alloc, &mut Meter::new(file), config)
 }
 
-/// The machine that opens on an image, which was read for as many shared words.
+/// The machine of this size that opens on an image. The image was read for that number of shared words.
 ///
 /// # Errors
 ///
-/// [`Fault::Size`] exactly if the size is out of its limits, else [`Fault::Memory`].
+/// [`Fault::Size`] exactly if the size is out of limits, else [`Fault::Memory`].
 pub fn machine_of(alloc: Global, image: Image, config: Config) -> Result<Machine, Fault>
     requires { image.shared_words ≡ config.shared_words }
     ensures opening { IfOk result (IsOpening config image) }
@@ -59,11 +59,11 @@ pub fn machine_of(alloc: Global, image: Image, config: Config) -> Result<Machine
     }
 }
 
-/// A machine of this size that opens on a copy of the image, which was read for as many shared words.
+/// A machine of this size that opens on a copy of the image. The image was read for that number of shared words.
 ///
 /// # Errors
 ///
-/// [`Fault::Size`] exactly if the size is out of its limits, else [`Fault::Memory`].
+/// [`Fault::Size`] exactly if the size is out of limits, else [`Fault::Memory`].
 pub fn opened(alloc: Global, image: &Image, config: Config) -> Result<Machine, Fault>
     requires words { image.now.shared_words ≡ config.shared_words }
     ensures opening { IfOk result (IsOpening config image.now) }

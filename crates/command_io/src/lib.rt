@@ -1,12 +1,13 @@
 //! What the commands of `ultra` share.
 //!
-//! Faults with the exit statuses that say them, the image that they read and the machine that opens on it, digits, how
-//! a text is printed, and a writer that is opened by its first write. `specs/Links.antt` says what a command reads and
-//! writes, `specs/Printing.antt` what it leaves on its output, `specs/Files.antt` what is read of a file.
+//! Here are the faults and their exit statuses, the image that a command reads and the machine that opens on it,
+//! digits, the printing of a text, and a writer that opens its device at the first write. `specs/Links.antt` says what
+//! a command reads and writes, `specs/Printing.antt` what it leaves on its output, and `specs/Files.antt` what a fault
+//! says about a file.
 //!
-//! A [`Tally`] counts what steps answer: for each processor the instructions that retired, and the bytes that it gave
-//! to the console. A report has a line for each processor and one for each shared word that is not zero; here are
-//! single lines, and `specs/Lines.antt` has them as definitions.
+//! A [`Tally`] counts what steps show: for each processor, the instructions that retired and the bytes written to the
+//! console. A report has a line for each processor and one for each shared word that is not zero. This crate makes
+//! single lines, and `specs/Lines.antt` defines them.
 #![tactic(auto)]
 
 mod digits;

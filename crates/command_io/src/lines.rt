@@ -10,12 +10,11 @@ use flat_machine::Status;
 use std::alloc::{AllocError, Global};
 use std::fmt::Write;
 
-/// Appends the line of a processor, of which this many instructions have retired, and which has given these bytes to
-/// the console.
+/// Appends the line of a processor that has retired this many instructions and has written these bytes to the console.
 ///
 /// # Errors
 ///
-/// [`AllocError`] where there is no memory for it.
+/// [`AllocError`] if there is no memory for it.
 #[tactic(auto, unfolding(crate::specs::Lines::processor_line))]
 pub fn push_processor(
     alloc: Global,
@@ -45,11 +44,11 @@ fn push_retired(text: &mut String, retired: u32) -> Result<(), AllocError>
     write!(text, " retired {retired}")
 }
 
-/// Appends what a processor gave to the console: ` console ` and its bytes, or `-` where there is none.
+/// Appends what a processor wrote to the console: ` console ` and its bytes, or `-` if there are none.
 ///
 /// # Errors
 ///
-/// [`AllocError`] where there is no memory for it.
+/// [`AllocError`] if there is no memory for it.
 pub fn push_console(alloc: Global, text: &mut String, console: &[u8]) -> Result<(), AllocError>
     ensures { OnOk result (string_bytes text.new ≡ string_bytes text.old ++ codes " console "
         ++ console_text console.now) }
@@ -62,11 +61,11 @@ pub fn push_console(alloc: Global, text: &mut String, console: &[u8]) -> Result<
     }
 }
 
-/// Appends the line of a shared word, where that is not zero.
+/// Appends the line of a shared word, unless the word is zero.
 ///
 /// # Errors
 ///
-/// [`AllocError`] where there is no memory for it.
+/// [`AllocError`] if there is no memory for it.
 #[tactic(auto, unfolding(crate::specs::Lines::word_line))]
 pub fn push_shared_word(
     alloc: Global,

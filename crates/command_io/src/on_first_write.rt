@@ -1,4 +1,4 @@
-//! A writer that is opened by its first write.
+//! A writer whose first write opens its device.
 
 ghost use Rattle.std.specs.Prelude.{◌≡◌, ⊤, None, IfOk, IsOk, is_some, true, OnOk};
 ghost use Rattle.std.specs.Io.{WritesAtMost};
@@ -13,27 +13,27 @@ use std::{fs, io};
 pub trait Open {
     type Device: Write + Drop;
 
-    /// What a device is like when it is opened.
+    /// What holds of a device when it is opened.
     ghost opens: { Self → Self.Device → Type 0 };
 
-    /// Opens the device, which has nothing of what was there before.
+    /// Opens the device, which keeps nothing of its old content.
     fn open(&mut self) -> io::Result<Self::Device>
         ensures { IfOk result (opens self.old) };
 }
 
-/// A file that is created, or emptied, where it is opened.
+/// A file that opening creates, or empties if it exists.
 #[derive(Drop)]
 pub struct CreateAt<'a, R> {
-    /// What has the files.
+    /// The host's files.
     pub files: &'a R,
-    /// Where the file is.
+    /// The path of the file.
     pub path: &'a str,
 }
 
 impl<'a, R: Files> Open for CreateAt<'a, R> {
     type Device = R::File;
 
-    // What a file has is known to no contract.
+    // No contract knows the content of a file.
     ghost opens = { λ c file. ⊤ };
 
     fn open(&mut self) -> io::Result<R::File> {
@@ -41,9 +41,9 @@ impl<'a, R: Files> Open for CreateAt<'a, R> {
     }
 }
 
-/// A writer whose device is opened by the first write, so that a command that is refused leaves the device
-/// as it was. A failed opening is a failed write, and the next write opens once more. The device has what it
-/// had when it was opened, and after that what is written.
+/// A writer whose first write opens its device, so that a command that fails before it leaves the device as it was. If
+/// the device fails to open, the write fails, and the next write tries again. What is written comes after what the
+/// device had when it was opened.
 #[derive(Drop)]
 pub struct OnFirstWrite<O: Open + Drop> {
     /// What opens the device.

@@ -1,4 +1,4 @@
-//! Printing a text that is there whole, and what goes to standard error.
+//! Prints a complete text, and writes to standard error.
 
 ghost use Rattle.std.specs.Prelude.{◌≡◌, true, false, is_err, IfErr, OnOk};
 ghost use Rattle.std.specs.Io.KnownBytes.{Appends};
@@ -13,8 +13,8 @@ use std::io::Write;
 ///
 /// # Errors
 ///
-/// [`Fault::Link`] exactly if the link failed in this call. A beginning of the text, and not all of it, is
-/// printed then.
+/// [`Fault::Link`] exactly if the link failed in this call. Then it has printed a beginning of the text, and not all of
+/// it.
 pub fn print<W: LinkWrite>(out: &mut W, text: &str) -> Result<(), Fault>
     requires { W.has_failed out.old ≡ false }
     ensures failed { W.has_failed out.new ≡ is_err result }
@@ -28,15 +28,15 @@ pub fn print<W: LinkWrite>(out: &mut W, text: &str) -> Result<(), Fault>
     }
 }
 
-/// Writes a text to standard error. If a write fails, a beginning of the text is there, and nobody learns of it.
+/// Writes a text to standard error. If a write fails, a beginning of the text is written, and no error is reported.
 pub fn write_error<E: Write>(text: &str, err: &mut E)
     ensures { AppendsOrPart (E.contents err.old) (E.contents err.new) text.now }
 {
     is_written(text, err);
 }
 
-/// Writes these texts to standard error, one after another. If a write fails, a beginning of them is there, and nobody
-/// learns of it.
+/// Writes these texts to standard error, one after another. If a write fails, a beginning of them is written, and no
+/// error is reported.
 pub fn write_error_parts<E: Write>(parts: &[&str], err: &mut E)
     ensures { AppendsOrPart (E.contents err.old) (E.contents err.new) (joined parts.now) }
 {
@@ -47,7 +47,7 @@ pub fn write_error_parts<E: Write>(parts: &[&str], err: &mut E)
     }
 }
 
-/// Writes a text, and answers whether all of it is written. If not, a beginning of it may be.
+/// Writes a text, and returns whether all of it was written. If not, a beginning of it may be written.
 fn is_written<E: Write>(text: &str, err: &mut E) -> bool
     ensures whole { result ≡ true → Appends (E.contents err.old) (E.contents err.new) text.now }
     ensures part { AppendsOrPart (E.contents err.old) (E.contents err.new) text.now }

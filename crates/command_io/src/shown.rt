@@ -6,7 +6,7 @@ ghost use Rattle.command_io.specs.Tallies.{ShownBy, nothing_shown, with_retired}
 use std::alloc::{AllocError, Global};
 use std::marker::Model;
 
-/// What a processor has shown: how many instructions retired, and what went to the console.
+/// What a processor has shown: how many instructions retired, and what it wrote to the console.
 #[derive(Debug, Drop)]
 pub struct Shown {
     retired: u32,
@@ -39,18 +39,18 @@ impl Shown {
         self.retired
     }
 
-    /// The bytes that were given to the console, in order.
+    /// The bytes that the processor wrote to the console, in order.
     pub fn console(&self) -> &[u8]
         ensures { result.now ≡ self.now.console }
     {
         self.console.as_slice()
     }
 
-    /// One instruction more has retired, and given this byte to the console, if any.
+    /// Counts one more retired instruction, and appends the byte that it wrote to the console, if any.
     ///
     /// # Errors
     ///
-    /// [`AllocError`] where there is no memory for the byte. Then nothing is added.
+    /// [`AllocError`] if there is no memory for the byte. Then nothing changes.
     pub fn retire(&mut self, out: Option<u8>) -> Result<(), AllocError>
         requires { self.old.retired + 1 < 2 ^ 32 }
         ensures shown { OnOk result (self.new ≡ with_retired self.old out) }

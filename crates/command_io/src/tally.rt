@@ -9,11 +9,11 @@ use std::alloc::{AllocError, Global};
 use std::marker::Model;
 use steps::{Outcome, Step, StepObserver};
 
-/// What each processor of a machine has shown in the steps that are noted.
+/// What each processor of a machine has shown in the steps noted so far.
 #[derive(Debug, Drop)]
 pub struct Tally {
     processors: Vec<Shown>,
-    /// How many steps are noted.
+    /// How many steps were noted.
     observed: u32,
 }
 
@@ -28,11 +28,11 @@ impl Model for Tally {
 }
 
 impl Tally {
-    /// The tally of this many processors that have shown nothing.
+    /// A tally of this many processors that have shown nothing.
     ///
     /// # Errors
     ///
-    /// [`AllocError`] where there is no memory for it.
+    /// [`AllocError`] if there is no memory for it.
     pub fn new(alloc: Global, processors: u8) -> Result<Self, AllocError>
         ensures { IfOk result (λ t. t ≡ record { shown = replicate processors nothing_shown; observed = 0 }) }
     {
@@ -46,7 +46,7 @@ impl Tally {
         })
     }
 
-    /// An instruction of the processor at this place has retired.
+    /// Counts a retired instruction of the processor at this place.
     fn retire(&mut self, place: usize, out: Option<u8>) -> Result<(), AllocError>
         requires small { self.old.observed < 2 ^ 32 }
         requires few { All (λ (s : ShownBy). s.retired < self.old.observed) self.old.shown }
@@ -61,7 +61,7 @@ impl Tally {
         self.processors[place].retire(out)
     }
 
-    /// What a processor has shown. None where there is no processor of this number.
+    /// What a processor has shown, or None if the machine has no processor of this number.
     pub fn of(&self, processor: u8) -> Option<&Shown>
         ensures { option_copied result ≡ slice_get self.now.shown processor }
     {
@@ -69,7 +69,7 @@ impl Tally {
     }
 }
 
-/// A tally counts up to 2^32 steps.
+/// A tally counts fewer than 2^32 steps.
 impl StepObserver for Tally {
     ghost use Rattle.std.specs.Prelude.{◌≡◌, ◌<◌, ◌+◌, ◌^◌};
     ghost use Rattle.command_io.specs.Tallies.{noted_after};
@@ -80,12 +80,12 @@ impl StepObserver for Tally {
 
     ghost observed = { λ old step outcome new. new ≡ noted_after old step outcome };
 
-    /// Notes what a step answered.
+    /// Notes the outcome of a step.
     ///
     /// # Errors
     ///
-    /// [`AllocError`] where there is no memory for a byte of the console.
-    // Of what a step answers little is read.
+    /// [`AllocError`] if there is no memory for a byte of the console.
+    // Inlined, since it reads little of the outcome.
     #[inline(always)]
     fn observe(&mut self, step: Step, outcome: &Outcome) -> Result<(), AllocError> {
         self.observed += 1;

@@ -1,4 +1,4 @@
--- What a machine answers that takes an entry, and what it becomes: a step of the flat machine.
+-- The outcome of an entry, and the machine after it: a step of the flat machine.
 use Rattle.std.proofs.Common.{◌≡◌, ℕ, ◌^◌, ◌<◌, Bool, true, false, Option, Some, None, nat_lt, lt-ltb, refl, sym, ap, ◌∙◌, subst}
 use Rattle.std.specs.Prelude.{◌&&◌, if◌then◌else◌}
 use Rattle.flat_machine.specs.declared.config.Config.{Config}
@@ -24,17 +24,17 @@ use Rattle.trace_commands.specs.Taking.{HasTaken, answer_of}
 
 -- ---- answers and events
 
--- an answer says its event
+-- An event is read back from its outcome.
 event_is_kept : (e : Option Event) → event_of (answer_of e) ≡ e
 event_is_kept None = refl
 event_is_kept (Some (event.Retired r)) = refl
 event_is_kept (Some (event.Stopped cause)) = refl
 
--- If an outcome is the answer that says an event, this is the event that it says.
+-- If an outcome is that of an event, the event is read back from it.
 pub event_is : (o : Outcome) (e : Option Event) → o ≡ answer_of e → e ≡ event_of o
 event_is o e is = sym (event_is_kept e) ∙ ap event_of (sym is)
 
--- and what says an event is the answer
+-- If this is the outcome's event, and the outcome is a stall if there is none, it is the event's outcome.
 answer_is : (o : Outcome) (e : Option Event) → event_of o ≡ e → (e ≡ None → o ≡ Stalled) → o ≡ answer_of e
 answer_is (Retired r) e is none = ap answer_of is
 answer_is (Stopped cause) e is none = ap answer_of is
@@ -46,7 +46,7 @@ answer_is (Answered to) e is none = none (sym is) ∙ ap answer_of is
 answer_is Poked e is none = none (sym is) ∙ ap answer_of is
 answer_is Stalled e is none = ap answer_of is
 
--- a whole instruction
+-- A whole instruction is a step of the flat machine.
 pub one_taken : (old : MachineLists) (p : ℕ) (o : Outcome) (new : MachineLists) → AreHome old → IsOne old p o new → HasTaken old (entry.Processor p) o new
 one_taken old p o new home one = record {
   answer = answer_is o (flat_event (flat_state old) (entry.Processor p)) one.event (λ none. (one.stalled none).0);
@@ -59,7 +59,7 @@ one_taken old p o new home one = record {
 -- ---- pokes
 
 module _ (m : MachineLists) (is : IsMachine m) (processors : FlatProcessorsAreRead) (words : FlatWordsAreRead) where
-  -- A poke of words and bytes is lawful for a machine where it is for the flat machine.
+  -- A poke of words and bytes is lawful for a machine exactly if it is for the flat machine.
   pub lawful_alike : (q : Poke) → WritesWords (entry.Poke q) → is_lawful_poke m.config q ≡ is_lawful (flat_state m) q
   lawful_alike (poke.Register p register value) small =
       ap (λ b. b && (nat_lt p (2 ^ m.config.k) && is_lawful_register register value)) (lt-ltb value (2 ^ 32) small)
@@ -70,13 +70,13 @@ module _ (m : MachineLists) (is : IsMachine m) (processors : FlatProcessorsAreRe
   lawful_alike (poke.Shared address value) small =
       ap (λ b. b && in_shared m.config.shared_words address) (lt-ltb value 256 small) ∙ ap (λ n. in_shared n address) (sym (words m is).0)
 
--- an unlawful poke is a step that changes nothing
+-- A poke that is not lawful is a step of the flat machine that changes nothing.
 poke_step : (m : FlatState) (q : Poke) (b : Bool) → is_lawful m q ≡ b → (if b then flat_step m (entry.Poke q) else m) ≡ flat_step m (entry.Poke q)
 unfolding flat_step
 poke_step m q true e = refl
 poke_step m q false e = sym (ap (λ b. if b then written m q else m) e)
 
--- a write from outside
+-- A poke is a step of the flat machine.
 pub poke_taken : (old : MachineLists) (q : Poke) (o : Outcome) (new : MachineLists) → is_lawful_poke old.config q ≡ is_lawful (flat_state old) q →
     AreHome old → IsStep old (step.Poke q) o new → IsPoked old q o new → HasTaken old (entry.Poke q) o new
 poke_taken old q o new alike home st is = record {

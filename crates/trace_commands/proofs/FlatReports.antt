@@ -33,7 +33,7 @@ module _ (c : Config) (image : ImageContents) (steps : List Step) (opening m : M
   abbrev order : List Entry
   order = (passed opening steps).order
 
-  -- the flat machine after the order, and what it has shown
+  -- the flat machine after the order
   abbrev F : FlatState
   F = flat_run (flat_opening c image.layout) order
 
@@ -56,7 +56,7 @@ module _ (c : Config) (image : ImageContents) (steps : List Step) (opening m : M
       (subst (λ (d : Config). i < d.shared_words) (sym config_is) within) (omega arith))
       ∙ ap (λ (G : FlatState). slice_index G.shared i) state_is
 
-  -- what was counted is what the flat machine has shown
+  -- The events counted are those that the flat machine shows.
   events_are : (p : ℕ) → events_in opening steps p ≡ events p
   events_are p =
       ap (λ (M : theory.Machine ObservedCore). events_of M p)
@@ -107,7 +107,8 @@ module _ (c : Config) (image : ImageContents) (steps : List Step) (opening m : M
     flat = record { is = is ∙ report_is; faulted = λ f. exit.faulted (flat_faulted f); sound = λ none. exit.sound (λ f. none (faulted_flat f)) };
   }
 
--- of two machines that opened on one image and took the same steps, none has a reference open where the other has none
+-- If two machines open on one image and take the same steps, and no reference is open in one, none is open in the
+-- other.
 pub idle_alike : (c : Config) (image : ImageContents) (steps : List Step) (first second m n : MachineLists) → IsOpening c image first →
     IsOpening c image second → IsReplay first steps m → IsReplay second steps n → IsIdle m → IsIdle n
 unfolding machine_of_parts

@@ -1,5 +1,5 @@
--- Which step makes which lists of a network longer: those of requests and records, at the stage where a request moves, and those of
--- replies, where a reply moves.
+-- Which steps can make which lists of a network longer: the move of a request, those of requests and records at its
+-- stage; the move of a reply, those of replies at its stage.
 use Rattle.std.proofs.Common.{◌≡◌, ℕ, suc, ◌<◌, ◌≤◌, ◌%◌, Bool, true, false, ◌⊎◌, inl, inr, nat_lt, List, []}
 use Rattle.std.proofs.Common.{◌∷◌, ◌++◌, length, drop, Option, Some, None, refl, sym, ◌∙◌, subst, arith}
 use Rattle.std.specs.Prelude.{◌==◌, if◌then◌else◌, not}
@@ -31,7 +31,7 @@ use Rattle.run_counts.specs.declared.longest.Held.{Held}
 use Rattle.run_counts.specs.declared.longest.Held.TheVariants.{Requests, Records, Replies}
 use Rattle.trace_commands.specs.Longest.{count_of}
 
--- what holds of both holds of either
+-- What holds of both values holds of either.
 either : {X : Type 0} (P : X → Type 0) (b : Bool) (x y : X) → P x → P y → P (if b then x else y)
 either P true x y p q = p
 either P false x y p q = q
@@ -41,7 +41,7 @@ either P false x y p q = q
 at_most : (n : ℕ) → n ≤ n
 at_most n = omega arith
 
--- where a list no longer than the old one is put, no list is longer
+-- If a list that is no longer than the old one is put in its place, no list is longer.
 shorter : {X : Type 0} (f : ℕ → ℕ → List X) (d w : ℕ) (xs : List X) → length xs ≤ length (f d w) → (d' v : ℕ) →
     length (put2 f d w xs d' v) ≤ length (f d' v)
 shorter {X} f d w xs few d' v = by (at_put2 f d w xs d' v)
@@ -51,7 +51,7 @@ shorter {X} f d w xs few d' v = by (at_put2 f d w xs d' v)
     by (inl (p, q, is)) = rw is (subst (λ e. length xs ≤ length (f e v)) (sym p) (subst (λ u. length xs ≤ length (f d u)) (sym q) few))
     by (inr (away, is)) = rw is (at_most (length (f d' v)))
 
--- nor at another depth than that where anything is put
+-- At a depth where nothing is put, no list is longer.
 elsewhere : {X : Type 0} (f : ℕ → ℕ → List X) (d w : ℕ) (xs : List X) (d' v : ℕ) → (d' ≡ d → ⊥) → length (put2 f d w xs d' v) ≤ length (f d' v)
 elsewhere f d w xs d' v away = rw (put2_other f d w xs d' v (λ at _. away at)) (at_most (length (f d' v)))
 
@@ -70,7 +70,7 @@ dropped (x ∷ xs) = omega arith
 -- ---- moves
 
 module _ (z : Sizes) (net : Net) (s w t v : ℕ) where
-  -- what a move of a request leaves of another stage's lists of requests and records
+  -- A request's move makes no list of requests or records of another stage longer.
   module _ (away : t ≡ s → ⊥) where
     abbrev Fewer : UpMove × Net → Type 0
     Fewer r = (length (r.1.requests (suc t) v) ≤ length (net.requests (suc t) v)) × (length (r.1.records t v) ≤ length (net.records t v))
@@ -107,7 +107,7 @@ module _ (z : Sizes) (net : Net) (s w t v : ℕ) where
     unfolding moved_up
     up_elsewhere = either Fewer (nat_lt s z.k) _ _ (up_from_there (net.requests s w) refl) same_up
 
-  -- what a move of a reply leaves of records, and of another stage's replies
+  -- A reply's move makes no list of records longer, and no list of replies of another stage.
   abbrev FewerRecords : DownMove × Net → Type 0
   FewerRecords r = length (r.1.records t v) ≤ length (net.records t v)
 
@@ -174,7 +174,7 @@ module _ (c : Config) (code : List ℕ) (M : theory.Machine ObservedCore) where
   abbrev z : Sizes
   z = sizes_of c
 
-  -- what holds of the network, and of each that the step can make of it, holds after the step
+  -- What holds of the network, and of each network to which the step can lead, holds after the step.
   module _ (P : Net → Type 0) (same : P M.net) where
     when : (b : Bool) (r : theory.Result ObservedCore) → P r.machine.net → P (if b then r else stalled M).machine.net
     when true r p = p
@@ -225,7 +225,7 @@ module _ (c : Config) (code : List ℕ) (M : theory.Machine ObservedCore) where
     stays (step.Down s w) makes = when (nat_lt w (wires z)) (went_down M (moved_down z M.net s w)) (came (moved_down z M.net s w) makes)
     stays (step.Poke q) makes = when _ _ same
 
-  -- a step that can make lists of a stage longer
+  -- The step can make lists of this kind at this stage longer.
   abbrev pub Grows : Held → (stage : ℕ) → Step → Type 0
   Grows Requests t (step.Up s w) = t ≡ s
   Grows Records t (step.Up s w) = t ≡ s

@@ -1,4 +1,4 @@
--- Consoles that somebody has heard are those that were counted.
+-- The console bytes that were received are those in the tally.
 use Rattle.std.proofs.Common.{◌≡◌, ℕ, ◌^◌, ◌<◌, List, [], length, map, Vec, Global, sym, ap, ◌∙◌, subst}
 use Rattle.std.specs.Prelude.{Some, Option, slice_get, slice_index_or}
 use Rattle.std.specs.Option.{option_map}
@@ -26,7 +26,7 @@ bytes_of v = v.items
 abbrev console : ShownBy → List ℕ
 console s = s.console
 
--- that of one processor
+-- The bytes received from one processor are those in the tally.
 pub heard_at : (shown : List ShownBy) (consoles : List Bytes) (p : ℕ) (s : ShownBy) → AreHeard shown consoles → slice_get shown p ≡ Some s →
     slice_get (map bytes_of consoles) p ≡ Some s.console
 heard_at shown consoles p s heard at =
@@ -44,7 +44,7 @@ console_at consoles p v bytes at is =
     ∙ sym (get_or-map bytes_of consoles p v [] (inside consoles p bytes at))
     ∙ get_or_from_slice_get (map bytes_of consoles) p bytes [] at
 
--- those of all
+-- The bytes received from all processors are those in the tally.
 pub heard_in : (opening : MachineLists) (steps : List Step) (m : MachineLists) (t : TallyState) (consoles : List Bytes) → IsReplayCounted opening steps m t →
     AreConsoles opening steps (map bytes_of consoles) → AreHeard t.shown consoles
 heard_in opening steps m t consoles taken are =
@@ -56,7 +56,7 @@ heard_in opening steps m t consoles taken are =
     ∙ sym (ap console (taken.tally.each p below))
     ∙ sym (get_or-map console t.shown p nothing_shown [] (subst (λ n. p < n) (sym taken.tally.all) below)))
 
--- machines that open on one image give the same
+-- Two machines that open on one image write the same bytes to the consoles in the same steps.
 pub consoles_alike : (c : Config) (image : ImageContents) (first second : MachineLists) → IsOpening c image first → IsOpening c image second →
     (steps : List Step) (consoles : List (List ℕ)) → AreConsoles first steps consoles → AreConsoles second steps consoles
 consoles_alike c image first second one two steps consoles are = record {

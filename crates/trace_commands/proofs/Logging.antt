@@ -1,4 +1,4 @@
--- What the log of a run says.
+-- The steps of a log can be taken again, and a trace can have them.
 use Rattle.std.proofs.Common.{◌≡◌, ◌≤◌, ℕ, List, length, refl, subst}
 use Rattle.flat_machine.specs.declared.config.Config.{Config}
 use Rattle.flat_machine.specs.Limits.{IsWithinLimits}
@@ -14,7 +14,7 @@ use Rattle.command_io.specs.declared.fault.Fault.{Fault}
 use Rattle.command_io.specs.declared.fault.Fault.TheVariants as fault
 use Rattle.trace_commands.specs.CountedReplays.{IsNotRetaken}
 
--- steps of which none stalls can be refused if out of memory alone
+-- If no step stalls, steps are refused only for a lack of memory.
 pub only_memory : (old new : MachineLists) (steps : List Step) → ((place : ℕ) → StallsAt old steps place new → ⊥) → (f : Fault) →
     IsNotRetaken old steps new f → f ≡ fault.Memory
 only_memory old new steps none (fault.Stalled place) h = absurd (none place h)
@@ -33,7 +33,7 @@ only_memory old new steps none fault.States h = absurd h
 only_memory old new steps none fault.Alone h = absurd h
 only_memory old new steps none fault.Link h = absurd h
 
--- the steps of a log do not stall on another machine that opens on the image
+-- The steps of a log are refused on another machine that opens on the image only for a lack of memory.
 pub not_stalled : (log : Log) (c : Config) (image : ImageContents) (steps : List Step) (second new : MachineLists) →
     IsOpening log.machine.config log.machine.image log.opening → IsReplay log.opening log.steps log.machine →
     c ≡ log.machine.config → image ≡ log.machine.image → steps ≡ log.steps → IsOpening c image second → (f : Fault) → IsNotRetaken second steps new f →
@@ -45,7 +45,7 @@ not_stalled log c image steps second new one replay size same all two =
     (λ place h. none_stalls log.machine.config log.machine.image log.opening second one opens log.steps log.machine replay place new
     (subst (λ (xs : List Step). StallsAt second xs place new) all h))
 
--- Steps that can be recorded make a trace that has a spelling, where the machine's size is within the limits.
+-- If the machine's size is within the limits, and each step has a record, a trace file can spell the steps.
 pub is_spelled : (c : Config) (steps : List Step) → IsWithinLimits c → length steps ≤ 4194304 → HaveRecords c.k steps → IsTrace (trace_of c steps)
 is_spelled c steps limits few records = record {
   header = record {

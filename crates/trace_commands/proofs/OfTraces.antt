@@ -1,4 +1,4 @@
--- What is said of the steps of a trace is said of the trace.
+-- What is printed for the steps of a trace is printed for the trace.
 use Rattle.std.proofs.Common.{◌≡◌, ℕ, inr, List, refl, subst}
 use Rattle.flat_machine.specs.declared.config.Config.{Config}
 use Rattle.flat_machine.specs.Limits.{IsWithinLimits}
@@ -70,7 +70,7 @@ module _ (reports : ReportRelation) (given : TraceInput) (t : TraceContents) (re
   no_trace_report (fault.Image e) n = absurd n
   no_trace_report (fault.Trace e) n = absurd n
 
--- What a command on a trace prints of it, it also prints if less is to be said.
+-- A text printed for a trace by one relation is also printed by each weaker relation.
 pub prints_weaker : (one other : ReportRelation) (given : TraceInput) (out : Output) (status : ℕ) → ((c : Config) (image : ImageContents) (steps : List Step)
     (text : List ℕ) → one c image steps text status → other c image steps text status) → PrintsTraceReport one given out status →
     PrintsTraceReport other given out status

@@ -1,4 +1,4 @@
--- A report and its exit status are given by the machine's size, the image and the steps.
+-- The machine's size, the image and the steps determine the report and its exit status.
 use Rattle.std.proofs.Common.{◌≡◌, ℕ, zero, suc, ◌^◌, ◌<◌, ◌≤◌, ◌⊎◌, inl, inr, List, [], ◌++◌, refl, sym, ap, ap₂, ◌∙◌, subst, arith}
 use Rattle.std.specs.Prelude.{slice_index_or}
 use Rattle.std.proofs.lemmas.Bool.{cases_eq}
@@ -21,11 +21,11 @@ use Rattle.trace_commands.specs.Reports.{IsExitOf, processor_lines, report_of, s
 
 -- ---- exit statuses
 
--- two machines of which a fault has stopped both or none have one exit status
+-- If a fault has stopped a processor of both machines or of neither, they have the same exit status.
 one_exit : (m n : MachineLists) (s t : ℕ) → IsExitOf m s → IsExitOf n t → (HasFaulted m → HasFaulted n) → (HasFaulted n → HasFaulted m) → s ≡ t
 one_exit m n s t a b to from = by (cases_eq s 0) (cases_eq t 0)
   where
-    -- a status that is not 0 is 1
+    -- An exit status that is not 0 is 1.
     failed : (k : MachineLists) (u : ℕ) → IsExitOf k u → (u ≡ 0 → ⊥) → u ≡ 1
     failed k u e some = at (cases_eq u 1)
       where
@@ -33,7 +33,7 @@ one_exit m n s t a b to from = by (cases_eq s 0) (cases_eq t 0)
         at (inl is) = is
         at (inr other) = absurd (some (e.sound (λ h. other (e.faulted h))))
 
-    -- where the status is 0, none is faulted
+    -- If the exit status is 0, no fault has stopped a processor.
     clean : (k : MachineLists) → IsExitOf k 0 → HasFaulted k → ⊥
     clean k e h = (let wrong : 0 ≡ 1 = e.faulted h in omega (arith, wrong))
 
@@ -97,7 +97,7 @@ module _ (c : Config) (image : ImageContents) (steps : List Step) (text text' : 
   words_alike zero = refl
   words_alike (suc i) = ap₂ (λ (xs ys : List ℕ). xs ++ ys) (words_alike i) (ap (word_lines i) (words i))
 
-  -- a report, its numbers being those of the machine's size
+  -- The report of a machine of this size is the lines of its processors and shared words.
   report_by : (k : MachineLists) (t : TallyState) → k.config ≡ c → report_of k t.shown ≡ processor_lines k t.shown (2 ^ c.k) ++ shared_lines k c.shared_words
   report_by k t is = ap (λ (d : Config). processor_lines k t.shown (2 ^ d.k) ++ shared_lines k d.shared_words) is
 

@@ -1,4 +1,4 @@
--- Entries that are carried out, one after another, and reported.
+-- The lines of entries that two machines take one after another.
 use Rattle.std.proofs.Common.{◌≡◌, ℕ, ◌+◌, List, [], ◌∷◌, ◌++◌, length, refl, sym, ap, ◌∙◌, subst, arith}
 use Rattle.flat_machine.specs.declared.poke.Entry.{Entry}
 use Rattle.flat_machine.specs.Flat.{flat_run, flat_step}
@@ -12,11 +12,11 @@ use Rattle.trace_commands.specs.Taking.{AreBoth}
 
 -- Both machines have taken these entries, and the text has their lines.
 pub record AreShown (choice : Choice) (old : MachineLists) (done : List Entry) (text : List ℕ) (before after : MachineLists) : Type 0 where
-  -- the text has the chosen lines of the entries
+  -- The text has the chosen lines of the entries.
   pub lines : text ≡ lines_of choice (flat_state old) done
-  -- each machine is the flat machine after the entries, with no reference open
+  -- Each machine is the flat machine after the entries, with no reference open.
   pub both : AreBoth (flat_run (flat_state old) done) before after
-  -- the size is as before
+  -- The machine's size is as before.
   pub config : before.config ≡ old.config
 
 -- Before the first entry, the empty text has the lines of those taken.

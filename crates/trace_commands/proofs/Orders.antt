@@ -1,4 +1,4 @@
--- The lines of the order of a whole run, by machines that open on its image.
+-- The lines of the serial order of a run, from machines that open on its image.
 use Rattle.std.proofs.Common.{◌≡◌, ℕ, ◌^◌, ◌<◌, List, sym, ap, ap₂, ◌∙◌, subst}
 use Rattle.std.specs.Prelude.{slice_index_or}
 use Rattle.std.proofs.Math.ListN.{get_or-map}
@@ -37,8 +37,7 @@ module _ (c : Config) (m : MachineLists) (F : FlatState) (size : m.config ≡ c)
 
 -- ---- orders
 
--- The lines are those of the order, and so is what the exit status says: the first machine has opened on the image, and the
--- other is the flat machine after the entries.
+-- The first machine has opened on the image, and the other is the flat machine after the entries.
 module _ (c : Config) (image : ImageContents) (steps all : List Step) (home : IsDrainedWithSteps c image steps all) (entries : List Entry)
     (first m : MachineLists)
     (opens : IsOpening c image first) (order : (opening : MachineLists) → IsOpening c image opening → entries ≡ (passed opening all).order)

@@ -1,4 +1,4 @@
--- The longest queues, one step after another.
+-- The longest queues, step by step.
 use Rattle.std.proofs.Common.{◌≡◌, ℕ, zero, suc, ◌+◌, ◌^◌, ◌<◌, ◌≤◌, max, Bool, true, false, ◌⊎◌, inl, inr}
 use Rattle.std.proofs.Common.{nat_lt, List, [], ◌∷◌, ◌++◌, length, take, refl, sym, ap, ◌∙◌, subst, arith}
 use Rattle.std.proofs.lemmas.List.{get_or-replicate, get_or-set_other, get_or-set_same, length-append, length-set, take-append-le, take_all}
@@ -51,12 +51,12 @@ most_met f (suc n) before = by (cases_lt (most_of f n before) (f n)) (most_met f
 
 -- ---- one step more
 
--- the network after the steps that a machine has taken is the machine's
+-- The network after the steps that a machine has taken is the machine's.
 stands : (opening mid : MachineLists) (done : List Step) → IsRun opening done mid → net_behind opening done ≡ net_of mid.network
 unfolding machine_of_parts
 stands opening mid done run = sym (ap (λ (M : theory.Machine ObservedCore). M.net) (run.after (λ p. [])))
 
--- each stage has its number
+-- Each kind has a number for each of six stages.
 abbrev pub HaveSix : Longest → Type 0
 HaveSix t = (held : Held) → length (of_held t held) ≡ 6
 
@@ -134,7 +134,7 @@ module _ (opening mid new : MachineLists) (done : List Step) (s : Step) (o : Out
             let less = grows_less held t v below away in
             omega (arith, had, less)
 
-  -- the numbers of one kind: at one stage at most there are more
+  -- The numbers of one kind, of which a step can raise at most that of one stage.
   module _ (held : Held) (xs : List ℕ) (six : length xs ≡ 6) (few : k ≤ 6)
       (old : (t : ℕ) → t < k → IsMost opening done held t (slice_index xs t)) where
     abbrev looked : (a : ℕ) → Bool → List ℕ

@@ -1,4 +1,4 @@
--- Steps that are taken, one after another, and counted, with the longest queues that the machine passes.
+-- The counts and the longest queues of steps that a machine takes one after another.
 use Rattle.std.proofs.Common.{◌≡◌, ℕ, ◌+◌, ◌≤◌, List, [], ◌∷◌, ◌++◌, length, refl, sym, ap, ◌∙◌, subst}
 use Rattle.std.proofs.lemmas.List.{length-append}
 use Rattle.steps.specs.declared.step.Step.{Step}

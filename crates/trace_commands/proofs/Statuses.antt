@@ -1,4 +1,4 @@
--- What the exit status of a command says of what it comes to.
+-- What the exit status of a command says about its result.
 use Rattle.std.proofs.Common.{◌≡◌, ◌≤◌, ◌∙◌, ℕ, zero, suc, true, ap, refl, sym, arith}
 use Rattle.std.proofs.lemmas.Bool.{true≢false}
 use Rattle.std.specs.Prelude.{Err, Ok, Result, is_err}
@@ -7,7 +7,7 @@ use Rattle.command_io.specs.Faults.{status_of_fault}
 use Rattle.command_io.specs.Printing.{ReportsCause}
 use Rattle.command_io.proofs.Lemmas.{of_link}
 
--- A result has one error.
+-- A result has only one error.
 pub error_is : {T F : Type 0} (r : Result T F) (f x : F) → r ≡ Err f → r ≡ Err x → f ≡ x
 error_is r f x is other = (of_link r f x true is ((λ _. refl), (λ _. other))).1 refl
 
@@ -15,7 +15,7 @@ module _ (r : Result ℕ Fault) (x : Fault) (is_reported : Fault → Type 0) (is
   not_done : (status : ℕ) → r ≡ Ok status → ⊥
   not_done status done = true≢false (ap is_err (sym is ∙ done))
 
-  -- If a command comes to this fault, the exit status is that of the fault.
+  -- If the result of a command is a fault, the exit status is that of the fault.
   pub status_is : (status : ℕ) → (status ≤ 1 → r ≡ Ok status) → (2 ≤ status → ReportsCause (λ f. r ≡ Err f) is_reported status) →
       status ≡ status_of_fault x
   status_is zero done known = absurd (not_done zero (done (omega arith)))

@@ -1,4 +1,4 @@
--- Steps that are taken and noted in a tally: it has what the processors show in them.
+-- A tally that has noted the steps of a machine has what the processors show in them.
 use Rattle.std.proofs.Common.{◌≡◌, ℕ, ◌+◌, ◌^◌, List, [], ◌∷◌, ◌++◌, length, Option, Some, None, ◌∙◌, ap, refl, sym, subst, arith}
 use Rattle.std.specs.Prelude.{Err, IfOk, Ok, Result, replicate}
 use Rattle.std.specs.Result.{result_ok}
@@ -38,7 +38,7 @@ answered_all n c code M (s ∷ ss) t t' shown count observed is =
     subst (λ m. IsTally n t' (shown_after c code (after c code M s) ss (with_shown shown s o)) m) (omega (arith))
     (answered_all n c code (after c code M s) ss observed.0 t' (with_shown shown s o) (count + 1) observed.2 one)
 
--- A tally of what a machine has shown goes on with the steps that are noted in it.
+-- If the tally of a machine notes more steps, it has what the processors show in these too.
 tally_all : (n : ℕ) (c : Config) (code : List ℕ) (M : theory.Machine ObservedCore) (steps : List Step) (t t' : TallyState) (count : ℕ) →
     AreNotedFrom StepObserver c code M steps t t' → IsTally n t (events_of M) count → IsTally n t' (events_of (all_after c code M steps)) (count + length steps)
 tally_all n c code M steps t t' count observed is =
@@ -79,7 +79,7 @@ drain_replayed opening old new steps more t t' r replay observed = record {
 
 -- ---- a tally that may be lost
 
--- what the tally of a step is, if it may be lost
+-- The tally after a step, if it is still there, has noted the step.
 abbrev pub InMemory : TallyInMemory → Step → Outcome → TallyInMemory → Type 0
 InMemory old s o new = IsTallied old.tally s o new.tally
 
@@ -104,7 +104,7 @@ pub were_tallied : (m : MachineLists) (steps : List Step) (old new : TallyInMemo
     new.tally ≡ Some t' → (t : TallyState) × (old.tally ≡ Some t) × AreNoted StepObserver m steps t t'
 were_tallied m steps old new t' observed is = tallied_all m.config m.code (machine_of m (λ p. [])) steps old new t' observed is
 
--- A tally that was made is one that begins.
+-- If a new tally was made, it is empty.
 pub was_made : {E : Type 0} (r : Result TallyState E) (o : Option TallyState) (t begun : TallyState) → o ≡ result_ok r → o ≡ Some t →
     IfOk r (λ x. x ≡ begun) → t ≡ begun
 was_made (Ok x) o t begun made is begins = sym (same_Some x t (sym made ∙ is)) ∙ begins

@@ -1,4 +1,4 @@
--- A tally goes on with what steps answer.
+-- A tally notes the outcomes of steps.
 use Rattle.std.proofs.Common.{◌≡◌, ℕ, ◌+◌, ◌<◌, ◌≤◌, ◌⊎◌, inl, inr, List, [], ◌∷◌, ◌++◌, length, get_or, Some, None, refl, sym, ap, ◌∙◌, subst, arith}
 use Rattle.std.specs.Prelude.{slice_get, slice_set, slice_index_or, replicate}
 use Rattle.std.proofs.lemmas.List.{get_or-set_same, get_or-set_other, get_or-replicate, length-replicate, length-set}
@@ -21,7 +21,7 @@ shown_more : (s : ShownBy) (events : List Event) (e : Event) → shown_from s (e
 shown_more s [] e = refl
 shown_more s (x ∷ xs) e = shown_more (with_event s x) xs e
 
--- the processors of a tally that have shown nothing
+-- A new tally has what the processors show in no steps.
 pub tally_begins : (n : ℕ) → IsTally n (record { shown = replicate n nothing_shown; observed = 0 }) (λ p. []) 0
 tally_begins n = record {
   all = length-replicate n nothing_shown;
@@ -33,7 +33,7 @@ module _ (n : ℕ) (t : TallyState) (events : ℕ → List Event) (steps : ℕ) 
   kept : IsTally n (record { shown = t.shown; observed = t.observed + 1 }) events (steps + 1)
   kept = record { all = is.all; each = is.each; observed = ap (λ m. m + 1) is.observed }
 
-  -- a stop shows nothing of what is reported
+  -- The event of a stop adds nothing to what is reported.
   stopped : (p : ℕ) (e : Event) → ((s : ShownBy) → with_event s e ≡ s) → (q : ℕ) → q < n →
       slice_index_or t.shown q nothing_shown ≡ shown_by (put events p (events p ++ e ∷ []) q)
   stopped p e nothing q within = by (cases_eq q p)
@@ -105,7 +105,7 @@ module _ (n : ℕ) (t : TallyState) (events : ℕ → List Event) (steps : ℕ) 
   turned p Poked = kept
   turned p Stalled = kept
 
-  -- what a step answers is noted
+  -- After a step is noted, the tally has what the processors show up to it.
   pub tally_more : (s : Step) (o : Outcome) → IsTally n (noted_after t s o) (with_shown events s o) (steps + 1)
   tally_more (step.Turn p) o = turned p o
   tally_more (step.Up s w) o = kept

@@ -1,4 +1,4 @@
--- Which shared word a turn acts on, by what it is answered.
+-- Which shared word a turn acts on, from its outcome.
 use Rattle.std.proofs.Common.{◌≡◌, ℕ, List, Option, Some, None, length, refl, sym, ap, ◌∙◌}
 use Rattle.std.specs.Option.{option_map}
 use Rattle.std.specs.Prelude.{slice_get}
@@ -27,16 +27,16 @@ module _ (m : FlatState) (k : ℕ) (retired : RetiredTurnsHaveWords) (stopped : 
   abbrev on_the_word : Option ℕ
   on_the_word = word_of m (entry.Processor k)
 
-  -- a processor that is not there acts on none
+  -- The turn of a processor that the machine does not have acts on no shared word.
   pub none_there : slice_get m.processors k ≡ None → on_the_word ≡ None
   none_there none = ap (word_of_processor m k) none
 
-  -- one that retires an instruction acts on the instruction's
+  -- A turn that retires an instruction acts on the word of that instruction.
   pub retired_word : (p : Processor) (r : RetiredInsn) → slice_get m.processors k ≡ Some p → Retired r ≡ answer_of e →
       on_the_word ≡ word_of_turn (performed (setting_of m k) m.code p r.insn (effect_of (setting_of m k) p.pc p.registers r.insn))
   retired_word p r there is = retired m k p r there (event_is (Retired r) e is)
 
-  -- the same, by what is read of the processor
+  -- The same, from what is read from the processor.
   pub read_word : (shared : ℕ) (registers : List ℕ) (found : Option Processor) (r : RetiredInsn) (w : Option ℕ) → slice_get m.processors k ≡ found →
       Some registers ≡ option_map (λ (p : Processor). p.registers) found → shared ≡ length m.shared → Retired r ≡ answer_of e →
       ((s : Setting) (code : List ℕ) (p : Processor) → s.shared_words ≡ shared → p.registers ≡ registers →
@@ -49,7 +49,7 @@ module _ (m : FlatState) (k : ℕ) (retired : RetiredTurnsHaveWords) (stopped : 
   silent : (o : Outcome) → event_of o ≡ None → o ≡ answer_of e → (o ≡ Stalled → ⊥) → on_the_word ≡ None
   silent o none is moves = absurd (moves (is ∙ ap answer_of (event_is o e is ∙ none)))
 
-  -- and every other on none
+  -- Every other turn acts on no shared word.
   pub other_word : (o : Outcome) → ((r : RetiredInsn) → o ≡ Retired r → ⊥) → o ≡ answer_of e → (o ≡ Stalled → ⊥) → on_the_word ≡ None
   other_word (Retired r) other is moves = absurd (other r refl)
   other_word (Stopped cause) other is moves = stopped m k cause (event_is (Stopped cause) e is)

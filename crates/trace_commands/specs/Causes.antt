@@ -1,4 +1,4 @@
--- Why there is no report: what each fault says of the files.
+-- Why there is no report: what each fault says about the files.
 use Rattle.std.specs.Prelude.{◌≡◌, ◌⊎◌, true, ℕ, List, Option}
 use Rattle.flat_machine.specs.declared.config.Config.{Config}
 use Rattle.flat_machine.specs.Limits.{IsWithinLimits}
@@ -23,36 +23,36 @@ use Rattle.trace_commands.specs.TraceReports.{IsSomeTraceReport, IsTraceOf, Repo
 
 -- ---- the files
 
--- why a trace is not there: reading it was refused
+-- Reading the trace fails with this error, which is not a lack of memory.
 abbrev pub IsTraceRefusal : (known : Option (List ℕ)) → TraceError → Type 0
 IsTraceRefusal known of_trace.Memory = ⊥
 IsTraceRefusal known e = (rest : Option (List ℕ)) × IsRefused known rest e
 
 -- ---- a run
 
--- The run is there, and a part of its trace is written, and not all of it.
+-- There is such a run, and a beginning of its trace, and not all of it, is written.
 pub record IsPartSavedRun {T : Type 0} (run : AskedRun) (trace : TraceOutput T) : Type 0 where
   pub image : ImageContents
   pub log : Log
   pub is : run.is_run image log
   pub part : HasPartSaved trace (trace_bytes (trace_of run.config log.steps))
 
--- Why a run is not reported: its trace cannot be written, or, once that is, its report; else the run is not there, or
--- there is no memory for its report, and no byte of a trace is written.
+-- Why a run is not reported: its trace cannot be written; or its report cannot be printed after that; or there is no
+-- such run or no memory for its report, and then no byte of a trace is written.
 abbrev pub RunFails : {T : Type 0} → AskedRun → TraceOutput T → Output → Fault → Type 0
 RunFails run trace out (fault.Trace e) = (e ≡ of_trace.Link) × IsPartSavedRun run trace
 RunFails run trace out fault.Link = PrintsPrefix (IsSomeRunReport run trace) out.old out.new
 RunFails run trace out other = run.is_not_run other × (trace.new ≡ trace.old)
 
--- Why a command that runs an image fails: the fault has its cause, and is that of a link exactly if the link failed.
+-- Why a command that runs an image fails: the fault has a cause, and it is that of a link exactly if the link failed.
 pub record RunCommandFails {T : Type 0} (run : AskedRun) (trace : TraceOutput T) (out : Output) (f : Fault) : Type 0
   where
     pub cause : RunFails run trace out f
     pub unread : IsOfLink (fault.Image of_image.Link) run.file.has_failed f
     pub unprinted : IsOfLink fault.Link out.has_failed f
 
--- Why a log is not reported: its trace cannot be written, or, once that is, its report; else there is no memory for
--- it, and no byte of a trace is written.
+-- Why a log is not reported: its trace cannot be written; or its report cannot be printed after that; or there is no
+-- memory for the report, and then no byte of a trace is written.
 abbrev pub LogReportFails : {T : Type 0} → Log → TraceOutput T → Output → Fault → Type 0
 LogReportFails log trace out (fault.Trace e) =
     (e ≡ of_trace.Link) × HasPartSaved trace (trace_bytes (trace_of log.machine.config log.steps))
@@ -69,7 +69,7 @@ pub record IsStalled (c : Config) (image : ImageContents) (steps : List Step) (p
   pub machine : MachineLists
   pub stalls : StallsAt opening steps place machine
 
--- The trace and the image are there, and the machine's size is out of its limits.
+-- The files hold a trace and an image, and the machine's size is out of limits.
 pub record IsOutOfLimits (given : TraceInput) : Type 0 where
   pub steps : TraceContents
   pub read : IsTraceOf given.trace.bytes steps
@@ -77,7 +77,7 @@ pub record IsOutOfLimits (given : TraceInput) : Type 0 where
   pub meant : IsImageOf given.shared_words given.image.bytes image
   pub limits : IsWithinLimits (config_of steps given.shared_words) → ⊥
 
--- The trace and the image are there, and the trace's step at this place is the first that stalls on the machine.
+-- The files hold a trace and an image, and the trace's step at this place is the first that stalls on the machine.
 pub record IsStalledReplay (given : TraceInput) (place : ℕ) : Type 0 where
   pub steps : TraceContents
   pub read : IsTraceOf given.trace.bytes steps
@@ -85,16 +85,15 @@ pub record IsStalledReplay (given : TraceInput) (place : ℕ) : Type 0 where
   pub meant : IsImageOf given.shared_words given.image.bytes image
   pub stalled : IsStalled (config_of steps given.shared_words) image steps.steps place
 
--- The trace is there, and nothing is printed: the image's file cannot be opened.
+-- The file holds a trace, the image's file cannot be opened, and nothing is printed.
 pub record IsUnopened (given : TraceInput) (out : Output) : Type 0 where
   pub steps : TraceContents
   pub read : IsTraceOf given.trace.bytes steps
   pub unopened : given.image.is_unopened ≡ true
   pub nothing : out.new ≡ out.old
 
--- Why it is not reported of a trace: the trace is refused; the image is; the machine's size is out of its limits; a
--- step stalls; the image's file cannot be opened, or what is to be reported cannot be printed. Of a lack of memory
--- nothing is said.
+-- Why a trace is not reported: the trace is refused; the image is refused; the machine's size is out of limits; a step
+-- stalls; the image's file cannot be opened; or the report cannot be printed. Nothing is said about a lack of memory.
 abbrev pub TraceReportFails : ReportRelation → TraceInput → Output → Fault → Type 0
 TraceReportFails reports given out (fault.Trace e) = IsTraceRefusal given.trace.bytes e
 TraceReportFails reports given out (fault.Image e) =
@@ -107,8 +106,8 @@ TraceReportFails reports given out fault.Link =
 TraceReportFails reports given out fault.Memory = Unit {0}
 TraceReportFails reports given out other = ⊥
 
--- Why a command on a trace fails: the fault has its cause, and is that of a link exactly if the link failed. That a
--- file cannot be opened is the fault of the output, too.
+-- Why a command on a trace fails: the fault has a cause, and it is that of an input exactly if a read of it failed. It
+-- is `Link` if a write failed, and only if a write failed or the image's file cannot be opened.
 pub record TraceCommandFails (reports : ReportRelation) (given : TraceInput) (out : Output) (f : Fault) : Type 0 where
   pub cause : TraceReportFails reports given out f
   pub unread : IsOfLink (fault.Trace of_trace.Link) given.trace.has_failed f
@@ -118,20 +117,20 @@ pub record TraceCommandFails (reports : ReportRelation) (given : TraceInput) (ou
 
 -- ---- the parts
 
--- what a fault says of a trace's file
+-- what a fault says about the file of a trace
 abbrev pub IsFaultOfTrace : (known : Option (List ℕ)) → Fault → Type 0
 IsFaultOfTrace known (fault.Trace e) = IsTraceRefusal known e
 IsFaultOfTrace known fault.Memory = Unit {0}
 IsFaultOfTrace known _ = ⊥
 
--- why steps are not taken on the machine of this size that opens on the image
+-- why the machine of this size that opens on the image does not take the steps
 abbrev pub IsNotTaken : (c : Config) → ImageContents → List Step → Fault → Type 0
 IsNotTaken c image steps fault.Size = IsWithinLimits c → ⊥
 IsNotTaken c image steps (fault.Stalled place) = IsStalled c image steps place
 IsNotTaken c image steps fault.Memory = Unit {0}
 IsNotTaken c image steps other = ⊥
 
--- why it is not reported of steps: they are not taken; or what is to be reported cannot be printed
+-- why steps are not reported: they are not taken, or the report cannot be printed
 abbrev pub ReportItselfFails : (is_text : List ℕ → Type 0) → (is_not_taken : Fault → Type 0) → Output → Fault → Type 0
 ReportItselfFails is_text is_not_taken out fault.Link = PrintsPrefix is_text out.old out.new
 ReportItselfFails is_text is_not_taken out other = is_not_taken other

@@ -12,7 +12,7 @@ use Rattle.trace_commands.specs.Orders.{AreOrderLines}
 abbrev pub unknown_in : Choice → Config → Option Unknown
 unknown_in choice c = unknown_of choice (2 ^ c.k) c.shared_words
 
--- The chosen lines, of a choice whose numbers name something.
+-- These are the chosen lines, and each number of the choice names something.
 abbrev pub AreChosenLines : Choice → ReportRelation
 AreChosenLines choice c image steps text status = (unknown_in choice c ≡ None)
     × AreOrderLines choice c image steps text status

@@ -1,4 +1,4 @@
--- A run that one serial order of whole instructions explains: the steps of a trace, and after them those of a drain.
+-- A run that one serial order of whole instructions explains: the steps of a trace, then those of a drain.
 use Rattle.std.specs.Prelude.{◌≡◌, List, ◌++◌}
 use Rattle.flat_machine.specs.declared.config.Config.{Config}
 use Rattle.elf_image.specs.Images.{ImageContents}
@@ -18,7 +18,7 @@ pub record IsExplainedRun (c : Config) (image : ImageContents) (steps : List Ste
   pub idle : IsIdle machine
   pub serialized : IsSerialized opening steps machine
 
--- After the steps stand those of a drain.
+-- All steps are the given ones and then those of a drain, and one serial order explains them.
 pub record IsDrainedWithSteps (c : Config) (image : ImageContents) (steps all : List Step) : Type 0 where
   pub before : MachineLists
   pub stands : StandsAfter c image steps before

@@ -13,13 +13,13 @@ use Rattle.trace_lines.specs.OrderLines.{lines_of}
 use Rattle.trace_commands.specs.Explained.{IsDrainedWithSteps, IsExplainedRun}
 use Rattle.trace_commands.specs.Reports.{HasFlatFaulted}
 
--- the serial order of a run that one explains
+-- the serial order of an explained run
 abbrev pub order_of : {c : Config} {image : ImageContents} {steps : List Step} → IsExplainedRun c image steps →
     List Entry
 order_of {steps = steps} run = (passed run.opening steps).order
 
--- These are the chosen lines of the flat machine of this size that takes the entries, one after another, and the exit
--- status says whether a fault has stopped a processor of it.
+-- These are the chosen lines of the flat machine of this size that takes the entries one after another, and the exit
+-- status says whether a fault has stopped one of its processors.
 pub record AreFlatLines (c : Config) (opening : FlatState) (order : List Entry) (choice : Choice) (text : List ℕ)
     (status : ℕ) : Type 0 where
   pub are : text ≡ lines_of choice opening order

@@ -1,4 +1,4 @@
--- What `ultra picture` prints: what is drawn of the view of a machine after steps.
+-- What `ultra picture` prints: the drawing of the view of a machine after steps.
 use Rattle.std.specs.Prelude.{ℕ, List, Option, Some, None, length, take}
 use Rattle.flat_machine.specs.declared.config.Config.{Config}
 use Rattle.elf_image.specs.Images.{ImageContents}
@@ -11,13 +11,13 @@ use Rattle.trace_commands.specs.TraceReports.{ReportRelation}
 use Rattle.trace_commands.specs.Reports.{IsExitOf}
 use Rattle.trace_commands.specs.Explained.{IsDrainedWithSteps}
 
--- this many of the steps, or all
+-- the first N of the steps, or all of them
 abbrev pub first_of : Option ℕ → List Step → List Step
 first_of None steps = steps
 first_of (Some count) steps = take count steps
 
--- The machine of this size that opens on the image has taken this many of the steps of a trace and those of a drain,
--- and this is drawn of its view then. The exit status is that of the machine then.
+-- The machine of this size that opens on the image takes this many of the steps of a trace and a drain. The text is the
+-- drawing of its view after them, and the exit status is that of the machine then.
 pub record IsDrawnBehind (draws : Draws) (c : Config) (image : ImageContents) (steps : List Step) (step : Option ℕ)
     (text : List ℕ) (status : ℕ) : Type 0 where
   pub all : List Step
@@ -29,6 +29,6 @@ pub record IsDrawnBehind (draws : Draws) (c : Config) (image : ImageContents) (s
   pub drawn : draws (view_of machine (length (first_of step all))) text
   pub exit : IsExitOf machine status
 
--- what is printed for steps
+-- what `ultra picture` prints for steps
 abbrev pub draws_behind : Draws → Option ℕ → ReportRelation
 draws_behind draws step c image steps text status = IsDrawnBehind draws c image steps step text status

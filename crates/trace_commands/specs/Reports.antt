@@ -1,5 +1,5 @@
--- The report of a machine: a line for each processor, and a line for each shared word that is not zero. Where no
--- reference is open it is that of the flat machine.
+-- The report of a machine: a line for each processor, and a line for each shared word that is not zero. If no reference
+-- is open, it is the report of the flat machine.
 use Rattle.std.specs.Prelude.{◌≡◌, ℕ, zero, suc, ◌^◌, ◌<◌, List, [], ◌++◌, Vec, map, slice_index, slice_index_or}
 use Rattle.std.specs.Global.{Global}
 use Rattle.flat_machine.specs.declared.config.Config.{Config}
@@ -15,7 +15,7 @@ use Rattle.command_io.specs.Events.{shown_by}
 use Rattle.command_io.specs.Tallies.{ShownBy, nothing_shown}
 use Rattle.command_io.specs.Lines.{processor_line, word_lines}
 
--- Lists of bytes that stand in memory are the consoles of processors that have shown this.
+-- The bytes received are the bytes that the processors have shown on their consoles.
 abbrev pub AreHeard : (shown : List ShownBy) → (consoles : List (Vec ℕ Global)) → Type 0
 AreHeard shown consoles = map (λ (v : Vec ℕ Global). v.items) consoles ≡ map (λ (s : ShownBy). s.console) shown
 
@@ -35,7 +35,7 @@ shared_lines m (suc i) = shared_lines m i ++ word_lines i (word_at m.config.k m.
 abbrev pub report_of : MachineLists → List ShownBy → List ℕ
 report_of m shown = processor_lines m shown (2 ^ m.config.k) ++ shared_lines m m.config.shared_words
 
--- the exit status of a machine that is reported
+-- This is the exit status of the machine: 1 if a fault has stopped a processor, else 0.
 pub record IsExitOf (m : MachineLists) (status : ℕ) : Type 0 where
   pub faulted : HasFaulted m → status ≡ 1
   pub sound : (HasFaulted m → ⊥) → status ≡ 0
@@ -62,12 +62,12 @@ flat_shared_lines F (suc i) = flat_shared_lines F i ++ word_lines i (slice_index
 abbrev pub flat_report : Config → FlatState → (events : ℕ → List Event) → List ℕ
 flat_report c F events = flat_processor_lines F events (2 ^ c.k) ++ flat_shared_lines F c.shared_words
 
--- a fault has stopped a processor of a flat machine of this size
+-- A fault has stopped a processor of the flat machine of this size.
 abbrev pub HasFlatFaulted : Config → FlatState → Type 0
 HasFlatFaulted c F = (p : ℕ) × (p < 2 ^ c.k) × IsFaulted (flat_processor F p).status
 
--- This is the report of the flat machine of this size that has taken the entries, one after another, and this its exit
--- status.
+-- This is the report of the flat machine of this size that has taken the entries one after another, and this is its
+-- exit status.
 pub record IsFlatReport (c : Config) (opening : FlatState) (order : List Entry) (text : List ℕ)
     (status : ℕ) : Type 0 where
   pub is : text ≡ flat_report c (flat_run opening order) (with_events (λ p. []) (flat_events opening order))

@@ -15,9 +15,9 @@ use Rattle.trace_commands.specs.Longest.{AreLongest}
 use Rattle.trace_commands.specs.Reports.{IsExitOf}
 use Rattle.trace_commands.specs.Explained.{IsDrainedWithSteps}
 
--- These are the lines of the counts of what the machine of this size answers to the steps that opens on the image, of
--- its longest queues, and of the fewest rounds of the sweep that take the steps. The exit status is that of the
--- machine after the steps.
+-- The machine of this size that opens on the image takes the steps. The lines have the counts of what the steps did,
+-- the longest queues, and the fewest rounds of the sweep that take the steps. The exit status is that of the machine
+-- after the steps.
 pub record AreCountedSteps (c : Config) (image : ImageContents) (steps : List Step) (text : List ℕ)
     (status : ℕ) : Type 0 where
   pub opening : MachineLists
@@ -33,7 +33,7 @@ pub record AreCountedSteps (c : Config) (image : ImageContents) (steps : List St
   pub lines : text ≡ lines_of c.k counts longest rounds
   pub exit : IsExitOf machine status
 
--- These are the lines of the counts of a trace's steps and a drain's.
+-- These are the lines that count the steps of a trace and those of a drain.
 pub record AreStatsLines (c : Config) (image : ImageContents) (steps : List Step) (text : List ℕ)
     (status : ℕ) : Type 0 where
   pub all : List Step

@@ -10,8 +10,8 @@ use Rattle.trace_lines.specs.StoryLines.{story_of}
 use Rattle.trace_commands.specs.Reports.{IsExitOf}
 use Rattle.trace_commands.specs.Explained.{IsDrainedWithSteps}
 
--- These are the lines of the steps: of each what the machine of this size answers to it that opens on the image and
--- has taken those before it. The exit status is that of the machine after the steps.
+-- The machine of this size that opens on the image takes the steps, and each line says what a step did. The exit status
+-- is that of the machine after the steps.
 pub record AreStorySteps (c : Config) (image : ImageContents) (steps : List Step) (text : List ℕ)
     (status : ℕ) : Type 0 where
   pub opening : MachineLists

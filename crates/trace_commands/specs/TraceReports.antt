@@ -1,4 +1,4 @@
--- What is said of steps: of those of a trace, from the bytes of files on, and of those of a log.
+-- What is printed for steps: for those of a trace, from the bytes of files, and for those of a log.
 use Rattle.std.specs.Prelude.{◌≡◌, Bool, false, ℕ, List, ◌++◌, Option, Some, None}
 use Rattle.std.specs.Io.KnownBytes.{Appends}
 use Rattle.link.specs.Transfer.{AppendsPart}
@@ -20,14 +20,14 @@ use Rattle.command_io.specs.Printing.{Prints}
 use Rattle.trace_commands.specs.CountedReplays.{IsReplayCounted}
 use Rattle.trace_commands.specs.Reports.{report_of, IsExitOf, IsFlatReport}
 
--- the file spells the trace
+-- The file spells the trace.
 pub record IsTraceOf (known : Option (List ℕ)) (t : TraceContents) : Type 0 where
   pub trace : IsTrace t
   pub whole : IsWhole known (trace_bytes t)
 
--- This is the report of the machine of this size that opens on the image, after the steps, after which no reference is
--- open, and this is its exit status. One serial order of whole instructions explains the steps, and the report is that
--- of the flat machine that opens on the image and takes this order.
+-- This is the report and the exit status of the machine of this size that opens on the image and takes the steps. No
+-- reference is open after them. One serial order of whole instructions explains the steps, and the report is that of
+-- the flat machine that opens on the image and takes this order.
 pub record IsReportOf (c : Config) (image : ImageContents) (steps : List Step) (text : List ℕ)
     (status : ℕ) : Type 0 where
   pub opening : MachineLists
@@ -41,14 +41,13 @@ pub record IsReportOf (c : Config) (image : ImageContents) (steps : List Step) (
   pub serialized : IsSerialized opening steps machine
   pub flat : IsFlatReport c (flat_opening c image.layout) (passed opening steps).order text status
 
--- The machine stands after these steps, each of which did something, since the machine of this size opened on the
--- image.
+-- The machine of this size opened on the image and has taken these steps, each of which did something.
 pub record StandsAfter (c : Config) (image : ImageContents) (steps : List Step) (m : MachineLists) : Type 0 where
   pub opening : MachineLists
   pub opens : IsOpening c image opening
   pub replay : IsReplay opening steps m
 
--- The report counts the steps, and then a drain's.
+-- This is the report after the steps and then those of a drain.
 pub record IsDrainedReport (c : Config) (image : ImageContents) (steps : List Step) (text : List ℕ)
     (status : ℕ) : Type 0 where
   pub before : MachineLists
@@ -57,13 +56,12 @@ pub record IsDrainedReport (c : Config) (image : ImageContents) (steps : List St
 
 -- ---- what is said of a trace
 
--- What a command says: a text and an exit status are said of these steps, on the machine of this size that opens on
--- the image.
+-- What a command prints for steps: which text and exit status, on the machine of this size that opens on the image.
 abbrev pub ReportRelation : Type 1
 ReportRelation = Config → ImageContents → (steps : List Step) → (text : List ℕ) → (status : ℕ) → Type 0
 
--- What a command on a trace is given: the file of the trace, that of the image of its run, and how many shared words
--- the machine has.
+-- The input of a command on a trace: the file of the trace, the file of the image, and the number of shared words of
+-- the machine.
 pub record TraceInput : Type 0 where
   pub trace : Input
   pub image : OpenedInput
@@ -72,12 +70,12 @@ pub record TraceInput : Type 0 where
 abbrev pub trace_input : Input → OpenedInput → (shared_words : ℕ) → TraceInput
 trace_input trace image shared_words = record { trace = trace; image = image; shared_words = shared_words }
 
--- what is said of the steps of this trace, on a machine of its size and with this many shared words
+-- what is printed for the steps of this trace, on a machine of its size with this many shared words
 abbrev pub OfTrace : ReportRelation → TraceContents → (shared_words : ℕ) → ReportRelation
 OfTrace reports t shared_words c image steps text status = (c ≡ config_of t shared_words)
     × reports c image steps text status
 
--- This is said of the steps of a trace, on the image that a file means, and this is the exit status.
+-- The files hold a trace and an image, and this is the text for the trace's steps, with this exit status.
 pub record IsTraceReport (reports : ReportRelation) (given : TraceInput) (status : ℕ) (text : List ℕ) : Type 0 where
   pub steps : TraceContents
   pub read : IsTraceOf given.trace.bytes steps
@@ -85,35 +83,35 @@ pub record IsTraceReport (reports : ReportRelation) (given : TraceInput) (status
   pub meant : IsImageOf given.shared_words given.image.bytes image
   pub contents_are : reports (config_of steps given.shared_words) image steps.steps text status
 
--- this is reported, with whatever exit status
+-- This is the text for the trace, with some exit status.
 abbrev pub IsSomeTraceReport : ReportRelation → TraceInput → (text : List ℕ) → Type 0
 IsSomeTraceReport reports given text = (status : ℕ) × IsTraceReport reports given status text
 
--- What is said of the trace is printed, and this is the exit status.
+-- The text for the trace is printed, and this is its exit status.
 abbrev pub PrintsTraceReport : ReportRelation → TraceInput → Output → (status : ℕ) → Type 0
 PrintsTraceReport reports given out status = Prints (IsTraceReport reports given status) out.old out.new
 
 -- ---- a run
 
--- a writer of which no call has failed, where there is one
+-- No call of the writer, if there is one, has failed.
 abbrev pub IsWorking : {T : Type 0} → (T → Bool) → Option T → Type 0
 IsWorking has_failed None = Unit {0}
 IsWorking has_failed (Some writer) = has_failed writer ≡ false
 
--- the bytes are written, where there is a writer
+-- If there is a writer, it has appended the bytes.
 abbrev pub IsSaved : {T : Type 0} → (T → Option (List ℕ)) → (old new : Option T) → List ℕ → Type 0
 IsSaved contents None None bytes = Unit {0}
 IsSaved contents (Some old) (Some new) bytes = Appends (contents old) (contents new) bytes
 IsSaved contents None (Some new) bytes = ⊥
 IsSaved contents (Some old) None bytes = ⊥
 
--- a beginning of the bytes is written, and not all of them
+-- There is a writer, and it has appended a beginning of the bytes and not all of them.
 abbrev pub IsPartSaved : {T : Type 0} → (T → Option (List ℕ)) → (old new : Option T) → List ℕ → Type 0
 IsPartSaved contents (Some old) (Some new) bytes = AppendsPart (contents old) (contents new) bytes
 IsPartSaved contents (Some old) None bytes = ⊥
 IsPartSaved contents None new bytes = ⊥
 
--- The writer of a trace, where one is asked for, before and after a command.
+-- The writer of a trace, if one is asked for, before and after a command.
 pub record TraceOutput (T : Type 0) : Type 0 where
   pub contents : T → Option (List ℕ)
   pub old : Option T
@@ -122,7 +120,7 @@ pub record TraceOutput (T : Type 0) : Type 0 where
 abbrev pub trace_output : {T : Type 0} → (contents : T → Option (List ℕ)) → (old new : Option T) → TraceOutput T
 trace_output contents old new = record { contents = contents; old = old; new = new }
 
--- The bytes are written, where a trace is asked for.
+-- If a trace is asked for, the bytes are written.
 abbrev pub HasSaved : {T : Type 0} → TraceOutput T → List ℕ → Type 0
 HasSaved trace bytes = IsSaved trace.contents trace.old trace.new bytes
 
@@ -130,15 +128,15 @@ HasSaved trace bytes = IsSaved trace.contents trace.old trace.new bytes
 abbrev pub HasPartSaved : {T : Type 0} → TraceOutput T → List ℕ → Type 0
 HasPartSaved trace bytes = IsPartSaved trace.contents trace.old trace.new bytes
 
--- A run that a command is asked for: the machine's size, the image's file, what is known of the image and the log of
--- such a run, and why there is none.
+-- A run that a command is asked for: the machine's size, the image's file, which image and log are such a run, and why
+-- there may be none.
 pub record AskedRun : Type 1 where
   pub config : Config
   pub file : Input
   pub is_run : ImageContents → Log → Type 0
   pub is_not_run : Fault → Type 0
 
--- The run enters these steps; this is its report, and this its exit status.
+-- The log of the run has these steps, and this is its report and its exit status.
 pub record IsReportedRun (run : AskedRun) (steps : List Step) (text : List ℕ) (status : ℕ) : Type 0 where
   pub image : ImageContents
   pub log : Log
@@ -146,13 +144,13 @@ pub record IsReportedRun (run : AskedRun) (steps : List Step) (text : List ℕ) 
   pub entered : log.steps ≡ steps
   pub report : IsReportOf run.config image steps text status
 
--- This is the report of the run, and this its exit status; the trace of the run is written, where one is asked for.
+-- This is the report of the run and its exit status, and the trace of the run is written if one is asked for.
 pub record IsRunReport {T : Type 0} (run : AskedRun) (trace : TraceOutput T) (status : ℕ) (text : List ℕ) : Type 0 where
   pub steps : List Step
   pub reported : IsReportedRun run steps text status
   pub saved : HasSaved trace (trace_bytes (trace_of run.config steps))
 
--- the report of a run, with whatever exit status
+-- This is the report of the run, with some exit status.
 abbrev pub IsSomeRunReport : {T : Type 0} → AskedRun → TraceOutput T → (text : List ℕ) → Type 0
 IsSomeRunReport run trace text = (status : ℕ) × IsRunReport run trace status text
 
@@ -162,19 +160,20 @@ PrintsRun run trace out status = Prints (IsRunReport run trace status) out.old o
 
 -- ---- a log
 
--- A log has a report and a trace: its machine opened on its image, no reference is open, and its steps have a spelling.
+-- The log has a report and a trace: its machine opened on its image, no reference is open, and a trace file can spell
+-- its steps.
 pub record CanBeReported (log : Log) : Type 0 where
   pub opens : IsOpening log.machine.config log.machine.image log.opening
   pub words : log.machine.image.shared_words ≡ log.machine.config.shared_words
   pub idle : IsIdle log.machine
   pub trace : IsTrace (trace_of log.machine.config log.steps)
 
--- This is the report of the log, and this its exit status; its trace is written, where one is asked for.
+-- This is the report of the log and its exit status, and the trace of the log is written if one is asked for.
 pub record IsLogReport {T : Type 0} (log : Log) (trace : TraceOutput T) (status : ℕ) (text : List ℕ) : Type 0 where
   pub report : IsReportOf log.machine.config log.machine.image log.steps text status
   pub saved : HasSaved trace (trace_bytes (trace_of log.machine.config log.steps))
 
--- the report of the log, with whatever exit status
+-- This is the report of the log, with some exit status.
 abbrev pub IsSomeLogReport : {T : Type 0} → Log → TraceOutput T → (text : List ℕ) → Type 0
 IsSomeLogReport log trace text = (status : ℕ) × IsLogReport log trace status text
 

@@ -21,13 +21,12 @@ use std::io::Write;
 use trace_file::Trace;
 use trace_lines::Unknown;
 
-/// Prints the chosen lines of the serial order ([`Order`]) of the steps of the trace that a file is, on the machine of
-/// the trace's size, and of this many shared words, that opens on the image that another file is.
+/// Reads a trace and an image, and prints the chosen lines of the serial order ([`Order`]) of the trace's steps. The
+/// machine has the trace's size and this many shared words, and opens on the image.
 ///
-/// Answers the exit status: that of the lines where they are printed; 2 where a number of the choice names nothing on
-/// that machine, which is reported on standard error; else that of the fault that is reported there. What is wrong
-/// with the trace is reported before that, and all else after it, in the order of
-/// [`trace_command`](crate::trace_command).
+/// Returns the exit status: that of the lines if they are printed; 2 if a number of the choice names nothing on that
+/// machine, which standard error reports; else that of the fault reported there. A fault of the trace comes before such
+/// a number, and all others come after it, in the order of [`trace_command`](crate::trace_command).
 pub fn order_command<T: LinkRead, R: LinkRead, W: LinkWrite, E: Write>(
     alloc: Global,
     trace: &mut T,
@@ -101,7 +100,7 @@ fn order_of_trace<R: LinkRead, W: LinkWrite, E: Write>(
     report_outcome(outcome, err)
 }
 
-/// The number that is asked for and names nothing on the machine of the trace, with this many shared words.
+/// A number of the choice that names nothing on the machine of the trace, with this many shared words.
 fn unknown_of(trace: &Trace, shared_words: u32, order: &Order) -> Option<Unknown>
     requires { trace.now.k ≤ 6 }
     ensures { result ≡ unknown_in order.now.choice (config_of trace.now shared_words) }
@@ -110,11 +109,11 @@ fn unknown_of(trace: &Trace, shared_words: u32, order: &Order) -> Option<Unknown
     order.choice.unknown(config.processors(), shared_words)
 }
 
-/// Tells on standard error that a number names nothing, and answers the exit status.
+/// Reports on standard error that a number names nothing, and returns the exit status.
 fn refuse<E: Write>(unknown: Unknown, err: &mut E) -> u8
     ensures { result ≡ 2 }
 {
-    // Where standard error fails too, the exit status alone reports it.
+    // If standard error fails too, only the exit status reports it.
     let _ = writeln!(err, "error: {unknown}");
     REFUSED
 }

@@ -1,4 +1,4 @@
-//! Counts of steps that a machine takes, and the longest queues that it passes.
+//! Counts of what a machine's steps do, and its longest queues during them.
 
 ghost use Rattle.std.specs.Prelude.{◌≡◌, IfOk, OnOk};
 ghost use Rattle.machine_steps.specs.Runs.{IsRun};
@@ -15,12 +15,12 @@ use run_counts::{Counts, Longest};
 use std::alloc::{AllocError, Global};
 use steps::{Groups, Outcome, Step};
 
-/// Takes these steps, and counts what they do. Finds the longest queues and wait buffers of the networks that the
-/// machine passes, where it begins with an empty one.
+/// Takes these steps, and counts what they do. Finds the longest queues and wait buffers of the network before, between
+/// and after the steps, if the network is empty at first.
 ///
 /// # Errors
 ///
-/// [`AllocError`] where there is no memory for the counts.
+/// [`AllocError`] if there is no memory for the counts.
 pub fn counted(
     alloc: Global,
     machine: &mut Machine,
@@ -48,7 +48,7 @@ pub fn counted(
     Ok((counts, longest))
 }
 
-/// For how many processors a module has served.
+/// How many processors a service serves: the group of the leader, or 0 if the step is no service.
 fn size_of(groups: &Groups, outcome: &Outcome) -> usize
     ensures { result ≡ size_of groups.now outcome.now }
 {

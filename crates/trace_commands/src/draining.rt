@@ -1,4 +1,4 @@
-//! The steps of a trace, and after them those of a drain.
+//! The steps of a trace, then those of a drain.
 
 ghost use Rattle.std.specs.Prelude.{◌≡◌, ◌++◌, IfOk, IfErr, OnOk};
 ghost use Rattle.machine_steps.specs.Machines.{MachineLists, IsIdle};
@@ -15,13 +15,13 @@ use machine_steps::{Machine, laws};
 use std::alloc::{AllocError, Global};
 use steps::Step;
 
-/// The steps of a trace, and after them those of a drain, on the machine of this size that opens on the image. The
-/// image was read for as many shared words.
+/// The steps of a trace, then those of a drain, on the machine of this size that opens on the image. The image was read
+/// for that number of shared words.
 ///
 /// # Errors
 ///
-/// [`Fault::Size`] where the size is out of its limits, [`Fault::Stalled`] at the first step of the trace that stalls,
-/// and [`Fault::Memory`].
+/// [`Fault::Size`] if the size is out of limits, [`Fault::Stalled`] at the first step of the trace that stalls, and
+/// [`Fault::Memory`].
 pub fn drained_steps(
     alloc: Global,
     image: &Image,

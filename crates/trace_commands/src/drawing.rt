@@ -13,7 +13,7 @@ use steps::Step;
 ///
 /// # Errors
 ///
-/// [`AllocError`] where there is no memory for the picture.
+/// [`AllocError`] if there is no memory for the picture.
 pub fn picture_text<D: Draw>(
     alloc: Global,
     machine: &mut Machine,

@@ -11,7 +11,7 @@ use flat_machine::{Entry, Poke};
 use machine_steps::{Machine, laws};
 use steps::{Outcome, Step};
 
-/// Takes an entry: a processor's next instruction, whole, or a poke. No reference is open, and no core away.
+/// Takes an entry: a processor's next instruction, whole, or a poke. No reference is open, and no core is away.
 pub(crate) fn execute(machine: &mut Machine, entry: Entry) -> Outcome
     requires idle { IsIdle machine.old }
     requires home { AreHome machine.old }
@@ -26,7 +26,7 @@ pub(crate) fn execute(machine: &mut Machine, entry: Entry) -> Outcome
     }
 }
 
-/// A poke is lawful for a machine where it is for the flat machine: the proof of [`execute`] needs it said.
+/// A poke is lawful for a machine exactly if it is for the flat machine. The proof of [`execute`] cites this.
 fn lawful_alike(machine: &Machine, poke: Poke)
     ensures { is_lawful_poke machine.now.config poke ≡ is_lawful (flat_state machine.now) poke }
 {

@@ -9,12 +9,12 @@ use link::LinkRead;
 use std::alloc::Global;
 use trace_file::{Trace, TraceError, read_trace};
 
-/// The trace that a file is.
+/// Reads the trace in a file.
 ///
 /// # Errors
 ///
-/// [`Fault::Trace`] with [`TraceError::Link`] exactly if a read fails, and with another error where the file is
-/// refused; and [`Fault::Memory`].
+/// [`Fault::Trace`] with [`TraceError::Link`] exactly if a read fails, and with another error if the file is refused;
+/// and [`Fault::Memory`].
 pub fn trace_of<R: LinkRead>(alloc: Global, file: &mut R) -> Result<Trace, Fault>
     requires reads { R.has_failed file.old ≡ false }
     ensures trace { IfOk result (IsTraceOf (R.remaining file.old)) }

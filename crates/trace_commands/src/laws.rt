@@ -1,4 +1,4 @@
-//! What a report is a function of: the contract of a function that does nothing.
+//! What a report depends on, as the contract of a function that does nothing.
 
 ghost use Rattle.std.specs.Prelude.{◌≡◌, ℕ, List};
 ghost use Rattle.flat_machine.specs.declared.config.Config.{Config};
@@ -6,8 +6,8 @@ ghost use Rattle.elf_image.specs.Images.{ImageContents};
 ghost use Rattle.steps.specs.declared.step.Step.{Step};
 ghost use Rattle.trace_commands.specs.TraceReports.{IsReportOf};
 
-/// The text of a report and its exit status are a function of the machine's size, the image and the
-/// steps. So a trace that is saved says all of its run.
+/// The text of a report and its exit status depend only on the machine's size, the image and the steps. So a saved
+/// trace is enough to report its run.
 pub fn steps_have_one_report()
     ensures { (c : Config) (image : ImageContents) (steps : List Step) (text other : List ℕ) (status another : ℕ) →
         IsReportOf c image steps text status →

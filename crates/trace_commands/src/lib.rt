@@ -1,20 +1,19 @@
-//! The commands that say of a trace: `ultra replay`, `order`, `story`, `stats` and `picture`; and the report of any
-//! log.
+//! The commands on a trace, `ultra replay`, `order`, `story`, `stats` and `picture`, and the report of any log.
 //!
-//! An [`TraceReport`] makes a text of the steps of a trace, on a machine that opens on the image: a [`Report`], an
-//! [`Order`], a [`Story`], [`Stats`] or a [`Picture`]. [`trace_command`] reads the trace and the image, and prints
-//! that text, which is made whole before its first byte is written.
+//! A [`TraceReport`] makes a text from the steps of a trace, on a machine that opens on the image: a [`Report`], an
+//! [`Order`], a [`Story`], [`Stats`] or a [`Picture`]. [`trace_command`] reads the trace and the image, makes the whole
+//! text, and then prints it.
 //!
-//! A report is a function of the image, the machine's size and the steps: the steps are taken on a machine that opens
-//! on the image ([`replay_counted`]), and what each step answers is counted. [`print_run`] reports the log of a run
-//! so. [`order_command`] prints an [`Order`], unless a number of its choice names nothing on the machine.
+//! A report depends only on the image, the machine's size and the steps: a machine that opens on the image takes the
+//! steps ([`replay_counted`]), and a tally counts what each step shows. [`print_run`] reports the log of a run in the
+//! same way. [`order_command`] prints an [`Order`], unless a number of its choice names nothing on the machine.
 //!
 //! The others take the steps of the trace on a machine that opens on the image, and then those of a drain
-//! ([`drained_steps`]). The order of whole instructions that all of them give is read off a second machine
-//! ([`entries_of`]). Two more machines carry it out, an entry at a time: one of them has taken the entry and one has
-//! not yet, so that its line says what it changed ([`order_text`]). Of story and stats, a second machine takes all
-//! steps once more, and a line is made of each ([`story_text`]), or what it answers is counted ([`counted`]). Of a
-//! picture, it takes as many as are asked for, and its view then is drawn ([`picture_text`]).
+//! ([`drained_steps`]). For an order, a second machine gives the serial order of all these steps ([`entries_of`]). Two
+//! more machines execute it, one entry at a time: one of them has taken the entry and the other has not yet, so that
+//! its line can say what it changed ([`order_text`]). For story and stats, a second machine takes all steps again, and
+//! each step becomes a line ([`story_text`]), or its outcome is counted ([`counted`]). For a picture, the second
+//! machine takes as many steps as are asked for, and its view is drawn ([`picture_text`]).
 #![tactic(auto)]
 
 mod choosing;

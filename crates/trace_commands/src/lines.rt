@@ -1,5 +1,5 @@
-//! The lines of a serial order, by two machines that carry it out: when an entry's line is made, one of them has taken
-//! it and one has not.
+//! The lines of a serial order, from two machines that execute it: when the line of an entry is made, one of them has
+//! taken the entry and the other has not.
 
 ghost use Rattle.std.specs.Prelude.{◌≡◌, ◌++◌, IfOk, OnOk, Option, string_bytes};
 ghost use Rattle.flat_machine.specs.Flat.{flat_event, flat_run, flat_step};
@@ -23,12 +23,12 @@ use trace_lines::{
     word_of_poke,
 };
 
-/// The lines of these entries that are chosen, in the flat machine that takes one after another. Both machines are that
-/// flat machine, and no reference is open in them and no core away; so it is after the last entry.
+/// The chosen lines of these entries, as the flat machine takes one after another. Before the first entry and after the
+/// last, both machines are that flat machine, no reference is open in them, and no core is away.
 ///
 /// # Errors
 ///
-/// [`AllocError`] where there is no memory for the lines.
+/// [`AllocError`] if there is no memory for the lines.
 pub fn order_text(
     alloc: Global,
     before: &mut Machine,
@@ -77,7 +77,7 @@ fn push_entry(
     Ok(())
 }
 
-/// Appends the line of an entry that does something. What it did to a shared word is reported.
+/// Appends the line of an entry that does something, with what it did to a shared word.
 fn push_line(
     alloc: Global,
     text: &mut String,
@@ -103,7 +103,7 @@ fn push_line(
     }
 }
 
-/// Appends the line of a turn: where the processor stands, and the event. Nothing, where one of both is missing.
+/// Appends the line of a turn: the processor's pc, and the event. Appends nothing if one of the two is missing.
 fn push_shown(
     alloc: Global,
     text: &mut String,
@@ -124,7 +124,7 @@ fn push_shown(
     }
 }
 
-/// The event that an outcome says of.
+/// The event of an outcome, if it has one.
 fn event_of(outcome: Outcome) -> Option<Event>
     ensures { result ≡ event_of outcome }
 {
@@ -135,7 +135,7 @@ fn event_of(outcome: Outcome) -> Option<Event>
     }
 }
 
-/// The processor whose entry it is, if it is one's.
+/// The processor of an entry, if it has one.
 fn processor_of(entry: Entry) -> Option<u8>
     ensures { result ≡ processor_of entry }
 {
@@ -145,7 +145,8 @@ fn processor_of(entry: Entry) -> Option<u8>
     }
 }
 
-/// The shared word that an entry acts on, on the machine before it. It does something, and this is what it is answered.
+/// The shared word that an entry acts on, if any, from the machine before it. The entry does something, and this is its
+/// outcome.
 fn word_of(before: &Machine, entry: Entry, outcome: Outcome) -> Option<u32>
     requires home { AreHome before.now }
     requires fault { outcome ≡ answer_to (flat_state before.now) entry }
@@ -158,7 +159,7 @@ fn word_of(before: &Machine, entry: Entry, outcome: Outcome) -> Option<u32>
     }
 }
 
-/// The shared word that a processor's turn acts on.
+/// The shared word that a processor's turn acts on, if any.
 fn word_of_turn(before: &Machine, p: u8, outcome: Outcome) -> Option<u32>
     requires home { AreHome before.now }
     requires fault { outcome ≡ answer_of (flat_event (flat_state before.now) (entries.Processor p)) }

@@ -10,7 +10,7 @@ use omega_network::Network;
 use run_counts::{Held, Longest};
 use steps::Step;
 
-/// Looks at the lists that a step can have made longer, after which the machine is this.
+/// Looks at the lists that a step can have made longer, in the machine after the step.
 pub fn look(longest: &mut Longest, machine: &Machine, step: &Step)
     ensures { longest.new ≡ longest_after machine.now.config.k (net_of machine.now.network) step.now longest.old }
 {
@@ -24,7 +24,7 @@ pub fn look(longest: &mut Longest, machine: &Machine, step: &Step)
     }
 }
 
-/// Looks at one kind of lists of a stage.
+/// Looks at the lists of one kind at a stage.
 fn raise(longest: &mut Longest, machine: &Machine, held: Held, stage: u8)
     ensures { longest.new ≡ raised machine.now.config.k (net_of machine.now.network) held stage longest.old }
 {
@@ -46,7 +46,7 @@ fn raise(longest: &mut Longest, machine: &Machine, held: Held, stage: u8)
     }
 }
 
-/// The most of a number and of those that stand on the first wires of a stage.
+/// The maximum of a number and of the counts at the first wires of a stage.
 fn most(network: &Network, held: Held, stage: u8, wires: u8, before: usize) -> usize
     requires stage { stage < network.now.k }
     requires wires { wires ≡ 2 ^ network.now.k }
@@ -59,7 +59,7 @@ fn most(network: &Network, held: Held, stage: u8, wires: u8, before: usize) -> u
     most
 }
 
-/// How many messages or records stand at a wire of a stage.
+/// How many messages or records are at a wire of a stage.
 fn count(network: &Network, held: Held, stage: u8, wire: u8) -> usize
     requires stage { stage < network.now.k }
     requires wire { wire < 2 ^ network.now.k }

@@ -1,4 +1,4 @@
-//! What `ultra order` says: the lines of the serial order of a trace's steps.
+//! What `ultra order` prints: the lines of the serial order of a trace's steps.
 
 ghost use Rattle.std.specs.Prelude.{◌≡◌, ◌≤◌, List, IfOk, IfErr, string_bytes};
 ghost use Rattle.steps.specs.declared.step.Step.{Step};
@@ -19,13 +19,13 @@ use std::alloc::Global;
 use steps::Step;
 use trace_lines::Choice;
 
-/// What `ultra order` says of a trace ([`crate::trace_report::trace_command`]): takes its steps, and then steps until
-/// no reference is open. There are lines of the serial order of whole instructions that explains all of these steps:
-/// of each entry that is chosen the line of what it does in the flat machine that has taken those before it. The exit
-/// status is 1 where a processor is faulted.
+/// What `ultra order` prints for a trace ([`crate::trace_report::trace_command`]): takes the trace's steps, and then
+/// steps until no reference is open. One serial order of whole instructions explains all these steps. Each chosen entry
+/// has a line that says what the entry does in the flat machine after all entries before it. The exit status is 1 if a
+/// fault has stopped a processor.
 #[derive(Clone, Copy, Debug, Drop)]
 pub struct Order {
-    /// Which entries.
+    /// Which entries to print.
     pub choice: Choice,
 }
 
@@ -47,12 +47,12 @@ impl TraceReport for Order {
     }
 }
 
-/// The serial order that these steps give, on a machine of this size that opens on the image. The image was read for as
-/// many shared words.
+/// The serial order of these steps, on a machine of this size that opens on the image. The image was read for that
+/// number of shared words.
 ///
 /// # Errors
 ///
-/// [`Fault::Size`] where the size is out of its limits, and [`Fault::Memory`].
+/// [`Fault::Size`] if the size is out of limits, and [`Fault::Memory`].
 pub fn entries_of(
     alloc: Global,
     image: &Image,
@@ -73,7 +73,7 @@ pub fn entries_of(
 
 /// The chosen lines of these entries, one after another, on a machine of this size that opens on the image, and the
 /// exit status.
-// A function of its own, so that none has many values to drop at each of its ends.
+// A separate function, so that neither has many values to drop at each return.
 fn lines_of_entries(
     alloc: Global,
     image: &Image,

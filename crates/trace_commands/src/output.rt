@@ -1,4 +1,4 @@
-//! The trace that is written, once all of it is there.
+//! Writing the trace of a run.
 
 ghost use Rattle.std.specs.Prelude.{◌≡◌, IfErr, OnOk};
 ghost use Rattle.trace_file.specs.Traces.{IsTrace, trace_bytes, trace_of};
@@ -10,11 +10,12 @@ use link::LinkWrite;
 use steps::Step;
 use trace_file::{TraceError, write_trace};
 
-/// Writes the trace of a run, where one is asked for.
+/// Writes the trace of a run, if one is asked for.
 ///
 /// # Errors
 ///
-/// [`Fault::Trace`] with [`TraceError::Link`] where the writer fails: a beginning of the trace is written then.
+/// [`Fault::Trace`] with [`TraceError::Link`] if the writer fails. Then a beginning of the trace is written, and not
+/// all of it.
 pub fn save<T: LinkWrite>(
     trace: &mut Option<T>,
     config: &Config,

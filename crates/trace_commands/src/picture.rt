@@ -1,4 +1,4 @@
-//! What `ultra picture` says: a picture of the machine after steps of a trace.
+//! What `ultra picture` prints: a picture of the machine after steps of a trace.
 
 ghost use Rattle.std.specs.Prelude.{◌≡◌};
 ghost use Rattle.trace_commands.specs.Pictures.{first_of};
@@ -14,17 +14,17 @@ use machine_picture::Draw;
 use std::alloc::Global;
 use steps::Step;
 
-/// What `ultra picture` says of a trace ([`crate::trace_report::trace_command`]): takes its steps, and then steps
-/// until no reference is open. There is a picture of the machine after the first this many of all these steps, or
-/// after all of them, where there are no more or no number is given. The exit status is 1 where a processor of the
-/// machine drawn is faulted.
+/// What `ultra picture` prints for a trace ([`crate::trace_report::trace_command`]): takes the trace's steps, and then
+/// steps until no reference is open. The picture shows the machine after the first N of all these steps, or after all
+/// of them if there are fewer or no number is given. The exit status is 1 if a fault has stopped a processor of the
+/// machine drawn.
 ///
-/// Who draws sees the view of that machine and nothing else ([`Draw`]).
+/// The drawing sees only the view of that machine ([`Draw`]).
 #[derive(Clone, Copy, Debug, Drop)]
 pub struct Picture<D> {
-    /// How many steps.
+    /// How many steps to take, or None for all.
     pub step: Option<u32>,
-    /// Who draws.
+    /// What draws the view.
     pub drawing: D,
 }
 
@@ -52,7 +52,7 @@ impl<D: Draw> TraceReport for Picture<D> {
     }
 }
 
-/// This many of the steps, or all, where no number is given.
+/// The first N of the steps, or all of them if no number is given.
 fn first(steps: &[Step], step: Option<u32>) -> &[Step]
     ensures { result.now ≡ first_of step steps.now }
 {

@@ -1,4 +1,4 @@
-//! The report of a log, and its trace.
+//! Printing the report of a log, and writing its trace.
 
 ghost use Rattle.std.specs.Prelude.{◌≡◌, ◌≤◌, ◌↔◌, true, false, IfOk, IfErr, IfSome, IsErrOf, OnErr, map, string_bytes};
 ghost use Rattle.command_io.specs.Links.{output};
@@ -15,12 +15,12 @@ use machine_log::Logged;
 use machine_steps::laws;
 use std::alloc::Global;
 
-/// Writes the trace of a run, where one is asked for, and prints its report: those of a log, once all of it is there.
-/// The bytes of the consoles may come from who has heard them. Answers the exit status.
+/// Writes the trace of a log, if one is asked for, and then prints the log's report. The bytes of the consoles may come
+/// from whoever received them. Returns the exit status.
 ///
 /// # Errors
 ///
-/// [`Fault::Trace`] where the trace cannot be written, exactly [`Fault::Link`] where the report cannot be printed, and
+/// [`Fault::Trace`] if the trace cannot be written, [`Fault::Link`] exactly if the report cannot be printed, and
 /// [`Fault::Memory`].
 pub fn print_run<T: LinkWrite, W: LinkWrite>(
     alloc: Global,
@@ -47,8 +47,8 @@ pub fn print_run<T: LinkWrite, W: LinkWrite>(
     Ok(status)
 }
 
-/// The report of a log, and its exit status. The steps are taken again, on a machine that opens on a copy of the
-/// image; as the log's machine opened on it too, none of them stalls.
+/// The report of a log, and its exit status. A second machine opens on a copy of the image and takes the steps again.
+/// None of them stalls, since the log's machine opened on the same image.
 fn reported(
     alloc: Global,
     log: &Logged,

@@ -20,14 +20,13 @@ use std::io;
 use std::io::Write;
 use steps::Step;
 
-/// Takes the steps of the trace that a file is, on the machine of the trace's size, and of this many shared
-/// words, that opens on the image that another file is; then takes steps until no reference is open, and
-/// prints the report. What processors show in these last steps counts too. That the image's file cannot be
-/// opened is reported where the trace has no fault.
+/// Reads a trace and an image, and takes the trace's steps on a machine of the trace's size, with this many shared
+/// words, that opens on the image. Then takes steps until no reference is open, and prints the report, which also
+/// counts these last steps. If the image's file cannot be opened, this is reported only if the trace has no fault.
 ///
-/// Answers the exit status: 0 where the report is printed, 1 where it is and a processor is faulted, else
-/// that of the fault that is reported on standard error. A fault is reported in this order: of the trace, of the
-/// image, of the machine's size, of a step that stalls, of the report.
+/// Returns the exit status: 0 if the report is printed, 1 if it is printed and a fault has stopped a processor, else
+/// that of the fault reported on standard error. Faults are checked in this order: of the trace, of the image, of the
+/// machine's size, of a step that stalls, of the report.
 pub fn replay_command<T: LinkRead, R: LinkRead, W: LinkWrite, E: Write>(
     alloc: Global,
     trace: &mut T,
@@ -58,7 +57,7 @@ pub fn replay_command<T: LinkRead, R: LinkRead, W: LinkWrite, E: Write>(
     trace_command(alloc, trace, file, shared_words, &Report, out, err)
 }
 
-/// The report of the machine after the steps of a trace and a drain: what [`replay_command`] says.
+/// The report of the machine after the steps of a trace and a drain, as [`replay_command`] prints it.
 #[derive(Clone, Copy, Debug, Drop)]
 pub struct Report;
 

@@ -19,12 +19,12 @@ use command_io::{Shown, Tally, push_processor, push_shared_word};
 use machine_steps::{Machine, laws};
 use std::alloc::{AllocError, Global};
 
-/// The report of a machine that has taken steps, in which its processors have shown this, and its exit status. The
-/// bytes of their consoles may come from who has heard them.
+/// The report of a machine, and its exit status. The tally says what its processors have shown; the bytes of their
+/// consoles may come from whoever received them.
 ///
 /// # Errors
 ///
-/// [`AllocError`] where there is no memory for it.
+/// [`AllocError`] if there is no memory for it.
 pub(crate) fn report_with_status(
     alloc: Global,
     machine: &Machine,
@@ -47,12 +47,12 @@ pub(crate) fn report_with_status(
     Ok((text, exit_status(machine)))
 }
 
-/// The report of a machine whose processors have shown this, and none of whose cores is away. The bytes of their
-/// consoles may come from who has heard them.
+/// The report of a machine none of whose cores is away. The tally says what its processors have shown; the bytes of
+/// their consoles may come from whoever received them.
 ///
 /// # Errors
 ///
-/// [`AllocError`] where there is no memory for it.
+/// [`AllocError`] if there is no memory for it.
 fn report(
     alloc: Global,
     machine: &Machine,
@@ -121,7 +121,7 @@ fn push_line(
     push_processor(alloc, text, p, pc, status, shown.retired(), console)
 }
 
-/// The bytes that a processor has given to the console: as they were heard, or else as they were counted.
+/// The bytes that a processor wrote to the console: as they were received, or else as the tally has them.
 fn console_of<'a>(shown: &'a Shown, consoles: Option<&'a [Vec<u8>]>, p: u8) -> &'a [u8]
     requires { IfSome consoles (λ cs. slice_get (map (λ v. v.items) cs.now) p ≡ Some shown.now.console) }
     ensures { result.now ≡ shown.now.console }
@@ -136,7 +136,7 @@ fn console_of<'a>(shown: &'a Shown, consoles: Option<&'a [Vec<u8>]>, p: u8) -> &
 ///
 /// # Errors
 ///
-/// [`AllocError`] where there is no memory for them.
+/// [`AllocError`] if there is no memory for them.
 pub fn push_words(alloc: Global, text: &mut String, machine: &Machine) -> Result<(), AllocError>
     ensures { OnOk result (string_bytes text.new ≡ string_bytes text.old
         ++ shared_lines machine.now machine.now.config.shared_words) }

@@ -1,4 +1,4 @@
-//! What `ultra stats` says: how often the steps of a trace did what.
+//! What `ultra stats` prints: counts of what the steps of a trace did.
 
 use crate::counting::counted;
 use crate::draining::drained_steps;
@@ -11,9 +11,9 @@ use run_counts::{counts_text, rounds_of};
 use std::alloc::Global;
 use steps::Step;
 
-/// What `ultra stats` says of a trace ([`crate::trace_report::trace_command`]): takes its steps, and then steps until
-/// no reference is open. There are lines of how often all these steps did what. The exit status is 1 where a processor
-/// is faulted.
+/// What `ultra stats` prints for a trace ([`crate::trace_report::trace_command`]): takes the trace's steps, and then
+/// steps until no reference is open. The lines count what all these steps did. The exit status is 1 if a fault has
+/// stopped a processor.
 #[derive(Clone, Copy, Debug, Drop)]
 pub struct Stats;
 

@@ -1,4 +1,4 @@
-//! What `ultra story` says: the lines of the steps of a trace.
+//! What `ultra story` prints: the lines of the steps of a trace.
 
 use crate::draining::drained_steps;
 use crate::states::exit_status;
@@ -10,9 +10,9 @@ use flat_machine::Config;
 use std::alloc::Global;
 use steps::Step;
 
-/// What `ultra story` says of a trace ([`crate::trace_report::trace_command`]): takes its steps, and then steps until
-/// no reference is open. There is a line for each of all these steps, of what the machine did by it. The exit status
-/// is 1 where a processor is faulted.
+/// What `ultra story` prints for a trace ([`crate::trace_report::trace_command`]): takes the trace's steps, and then
+/// steps until no reference is open. Each of these steps has a line that says what the machine did. The exit status is
+/// 1 if a fault has stopped a processor.
 #[derive(Clone, Copy, Debug, Drop)]
 pub struct Story;
 

@@ -1,4 +1,4 @@
-//! Steps that are taken on a machine, and what its processors show.
+//! Steps taken on a machine, and what its processors show in them.
 
 ghost use Rattle.std.specs.Prelude.{◌≡◌, ◌≤◌, ◌++◌, List, IfOk, IfErr, OnOk, length};
 ghost use Rattle.steps.specs.declared.step.Step.{Step};
@@ -13,12 +13,12 @@ use machine_steps::{Machine, laws};
 use std::alloc::{AllocError, Global};
 use steps::Step;
 
-/// Takes these steps, and answers what each processor has shown in them.
+/// Takes these steps, and returns what each processor has shown in them.
 ///
 /// # Errors
 ///
-/// [`Fault::Stalled`] exactly if a step stalls, at the first that does: then the machine stands after the steps before.
-/// [`Fault::Memory`] where there is no memory for the tally: then the machine has taken all steps.
+/// [`Fault::Stalled`] exactly if a step stalls, at the first that does; then the machine has taken the steps before it.
+/// [`Fault::Memory`] if there is no memory for the tally; then the machine has taken all steps.
 pub fn replay_counted(alloc: Global, machine: &mut Machine, steps: &[Step]) -> Result<Tally, Fault>
     requires { length steps.now ≤ 4194304 }
     ensures taken { IfOk result (λ tally. IsReplayCounted machine.old steps.now machine.new tally) }
@@ -33,11 +33,11 @@ pub fn replay_counted(alloc: Global, machine: &mut Machine, steps: &[Step]) -> R
     counting.tally()
 }
 
-/// Takes steps until no reference is open, as [`machine_steps::Machine::drain`] does, and notes what each answers.
+/// Takes steps until no reference is open, as [`machine_steps::Machine::drain`] does, and notes the outcome of each.
 ///
 /// # Errors
 ///
-/// [`AllocError`] where there is no memory for a byte of the console.
+/// [`AllocError`] if there is no memory for a byte of the console.
 pub fn drained(machine: &mut Machine, tally: &mut Tally) -> Result<(), AllocError>
     requires { tally.old.observed ≤ 4194304 }
     ensures idle { OnOk result (IsIdle machine.new) }

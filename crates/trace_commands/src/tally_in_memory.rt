@@ -1,4 +1,4 @@
-//! A tally of steps that go on whether or not there is memory for it.
+//! A tally for which memory may run out while the steps go on.
 
 ghost use Rattle.std.specs.Prelude.{◌≡◌, IfErr, IfOk, Some};
 
@@ -6,7 +6,7 @@ use command_io::{Fault, Tally};
 use std::convert::Infallible;
 use steps::{Outcome, Step, StepObserver};
 
-/// What each processor of a machine has shown in the steps that are observed: None once there was no memory for it.
+/// What each processor of a machine has shown in the observed steps, or None since memory ran out.
 #[derive(Debug, Drop)]
 pub(crate) struct TallyInMemory {
     pub(crate) tally: Option<Tally>,
@@ -17,7 +17,7 @@ impl TallyInMemory {
     ///
     /// # Errors
     ///
-    /// [`Fault::Memory`] where there was no memory for it.
+    /// [`Fault::Memory`] if memory ran out.
     pub(crate) fn tally(self) -> Result<Tally, Fault>
         ensures tally { IfOk result (λ tally. self.tally ≡ Some tally) }
         ensures refused { IfErr result (λ fault. fault ≡ Fault.Memory) }
@@ -29,7 +29,7 @@ impl TallyInMemory {
     }
 }
 
-/// It refuses no step, so that a step that stalls is found whatever memory there is.
+/// It refuses no step, so that a step that stalls is found even if memory runs out.
 impl StepObserver for TallyInMemory {
     ghost use Rattle.trace_commands.specs.CountedReplays.{HasRoom, IsTallied};
 

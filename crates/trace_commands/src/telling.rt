@@ -1,4 +1,4 @@
-//! The lines of steps that a machine takes.
+//! The lines of the steps that a machine takes.
 
 ghost use Rattle.std.specs.Prelude.{◌≡◌, IfOk, OnOk, string_bytes};
 ghost use Rattle.machine_steps.specs.Runs.{IsRun};
@@ -10,11 +10,11 @@ use std::alloc::{AllocError, Global};
 use steps::{Groups, Step};
 use trace_lines::push_line;
 
-/// Takes these steps, and makes the line of each of what it answers.
+/// Takes these steps, and makes a line from the outcome of each.
 ///
 /// # Errors
 ///
-/// [`AllocError`] where there is no memory for the lines.
+/// [`AllocError`] if there is no memory for the lines.
 pub fn story_text(
     alloc: Global,
     machine: &mut Machine,

@@ -1,4 +1,4 @@
-//! What commands say of a trace: from the bytes of a trace and of an image to a text.
+//! What commands print for a trace: from the bytes of a trace and of an image to a text.
 
 ghost use Rattle.std.specs.Prelude.{◌≡◌, ◌≤◌, ◌⊎◌, ◌↔◌, ℕ, true, false, IfOk, IfErr, IsErr, IsErrOf, OnErr, length};
 ghost use Rattle.std.specs.Prelude.{string_bytes};
@@ -20,21 +20,21 @@ use std::io::Write;
 use steps::Step;
 use trace_file::{Trace, TraceError};
 
-/// What is said of the steps of a trace: a report, a serial order, or else.
+/// A text about the steps of a trace, such as a report or a serial order.
 ///
-/// [`trace_command`] is the command that reports it.
+/// [`trace_command`] is the command that prints it.
 pub trait TraceReport {
     ghost use Rattle.trace_commands.specs.TraceReports.{ReportRelation};
 
-    /// What the text and the exit status are.
+    /// The relation of the text and the exit status to the size, the image and the steps.
     ghost reports: { Self → ReportRelation };
 
-    /// Takes the steps on a machine of this size that opens on a copy of the image, which was read for as many shared
-    /// words, and says of them. The exit status is 0, or 1 where a processor is faulted.
+    /// Takes the steps on a machine of this size that opens on a copy of the image, and returns the text and the exit
+    /// status, which is at most 1. The image was read for that number of shared words.
     ///
     /// # Errors
     ///
-    /// [`Fault::Size`] where the size is out of its limits, [`Fault::Stalled`] at the first step that stalls, and
+    /// [`Fault::Size`] if the size is out of limits, [`Fault::Stalled`] at the first step that stalls, and
     /// [`Fault::Memory`].
     fn text(
         &self,
@@ -51,13 +51,13 @@ pub trait TraceReport {
         ensures refused { IfErr result (IsNotTaken config image.now steps.now) };
 }
 
-/// Tells of the steps of the trace that a file is, on the machine of the trace's size, and of this many shared words,
-/// that opens on the image that another file is, and prints that. That the image's file cannot be opened is reported
-/// where the trace has no fault.
+/// Reads a trace and an image, and prints the text of the trace's steps. The machine has the trace's size and this many
+/// shared words, and opens on the image. If the image's file cannot be opened, this is reported only if the trace has
+/// no fault.
 ///
-/// Answers the exit status: that of the text where it is printed, else that of the fault that is reported on standard
-/// error. A fault is reported in this order: of the trace, of the image, of the machine's size, of a step that stalls,
-/// of standard output.
+/// Returns the exit status: that of the text if it is printed, else that of the fault reported on standard error.
+/// Faults are checked in this order: of the trace, of the image, of the machine's size, of a step that stalls, of
+/// standard output.
 pub fn trace_command<A: TraceReport, T: LinkRead, R: LinkRead, W: LinkWrite, E: Write>(
     alloc: Global,
     trace: &mut T,
@@ -90,7 +90,7 @@ pub fn trace_command<A: TraceReport, T: LinkRead, R: LinkRead, W: LinkWrite, E: 
     report_outcome(outcome, err)
 }
 
-/// Carries the command out.
+/// Executes the command.
 fn execute<A: TraceReport, T: LinkRead, R: LinkRead, W: LinkWrite>(
     alloc: Global,
     trace: &mut T,
@@ -122,7 +122,7 @@ fn execute<A: TraceReport, T: LinkRead, R: LinkRead, W: LinkWrite>(
     print_trace(alloc, &trace, file, shared_words, trace_report, out)
 }
 
-/// Prints what is said of the steps of a trace.
+/// Prints the text of the steps of a trace.
 pub(crate) fn print_trace<A: TraceReport, R: LinkRead, W: LinkWrite>(
     alloc: Global,
     trace: &Trace,
@@ -159,8 +159,8 @@ pub(crate) fn print_trace<A: TraceReport, R: LinkRead, W: LinkWrite>(
     print_trace_report(alloc, &image, config, trace.steps(), trace_report, out)
 }
 
-/// Prints what is said of steps.
-// A function of its own, so that none has many values to drop at each of its ends.
+/// Prints the text of steps.
+// A separate function, so that neither has many values to drop at each return.
 fn print_trace_report<A: TraceReport, W: LinkWrite>(
     alloc: Global,
     image: &Image,
