@@ -1,4 +1,4 @@
--- The lines of one size more, and why a size is not explored.
+-- The lines of one more size, and why a size is not explored.
 use Rattle.std.proofs.Common.{◌≡◌, inl, inr, ℕ, ◌+◌, ◌<◌, zero, suc, max, Bool, List, [], ◌∷◌, ◌++◌, length, Option, Some}
 use Rattle.std.proofs.Common.{append_assoc, length-append, refl, sym, ap, subst, ◌∙◌, arith}
 use Rattle.std.specs.Prelude.{option_to_list, slice_get}
@@ -25,7 +25,7 @@ use Rattle.explore_command.specs.Sizes.{faults_of, greatest_exit, lines_of, size
 
 -- ---- lists
 
--- one element more is mapped to its list, after those of the others
+-- The list of one more element comes after the lists of the others.
 flat_map_last : {X A : Type 0} (f : X → List A) (xs : List X) (x : X) → flat_map f (xs ++ x ∷ []) ≡ flat_map f xs ++ f x
 flat_map_last f [] x = append-nil (f x)
 flat_map_last f (y ∷ ys) x = ap (λ zs. f y ++ zs) (flat_map_last f ys x) ∙ sym (append_assoc (f y) (flat_map f ys) (f x))
@@ -36,7 +36,7 @@ greatest_last (x ∷ rs) r = ap (max x.status) (greatest_last rs r) ∙ (omega a
 
 -- ---- faults that are reported
 
--- Some faults are reported, and then others.
+-- If faults are reported, and then others, all of them are reported.
 reported_on : {E : Type 0} (contents : E → Option (List ℕ)) (old between new : E) (fs gs : List Fault) →
     AreReported fs (errors_to contents old between) → AreReported gs (errors_to contents between new) →
     AreReported (fs ++ gs) (errors_to contents old new)
@@ -46,7 +46,7 @@ reported_on contents old between new (f ∷ fs) gs h more = (h.0, h.1, reported_
 -- ---- one size more
 
 module _ (p : Problem) where
-  -- The reports of the first sizes, and of the next one, are those of one size more.
+  -- The reports of the first sizes and of the next one are the reports of the first sizes with one more.
   reports_last : (rs before : List SizeReport) (r : SizeReport) →
       ((k : ℕ) (x : SizeReport) → slice_get rs k ≡ Some x → IsSizeReport (with_stages p (length before + k)) x) →
       IsSizeReport (with_stages p (length before + length rs)) r →
@@ -73,7 +73,7 @@ module _ (p : Problem) where
       (subst (λ n. IsSizeReport (with_stages p n) r) (let same : count ≡ 0 + length rs = omega (arith, all) in same) one) k x there)
 
   module _ {E : Type 0} (contents : E → Option (List ℕ)) (start : E) where
-    -- One line more is said of, and its fault is reported, if it has one.
+    -- After one more line, the property holds of all lines, and its fault is reported, if it has one.
     said_more : (said said' : List ℕ → Type 0) (rs : List SizeReport) (count : ℕ) (between new : E) (line : List ℕ) (status : ℕ) →
         length rs ≡ count → AreSizesReported p rs said (errors_to contents start between) →
         (l : IsSizeLine (with_stages p count) (errors_to contents between new) line status) →
@@ -90,7 +90,7 @@ module _ (p : Problem) where
 
     -- ---- what is printed
 
-    -- Of no size nothing is printed.
+    -- If nothing is printed, the lines of no sizes are.
     pub none_printed : (old : Option (List ℕ)) (has_failed : Bool) →
         PrintsFirst p 0 (record { old = old; new = old; has_failed = has_failed }) (errors_to contents start start) 0
     none_printed old has_failed = record {
@@ -100,7 +100,7 @@ module _ (p : Problem) where
       are = record { are = λ k r there. absurd (cc); lines = Appends-nil old; reported = refl };
     }
 
-    -- One line more is printed,
+    -- If the next line is printed, one more size is.
     pub printed_more : (count : ℕ) (old between new : Option (List ℕ)) (b b' b'' : Bool) (middle end : E) (status exit : ℕ) →
         PrintsFirst p count (record { old = old; new = between; has_failed = b }) (errors_to contents start middle) status →
         PrintsSize (with_stages p count) (record { old = between; new = new; has_failed = b' }) (errors_to contents middle end) exit →
@@ -113,7 +113,7 @@ module _ (p : Problem) where
           (λ said. Appends-trans old between new (lines_of h.reports) more.line said more.printed);
     }
 
-    -- or it is not.
+    -- If the next line is not printed, the lines are not all printed, for the same fault.
     pub not_printed : EndsInTheRest → (count : ℕ) (old between new : Option (List ℕ)) (b b' b'' : Bool) (middle end : E) (status : ℕ)
         (f : Fault) → count < sizes →
         PrintsFirst p count (record { old = old; new = between; has_failed = b }) (errors_to contents start middle) status →
@@ -150,7 +150,7 @@ module _ (p : Problem) where
 
 -- ---- why a size is not explored
 
--- It is out of the limits,
+-- If the size is refused, it is not explored, for the same fault.
 pub size_refuses : (p : Problem) (f : Fault) → IsFaultOfSize p.config f → IsSizeRefused p f
 size_refuses p (fault.Line number) why = absurd why
 size_refuses p (fault.Text e) why = absurd why
@@ -168,7 +168,7 @@ size_refuses p fault.Alone why = absurd why
 size_refuses p fault.Link why = absurd why
 size_refuses p fault.Memory why = tt
 
--- or its results are not found.
+-- If the search gives up, the size is not explored, for the same fault.
 pub search_refuses : (p : Problem) (opening : MachineLists) (f : Fault) → IsOpening p.config p.image opening →
     IsNotSearched (flat_state opening) p.asked.limit f → IsSizeRefused p f
 search_refuses p opening (fault.Line number) opens why = absurd why
@@ -190,7 +190,7 @@ search_refuses p opening fault.Memory opens why = tt
 -- ---- why nothing more is printed
 
 module _ {E : Type 0} (e : Exploration) (out : Output) (err : ErrorOutput E) where
-  -- The image is refused,
+  -- If the image is refused, the command fails with the same fault.
   pub image_refuses : (f : Fault) → out.new ≡ out.old → err.new ≡ err.old → IsFaultOfImage e.config.shared_words e.file.bytes f →
       FailsBefore e out err f
   image_refuses (fault.Line number) unprinted quiet why = absurd why
@@ -209,7 +209,7 @@ module _ {E : Type 0} (e : Exploration) (out : Output) (err : ErrorOutput E) whe
   image_refuses fault.Link unprinted quiet why = absurd why
   image_refuses fault.Memory unprinted quiet why = inl (unprinted, quiet)
 
-  -- or its lines are not all printed.
+  -- If the lines are not all printed, the command fails with the same fault.
   pub sizes_refuse : (image : ImageContents) (f : Fault) → IsImageOf e.config.shared_words e.file.bytes image →
       FailsSizes (problem_of e.config image e.asked) out err f → FailsBefore e out err f
   sizes_refuse image (fault.Line number) meant why = absurd why

@@ -1,4 +1,4 @@
--- What steps lead to is what is left of a machine that has taken them once more.
+-- What steps lead to is what a machine leaves that has taken them again.
 use Rattle.std.proofs.Common.{◌≡◌, ℕ, zero, suc, ◌^◌, ◌<◌, ◌==◌, true, false, List, [], ◌∷◌, Option}
 use Rattle.std.proofs.Common.{Some, None, map, length, refl, sym, ap, ap₂, ◌∙◌, subst, arith}
 use Rattle.std.specs.Prelude.{All, Contains, slice_get, slice_index, slice_index_or, IsSomeAnd}
@@ -47,7 +47,7 @@ printed_all s (shown ∷ events) = ap (λ console. printed_by console events) (p
 
 -- ---- what is left
 
--- no core is away
+-- No core of a machine that has taken the steps is away.
 pub taken_home : (c : Config) (image : ImageContents) (steps : List Step) (m : MachineLists) (t : TallyState) → AreTaken c image steps m t → AreHome m
 taken_home c image steps m t taken = run_home taken.opening m steps taken.replay_counted.replay.run taken.opens.home
 
@@ -70,7 +70,7 @@ module _ (opening m : MachineLists) (steps : List Step) (tally : TallyState) (ta
   config_is : m.config ≡ opening.config
   config_is = taken.replay.run.config
 
-  -- a processor, as the steps leave it
+  -- what the steps leave of a processor
   abbrev left : ℕ → ProcessorResult
   left p = result_with (M.core p).state (printed_by [] (M.core p).events)
 
@@ -118,7 +118,7 @@ none_contained (x ∷ results) none r there = not_zero (length results) none
 
 -- ---- the steps
 
--- If each step is the machine's own, so are they all.
+-- If no step is a poke, the list of steps has no poke.
 pub all_own : (steps : List Step) → All IsOfTheMachine steps → AreOfTheMachine steps
 all_own [] all = tt
 all_own (s ∷ steps) all = (All-head IsOfTheMachine s steps all, all_own steps (All-tail IsOfTheMachine s steps all))
@@ -135,7 +135,7 @@ result_there opening results before (suc place) r steps is there leads =
 
 module _ (c : Config) (image : ImageContents) (results : List FinalResult) (steps : List Step) (m : MachineLists) (tally : TallyState)
     (taken : AreTaken c image steps m tally) (own : AreOfTheMachine steps) (trace : IsTrace (trace_of c steps)) where
-  -- Steps after which the machine has ended with the result of a number are a witness for this number.
+  -- If the machine has ended after the steps with the result of a number, the steps are a witness for this number.
   pub end_witness : (before number : ℕ) (r : FinalResult) → number ≡ suc before → before < length results → r ≡ slice_index_or results before r →
       IsEnd m tally.shown r → IsWitness c image (target results number) steps
   end_witness before number r is within there end = record {
@@ -146,7 +146,7 @@ module _ (c : Config) (image : ImageContents) (results : List FinalResult) (step
     trace = trace;
   }
 
-  -- Steps after which no result can be reached are a witness for the number 0.
+  -- If no result can be reached after the steps, the steps are a witness for the number 0.
   pub stuck_witness : (number : ℕ) → number ≡ 0 → IsStuck m → IsWitness c image (target results number) steps
   stuck_witness number is stuck = record {
     opening = taken.opening;

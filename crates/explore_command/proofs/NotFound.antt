@@ -1,4 +1,4 @@
--- Why results that are not searched, or not saved, are not found, and so not printed.
+-- If the search gives up, or the witness is not saved, the results are not found, and so not printed.
 use Rattle.std.proofs.Common.{◌≡◌}
 use Rattle.elf_image.specs.Files.{IsImageOf}
 use Rattle.elf_image.specs.Images.{ImageContents}
@@ -16,7 +16,7 @@ use Rattle.explore_command.specs.Explorations.{AreResultsOf, Exploration, Proble
 use Rattle.trace_commands.specs.TraceReports.{TraceOutput}
 
 module _ {T : Type 0} (p : Problem) (trace : TraceOutput T) (opening : MachineLists) (opens : IsOpening p.config p.image opening) where
-  -- If a machine's results are not searched, its image's results are not found, with the same fault.
+  -- If the search of a machine gives up, the results of its image are not found, with the same fault.
   pub not_searched : (f : Fault) → trace.new ≡ trace.old → IsNotSearched (flat_state opening) p.asked.limit f → IsNotFound p trace (refused.Fault f)
   not_searched (fault.Line line) same why = absurd why
   not_searched (fault.Text e) same why = absurd why
@@ -36,7 +36,7 @@ module _ {T : Type 0} (p : Problem) (trace : TraceOutput T) (opening : MachineLi
 
   module _ (found : SearchResult) (all : AreResultsOf opening found.classes found.results)
       (fact : IsTerminationOf (flat_state opening) found.termination) where
-    -- If the trace of a witness is not saved, it is not found either, for the same reason.
+    -- If the trace of a witness is not saved, the results are not found, for the same reason.
     pub not_saved : (r : Refused) → IsNotSaved p found trace r → IsNotFound p trace r
     not_saved refused.Unknown why = (
       why.0,
@@ -71,7 +71,7 @@ module _ {T : Type 0} (p : Problem) (trace : TraceOutput T) (opening : MachineLi
     not_saved (refused.Fault fault.Link) why = absurd why
     not_saved (refused.Fault fault.Memory) why = why
 
--- If the results of the image that a file means are not found, none are printed, for the same reason.
+-- If the results of the image in a file are not found, the command fails for the same reason.
 pub not_found : {T : Type 0} (e : Exploration) (trace : TraceOutput T) (out : Output) (image : ImageContents) →
     IsImageOf e.config.shared_words e.file.bytes image → (r : Refused) → IsNotFound (problem_of e.config image e.asked) trace r →
     IsRefused e trace out r

@@ -1,4 +1,4 @@
--- Why the steps of a way are not there.
+-- Why the steps of a way are not taken.
 use Rattle.std.specs.Prelude.{ℕ, List}
 use Rattle.flat_machine.specs.declared.config.Config.{Config}
 use Rattle.machine_log.specs.declared.refusal.LockRefusal.{LockRefusal}
@@ -12,14 +12,14 @@ use Rattle.explore_command.specs.declared.refused.Refused.{Refused}
 use Rattle.explore_command.specs.declared.refused.Refused.TheVariants as refused
 use Rattle.explore_command.specs.Refusals.{IsNoWitness, IsNotTaken, IsOfSteps, refused_by_log}
 
--- a step that a log refuses
+-- If a log refuses a step, the steps are not taken, for the same reason.
 pub log_refuses : (e : LockRefusal) → IsOfSteps (refused_by_log e)
 log_refuses log.Memory = tt
 log_refuses log.Full = tt
 log_refuses log.Unnamed = tt
 log_refuses log.NotFree = tt
 
--- If steps are not taken, those of a way are not there for the same reason.
+-- If steps are not taken, those of a way are not, for the same reason.
 pub steps_refuse : (c : Config) (r : Refused) → IsOfSteps r → IsNotTaken c r
 steps_refuse c (refused.Fault (fault.Line number)) why = why
 steps_refuse c (refused.Fault (fault.Text e)) why = why
@@ -39,7 +39,7 @@ steps_refuse c (refused.Fault fault.Memory) why = why
 steps_refuse c refused.Unknown why = why
 steps_refuse c refused.Missed why = why
 
--- a machine that is not there
+-- If there is no machine, the steps of a way are not taken, for the same fault.
 pub size_refuses : (c : Config) (f : Fault) → IsFaultOfSize c f → IsNotTaken c (refused.Fault f)
 size_refuses c (fault.Line number) why = absurd why
 size_refuses c (fault.Text e) why = absurd why
@@ -57,7 +57,7 @@ size_refuses c fault.Alone why = absurd why
 size_refuses c fault.Link why = absurd why
 size_refuses c fault.Memory why = tt
 
--- no witness without its steps
+-- If the steps of a way are not taken, there is no witness, for the same reason.
 pub not_taken : (c : Config) (results : List FinalResult) (termination : Termination) (number : ℕ) (r : Refused) → IsNotTaken c r →
     IsNoWitness c results termination number r
 not_taken c results termination number (refused.Fault f) why = why

@@ -8,7 +8,7 @@ use Rattle.flat_machine.specs.declared.event.Status.{Status}
 use Rattle.exploration.specs.local_reduction.Results.{FinalResult, ProcessorResult}
 use Rattle.explore_command.specs.Sizes.{rank_of_status, greater, HasStatusWith, IsGreatestWith, HasStatus, IsGreatestStatus}
 
--- one more is taken
+-- One more element is taken.
 pub taken_more : {X : Type 0} (xs : List X) (k : ℕ) (d : X) → k < length xs → take (k + 1) xs ≡ take k xs ++ slice_index_or xs k d ∷ []
 taken_more [] k d l = absurd (omega (arith, l))
 taken_more (x ∷ xs) zero d l = refl
@@ -16,12 +16,12 @@ taken_more {X} (x ∷ xs) (suc k) d l =
     let next : suc k + 1 ≡ suc (k + 1) = omega arith in
     ap (λ n. take n (x ∷ xs)) next ∙ ap (λ (ys : List X). x ∷ ys) (taken_more xs k d (omega (arith, l)))
 
--- a status that is met, of some kind, if none is greater, or none at all is met
+-- The status has the property, and none that has it is greater; or none has it.
 abbrev IsTop : (Status → Type 0) → Option Status → Type 0
 IsTop Has None = (s : Status) → Has s → ⊥
 IsTop Has (Some g) = Has g × ((s : Status) → Has s → rank_of_status s ≤ rank_of_status g)
 
--- A status more.
+-- The greatest status, and one more: the greater of the two is the greatest of all.
 top_more : (Has : Status → Type 0) (o : Option Status) (t : Status) → IsTop Has o →
     (Has (greater o t) ⊎ (t ≡ greater o t)) × ((s : Status) → Has s ⊎ (t ≡ s) → rank_of_status s ≤ rank_of_status (greater o t))
 top_more Has None t none = (inr refl, λ s h. by s h)
@@ -51,7 +51,7 @@ top_more Has (Some g) t top = by (cases_lt (rank_of_status t) (rank_of_status g)
         below s (inl h) = let e = top.1 s h in omega (arith, e, past)
         below s (inr same) = let e : rank_of_status t ≡ rank_of_status s = ap rank_of_status same in omega (arith, e)
 
--- The same of a kind that has what another has, both ways.
+-- Two properties that the same statuses have share the greatest status.
 top_same : (Has Had : Status → Type 0) (o : Option Status) → ((s : Status) → Has s → Had s) → ((s : Status) → Had s → Has s) → IsTop Has o → IsTop Had o
 top_same Has Had None to from none = λ s h. none s (from s h)
 top_same Has Had (Some g) to from top = (to g top.0, λ s h. top.1 s (from s h))
@@ -61,7 +61,7 @@ top_same Has Had (Some g) to from top = (to g top.0, λ s h. top.1 s (from s h))
 nothing_in : {X : Type 0} (x : X) → Contains [] x → ⊥
 nothing_in x h = let l = h.1 in omega (arith, l)
 
--- Of no processor it is the status before.
+-- With no processor, the greatest status is the start.
 pub of_none : (start : Option Status) → IsGreatestWith start [] start
 of_none None = λ s h. by s h
   where
@@ -74,7 +74,7 @@ of_none (Some g) = (inl refl, λ s h. by s h)
     by s (inl e) = let same : g ≡ s = cc in let f : rank_of_status g ≡ rank_of_status s = ap rank_of_status same in omega (arith, f)
     by s (inr h) = absurd (nothing_in h.0 h.1)
 
--- And one processor more.
+-- With one more processor, the greatest status is the greater of its status and the greatest before.
 pub of_more : (start : Option Status) (ps : List ProcessorResult) (p : ProcessorResult) (o : Option Status) → IsGreatestWith start ps o →
     IsGreatestWith start (ps ++ p ∷ []) (Some (greater o p.status))
 of_more start ps p o h =
@@ -121,7 +121,7 @@ in_first rs r s x = (x.0, x.1, Contains-append_left rs (r ∷ []) x.0 x.2, x.3, 
 in_last : (rs : List FinalResult) (r : FinalResult) (s : Status) → HasIn r s → HasStatus (rs ++ r ∷ []) s
 in_last rs r s x = (r, x.0, Contains-push rs r, x.1, x.2)
 
--- One result more.
+-- With one more result, the greatest status is that of its processors, started from the greatest before.
 pub of_result : (rs : List FinalResult) (r : FinalResult) (o new : Option Status) → IsGreatestStatus rs o →
     IsGreatestWith o r.processors new → IsGreatestStatus (rs ++ r ∷ []) new
 of_result rs r None None h w = λ s x. by s (split rs r s x)

@@ -1,4 +1,4 @@
--- The words of a result that are not zero have the lines of all its words.
+-- The lines of a result's words that are not zero are the lines of all its words.
 use Rattle.std.proofs.Common.{◌≡◌, ℕ, ◌+◌, ◌<◌, ◌≤◌, zero, suc, List, [], ◌∷◌, ◌++◌, drop, length, append_assoc, refl, sym, ap, ◌∙◌, arith}
 use Rattle.std.specs.Prelude.{slice_index, slice_index_or}
 use Rattle.std.proofs.lemmas.List.{append-nil, drop_more}
@@ -16,7 +16,7 @@ lines_of_stored : (place value : ℕ) (ws : List NonzeroWord) → nonzero_lines 
 lines_of_stored place zero ws = refl
 lines_of_stored place (suc less) ws = refl
 
--- After the lines of the words before a place, the lines of what is stored of the words from it on are those of all.
+-- The lines of the words before a place, and then those of the nonzero words from it on, are the lines of all words.
 lines_from : (list : List ℕ) (from : ℕ) (ws : List ℕ) → ((i : ℕ) → slice_index list (from + i) ≡ slice_index ws i) →
     shared_lines list from ++ nonzero_lines (stored_from from ws) ≡ shared_lines list (from + length ws)
 lines_from list from [] same =
@@ -41,7 +41,8 @@ lines_are words =
 
 -- ---- a loop over such words
 
--- If the line of a word is appended, and before it with the lines from the word on the text was the whole, it is with those after it.
+-- If the text and the lines from a word on make the whole, then after the line of the word is appended, the text and
+-- the lines after it do.
 pub lines_more : (ws : List NonzeroWord) (i : ℕ) (d : NonzeroWord) (old new whole : List ℕ) → i < length ws →
     new ≡ old ++ word_lines (slice_index_or ws i d).place (slice_index_or ws i d).value → old ++ nonzero_lines (drop i ws) ≡ whole →
     new ++ nonzero_lines (drop (i + 1) ws) ≡ whole
@@ -56,7 +57,7 @@ none_left [] (suc i) l = refl
 none_left (w ∷ ws) zero l = absurd (omega (arith, l))
 none_left (w ∷ ws) (suc i) l = none_left ws i (omega (arith, l))
 
--- After the last word the text is the whole.
+-- After the last word, the text is the whole.
 pub no_lines : (ws : List NonzeroWord) (i : ℕ) (text whole : List ℕ) → length ws ≤ i → text ++ nonzero_lines (drop i ws) ≡ whole → text ≡ whole
 no_lines ws i text whole l h =
     sym (append-nil text) ∙ (ap (λ xs. text ++ nonzero_lines xs) (sym (none_left ws i l)) ∙ h)

@@ -31,42 +31,42 @@ use Rattle.explore_command.specs.Witnesses.{IsWitness, target}
 use Rattle.explore_command.specs.Explorations.{AreResultsOf, Exploration, PrintsSomeResults, Problem, SearchResult}
 use Rattle.explore_command.specs.Explorations.{problem_of}
 
--- the exit status that says why
+-- the exit status for a refusal
 abbrev pub status_of : Refused → ℕ
 status_of (refused.Fault f) = status_of_fault f
 status_of refused.Unknown = 2
 status_of refused.Missed = 4
 
--- the line that reports that no result has the number; or for 0, that an end can be reached from each state
+-- the line that reports that no result has the number, or, for 0, that an end can be reached from each state
 abbrev pub unknown_line : (number : ℕ) → List ℕ
 unknown_line number = if number == 0 then codes "error: an end can be reached from each state\n"
     else codes "error: there is no result " ++ decimal number ++ line_feed
 
--- Standard error has got the line that reports why; or, if a write failed, a beginning of it.
+-- Standard error got the line that reports the refusal, or, if a write failed, a beginning of it.
 abbrev pub IsReportedAs : (number : ℕ) → (old new : Option (List ℕ)) → Refused → Type 0
 IsReportedAs number old new (refused.Fault f) = IsReported old new f
 IsReportedAs number old new refused.Unknown = AppendsOrPart old new (unknown_line number)
 IsReportedAs number old new refused.Missed =
     AppendsOrPart old new (codes "error: the steps that were taken lead elsewhere\n")
 
--- Why a machine's results are not there: there are as many states as the limit, or more; or a processor went on for
--- too long alone. Of the last no more is said, nor of a lack of memory.
+-- Why a search gives up: there are as many states as the limit, or more; or a processor ran alone for too long. Nothing
+-- more is said about the latter, or about a lack of memory.
 abbrev pub IsNotSearched : FlatState → (limit : ℕ) → Fault → Type 0
 IsNotSearched m limit fault.States = HasManyStates m limit
 IsNotSearched m limit fault.Alone = Unit {0}
 IsNotSearched m limit fault.Memory = Unit {0}
 IsNotSearched m limit other = ⊥
 
--- The machine that opens on the image is there.
+-- A machine of this size opens on the image.
 abbrev pub Opens : Problem → Type 0
 Opens p = (opening : MachineLists) × IsOpening p.config p.image opening
 
--- It has as many states as the limit, or more.
+-- A machine of this size opens on the image, and has as many states as the limit, or more.
 abbrev pub HasTooMany : Problem → Type 0
 HasTooMany p = (opening : MachineLists) × IsOpening p.config p.image opening
     × HasManyStates (flat_state opening) p.asked.limit
 
--- Its results and what is said of its schedules are there, and nothing that the wanted number names.
+-- The machine's results and whether its schedules end are known, and the wanted number names nothing.
 pub record HasNoWitness (p : Problem) : Type 0 where
   pub opening : MachineLists
   pub opens : IsOpening p.config p.image opening
@@ -77,15 +77,15 @@ pub record HasNoWitness (p : Problem) : Type 0 where
   pub fact : IsTerminationOf (flat_state opening) termination
   pub none : HasWitness results termination p.asked.witness → ⊥
 
--- A part of the trace of a witness is written, and not all of it.
+-- A beginning of the trace of a witness is written, and not all of it.
 pub record IsPartWitnessed {T : Type 0} (p : Problem) (results : List FinalResult) (trace : TraceOutput T) : Type 0
   where
     pub steps : List Step
     pub witness : IsWitness p.config p.image (target results p.asked.witness) steps
     pub part : HasPartSaved trace (trace_bytes (trace_of p.config steps))
 
--- Why the trace of a witness is not written: there is none for the number, or the trace cannot be written; else the way
--- is too long or leads elsewhere, or there is no memory.
+-- Why the trace of a witness is not written: there is none for the number; the trace cannot be written; the size is out
+-- of limits; the way is too long or leads elsewhere; or there is no memory.
 abbrev pub IsNotSaved : {T : Type 0} → Problem → SearchResult → TraceOutput T → Refused → Type 0
 IsNotSaved p found trace refused.Unknown = (trace.new ≡ trace.old)
     × (HasWitness found.results found.termination p.asked.witness → ⊥)
@@ -96,7 +96,7 @@ IsNotSaved p found trace (refused.Fault fault.Full) = trace.new ≡ trace.old
 IsNotSaved p found trace (refused.Fault fault.Memory) = trace.new ≡ trace.old
 IsNotSaved p found trace (refused.Fault other) = ⊥
 
--- Its results are there, and only a part of the trace of a witness for one of them is written.
+-- The machine's results are known, and only a beginning of the trace of a witness for the wanted one is written.
 pub record IsPartOfFound {T : Type 0} (p : Problem) (trace : TraceOutput T) : Type 0 where
   pub opening : MachineLists
   pub opens : IsOpening p.config p.image opening
@@ -105,8 +105,9 @@ pub record IsPartOfFound {T : Type 0} (p : Problem) (trace : TraceOutput T) : Ty
   pub all : AreResultsOf opening classes results
   pub part : IsPartWitnessed p results trace
 
--- Why the results of an image are not there, or not their witness: the machine cannot be explored for its size; or
--- there is the machine, and not its results, or nothing that the number names, or the trace cannot be written.
+-- Why the results of an image or their witness are not found: the size is out of limits; or the machine opens, but the
+-- search gives up, the number names nothing, there is no witness, or the trace cannot be written; or there is no
+-- memory.
 abbrev pub IsNotFound : {T : Type 0} → Problem → TraceOutput T → Refused → Type 0
 IsNotFound p trace refused.Unknown = (trace.new ≡ trace.old) × HasNoWitness p
 IsNotFound p trace refused.Missed = (trace.new ≡ trace.old) × Opens p
@@ -118,7 +119,7 @@ IsNotFound p trace (refused.Fault (fault.Trace e)) = (e ≡ of_trace.Link) × Is
 IsNotFound p trace (refused.Fault fault.Memory) = trace.new ≡ trace.old
 IsNotFound p trace (refused.Fault other) = ⊥
 
--- Why no results are printed, or not all of them: the image is refused, its results or their witness are not there, or
+-- Why no results are printed, or not all of them: the image is refused, its results or their witness are not found, or
 -- the lines cannot be written.
 abbrev pub IsRefused : {T : Type 0} → Exploration → TraceOutput T → Output → Refused → Type 0
 IsRefused e trace out (refused.Fault (fault.Image r)) =
@@ -128,7 +129,7 @@ IsRefused e trace out (refused.Fault fault.Memory) = trace.new ≡ trace.old
 IsRefused e trace out other = (image : ImageContents) × IsImageOf e.config.shared_words e.file.bytes image
     × IsNotFound (problem_of e.config image e.asked) trace other
 
--- Why the command fails: the refusal has its cause, and is that of a link exactly if the link has failed.
+-- Why the command fails: the refusal has a cause, and it is that of a link exactly if the link has failed.
 pub record ExploreFails {T : Type 0} (e : Exploration) (trace : TraceOutput T) (out : Output)
     (r : Refused) : Type 0 where
   pub cause : IsRefused e trace out r

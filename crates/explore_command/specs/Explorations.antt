@@ -1,4 +1,4 @@
--- What the command prints: from the bytes of a file to all final results of the program that it means.
+-- What the command prints: from the bytes of a file to all final results of the program in it.
 use Rattle.std.specs.Prelude.{◌≡◌, ℕ, ◌<◌, ◌^◌, true, List, MatchOption, None, All, length}
 use Rattle.flat_machine.specs.declared.config.Config.{Config}
 use Rattle.elf_image.specs.Files.{IsImageOf}
@@ -23,9 +23,9 @@ use Rattle.explore_command.specs.Lines.{results_lines}
 
 -- ---- what is found
 
--- These results stand for the final results of the machine, each of which some steps without writes from outside leave,
--- after which no processor runs, and for no others; and each is listed once. A result stands for all that come of it if
--- processors of one class are exchanged.
+-- These results stand for the final results of the machine and for no others, and each is listed once. A final result
+-- is what the machine leaves after steps without pokes after which no processor runs. A result stands for all results
+-- that exchanges of processors of one class make of it.
 pub record AreResultsOf (m : MachineLists) (classes : List ℕ) (results : List FinalResult) : Type 0 where
   pub stand : AreResultsUpTo m classes results
   pub all : length classes ≡ 2 ^ m.config.k
@@ -34,7 +34,7 @@ pub record AreResultsOf (m : MachineLists) (classes : List ℕ) (results : List 
 abbrev pub IsNotFaulted : ProcessorResult → Type 0
 IsNotFaulted p = IsFaulted p.status → ⊥
 
--- No processor was stopped by a fault.
+-- No fault has stopped a processor of the result.
 abbrev pub IsFaultless : FinalResult → Type 0
 IsFaultless r = All IsNotFaulted r.processors
 
@@ -44,13 +44,14 @@ IsNotStuck fact.Always = Unit {0}
 IsNotStuck fact.Possible = Unit {0}
 IsNotStuck (fact.Deadlock states first) = ⊥
 
--- the exit status: 1 where in a result a fault has stopped a processor, or from a state no end can be reached
+-- This is the exit status: 1 if a fault has stopped a processor in a result, or if there is a state from which no end
+-- can be reached; else 0.
 pub record IsExitOf (results : List FinalResult) (termination : Termination) (status : ℕ) : Type 0 where
   pub fine : All IsFaultless results → IsNotStuck termination → status ≡ 0
   pub faulted : (All IsFaultless results → ⊥) → status ≡ 1
   pub stuck : (IsNotStuck termination → ⊥) → status ≡ 1
 
--- What is explored: the machine of this size that opens on the image; and what is asked of the search.
+-- What is explored: the machine of this size that opens on the image, and what the search is asked for.
 pub record Problem : Type 0 where
   pub config : Config
   pub image : ImageContents
@@ -59,7 +60,7 @@ pub record Problem : Type 0 where
 abbrev pub problem_of : Config → ImageContents → Asked → Problem
 problem_of c image asked = record { config = c; image = image; asked = asked }
 
--- What a command explores: machines of this size that open on the image which a file means.
+-- What a command explores: machines of this size that open on the image in a file.
 pub record Exploration : Type 0 where
   pub config : Config
   pub asked : Asked
@@ -68,7 +69,7 @@ pub record Exploration : Type 0 where
 abbrev pub exploration_of : Config → Asked → Input → Exploration
 exploration_of c asked file = record { config = c; asked = asked; file = file }
 
--- What a search finds: results and classes of processors, how schedules end, and how many states there are.
+-- What a search finds: classes of processors, results, whether schedules end, and the number of states.
 pub record SearchResult : Type 0 where
   pub classes : List ℕ
   pub results : List FinalResult
@@ -80,28 +81,29 @@ search_result classes results termination states =
     record { classes = classes; results = results; termination = termination; states = states }
 
 -- These are the final results of the machine that opens on the image, up to exchanges of processors of one class, and
--- so its schedules end. If each result is asked for, each processor is of a class of its own.
+-- this says whether its schedules end. If each result is asked for, each processor is in its own class.
 pub record IsFound (p : Problem) (found : SearchResult) : Type 0 where
   pub opening : MachineLists
   pub opens : IsOpening p.config p.image opening
   pub all : AreResultsOf opening found.classes found.results
   pub single : p.asked.each ≡ true → AreSingle (2 ^ p.config.k) found.classes
   pub fact : IsTerminationOf (flat_state opening) found.termination
-  -- there are this many states, and fewer than the limit
+  -- There are this many states, and fewer than the limit.
   pub counted : AreAllStates (flat_state opening) found.classes found.results found.termination found.states
   pub few : found.states < p.asked.limit
 
 -- ---- what is printed
 
--- Where a trace is asked for, that of steps is written that lead to the result of the wanted number, or for 0 to where
--- no result can be reached.
+-- If a trace is asked for, it is written, and its steps lead to the result of the wanted number, or, for 0, to a
+-- machine from which no result can be reached.
 abbrev pub IsWitnessed : {T : Type 0} → Problem → List FinalResult → TraceOutput T → Type 0
 IsWitnessed p results trace =
     MatchOption trace.old (trace.new ≡ None)
     (λ old. (steps : List Step) × IsWitness p.config p.image (target results p.asked.witness) steps
     × HasSaved trace (trace_bytes (trace_of p.config steps)))
 
--- These are its lines, and this is the exit status. The trace of a witness is written, if one is asked for.
+-- These are the lines of what is found, and this is the exit status. The trace of a witness is written, if one is asked
+-- for.
 pub record AreExplored {T : Type 0} (p : Problem) (trace : TraceOutput T) (text : List ℕ) (status : ℕ) : Type 0 where
   pub found : SearchResult
   pub is : IsFound p found
@@ -109,14 +111,14 @@ pub record AreExplored {T : Type 0} (p : Problem) (trace : TraceOutput T) (text 
   pub exit : IsExitOf found.results found.termination status
   pub witnessed : IsWitnessed p found.results trace
 
--- These are the lines of the final results of the image that the file means, and this is the exit status. The trace of
--- a witness is written, where one is asked for.
+-- These are the lines of the final results of the image in the file, and this is the exit status. The trace of a
+-- witness is written, if one is asked for.
 pub record PrintsResults {T : Type 0} (e : Exploration) (trace : TraceOutput T) (status : ℕ)
     (text : List ℕ) : Type 0 where
   pub image : ImageContents
   pub meant : IsImageOf e.config.shared_words e.file.bytes image
   pub explored : AreExplored (problem_of e.config image e.asked) trace text status
 
--- the lines, with whatever exit status
+-- These are the lines, with some exit status.
 abbrev pub PrintsSomeResults : {T : Type 0} → Exploration → TraceOutput T → (text : List ℕ) → Type 0
 PrintsSomeResults e trace text = (status : ℕ) × PrintsResults e trace status text

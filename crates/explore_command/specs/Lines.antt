@@ -17,7 +17,7 @@ processor_line number p =
     codes "processor " ++ decimal number ++ codes " pc " ++ hex_of_word p.pc ++ codes " " ++ status_text p.status
     ++ codes " console " ++ console_text p.console ++ line_feed
 
--- what no line is read of
+-- a default, never printed
 abbrev pub no_processor : ProcessorResult
 no_processor = record { pc = 0; status = Running; console = [] }
 
@@ -27,7 +27,7 @@ processor_lines processors zero = []
 processor_lines processors (suc p) = processor_lines processors p
     ++ processor_line p (slice_index_or processors p no_processor)
 
--- the lines of the first shared words: a word that is zero has none
+-- the lines of the first shared words; a word that is zero has none
 abbrev pub shared_lines : List ℕ → (count : ℕ) → List ℕ
 shared_lines words zero = []
 shared_lines words (suc i) = shared_lines words i ++ word_lines i (slice_index words i)
@@ -53,7 +53,7 @@ first_lines results (suc place) = first_lines results place
 abbrev pub counted : ℕ → (noun : List ℕ) → List ℕ
 counted count noun = decimal count ++ codes " " ++ noun ++ (if count == 1 then [] else codes "s")
 
--- what is said of the schedules
+-- the text that says whether schedules end
 abbrev pub schedules_text : Termination → List ℕ
 schedules_text fact.Always = codes "every schedule ends"
 schedules_text fact.Possible = codes "some schedule never ends; an end can always be reached"
@@ -62,11 +62,11 @@ schedules_text (fact.Deadlock states first) = codes "from " ++ counted states (c
 
 -- ---- processors that can be exchanged
 
--- the class of a processor; past the last there is none
+-- the class of a processor; past the last processor, a class that none has
 abbrev pub class_at : (classes : List ℕ) → (processor : ℕ) → ℕ
 class_at classes p = slice_index_or classes p 64
 
--- a comma, but before the first of the class, which gives the class its name
+-- a comma, except before the first processor of the class, whose number names the class
 abbrev pub separator : (class processor : ℕ) → List ℕ
 separator class p = if p == class then [] else codes ", "
 
@@ -74,13 +74,13 @@ module _ (classes : List ℕ) (class : ℕ) where
   abbrev pub is_of : (processor : ℕ) → Bool
   is_of p = class_at classes p == class
 
-  -- the same of the processor before
+  -- the same, for the processor before this one
   abbrev pub is_of_before : (processor : ℕ) → Bool
   is_of_before zero = false
   is_of_before (suc p) = is_of p
 
-  -- what is said of a processor: the first of some that follow one another, and ` to ` and the last of them, if there
-  -- are more
+  -- the text of a processor of the class: its number if it begins a range of consecutive processors of the class, ` to
+  -- ` and its number if it ends a range of more than one
   abbrev pub member_text : (processor : ℕ) → List ℕ
   member_text p =
       if is_of p
@@ -89,7 +89,7 @@ module _ (classes : List ℕ) (class : ℕ) where
       else separator class p ++ decimal p)
       else []
 
-  -- the same of the first processors
+  -- the text of the first processors
   abbrev pub members_text : (count : ℕ) → List ℕ
   members_text zero = []
   members_text (suc p) = members_text p ++ member_text p
@@ -104,7 +104,7 @@ abbrev pub class_text : (classes : List ℕ) → (class : ℕ) → List ℕ
 class_text classes class =
     codes "processors " ++ members_text classes class (length classes) ++ codes " can be exchanged\n"
 
--- the same, if the class has two processors or more
+-- the same, if the class has two or more processors
 abbrev pub class_line : (classes : List ℕ) → (class : ℕ) → List ℕ
 class_line classes class =
     if nat_lt 1 (members_of classes class (length classes)) then class_text classes class else []
@@ -116,8 +116,8 @@ class_lines classes (suc class) = class_lines classes class ++ class_line classe
 
 -- ---- what is printed
 
--- the lines of all results, after them those of the processors that can be exchanged, `N results, M states`, and last
--- what is said of the schedules
+-- the lines of all results, those of the processors that can be exchanged, `N results, M states`, and whether schedules
+-- end
 abbrev pub results_lines : List FinalResult → (classes : List ℕ) → (states : ℕ) → Termination → List ℕ
 results_lines results classes states termination =
     first_lines results (length results) ++ class_lines classes (length classes)

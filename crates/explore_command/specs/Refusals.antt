@@ -20,7 +20,7 @@ refused_by_log log.Full = refused.Fault fault.Full
 refused_by_log log.Unnamed = refused.Missed
 refused_by_log log.NotFree = refused.Missed
 
--- the fault that says why a search is given up
+-- the fault that reports why a search gave up
 abbrev pub fault_of_search : Refusal → Fault
 fault_of_search search.Memory = fault.Memory
 fault_of_search search.States = fault.States
@@ -32,12 +32,13 @@ Deadlock fact.Always = ⊥
 Deadlock fact.Possible = ⊥
 Deadlock (fact.Deadlock states first) = Unit {0}
 
--- Some result has the number, from 1; and for 0 there is such a state.
+-- Some result has the number, counted from 1, or, for 0, there is such a state.
 abbrev pub HasWitness : List FinalResult → Termination → (number : ℕ) → Type 0
 HasWitness results termination zero = Deadlock termination
 HasWitness results termination (suc place) = place < length results
 
--- Why steps are not taken. Of a lack of memory, and of steps that are too many or lead elsewhere, no more is said.
+-- Why steps are not taken: the log is full, there is no memory, or the steps lead elsewhere. No more is said about
+-- these.
 abbrev pub IsOfSteps : Refused → Type 0
 IsOfSteps (refused.Fault fault.Full) = Unit {0}
 IsOfSteps (refused.Fault fault.Memory) = Unit {0}
@@ -45,12 +46,13 @@ IsOfSteps (refused.Fault other) = ⊥
 IsOfSteps refused.Unknown = ⊥
 IsOfSteps refused.Missed = Unit {0}
 
--- Why the steps of a way are not there: the machine's size is out of its limits, or they are not taken.
+-- Why a machine of this size does not take the steps of a way: the size is out of limits, or the steps are not taken.
 abbrev pub IsNotTaken : Config → Refused → Type 0
 IsNotTaken c (refused.Fault fault.Size) = IsWithinLimits c → ⊥
 IsNotTaken c other = IsOfSteps other
 
--- Why there is no witness.
+-- Why there is no witness for the number: nothing has the number, or the steps of the way are not taken or lead
+-- elsewhere.
 abbrev pub IsNoWitness : Config → List FinalResult → Termination → (number : ℕ) → Refused → Type 0
 IsNoWitness c results termination number refused.Unknown = HasWitness results termination number → ⊥
 IsNoWitness c results termination number refused.Missed = Unit {0}

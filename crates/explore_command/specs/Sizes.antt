@@ -1,4 +1,4 @@
--- What is said of every size of a machine.
+-- What is printed for every size of a machine.
 use Rattle.std.specs.Prelude.{if◌then◌else◌, nat_lt, ◌≡◌, ◌⊎◌, ℕ, ◌+◌, ◌≤◌, ◌^◌, max}
 use Rattle.std.specs.Prelude.{List, [], ◌∷◌, ◌++◌, Option, Some, None, Contains, codes, length}
 use Rattle.std.specs.Prelude.{option_to_list, slice_get}
@@ -28,22 +28,22 @@ use Rattle.explore_command.specs.Lines.{counted, schedules_text}
 
 -- ---- the greatest status
 
--- Halts come in the order of their bytes, and after them faults in the order of their numbers.
+-- the rank of a status: halts are ordered by their bytes, and faults come after them, ordered by their numbers
 abbrev pub rank_of_status : Status → ℕ
 rank_of_status Running = 0
 rank_of_status (Halted byte) = byte + 1
 rank_of_status (Faulted f) = number_of_fault f + 257
 
--- the greater of two, if there are two
+-- the greater of two statuses, or the second if there is no first
 abbrev pub greater : Option Status → Status → Status
 greater None s = s
 greater (Some o) s = if nat_lt (rank_of_status s) (rank_of_status o) then o else s
 
--- A processor of the results has the status, or it is this one;
+-- One of the processors has this status, or it is the start.
 abbrev pub HasStatusWith : Option Status → List ProcessorResult → Status → Type 0
 HasStatusWith start processors s = (start ≡ Some s) ⊎ ((p : ProcessorResult) × Contains processors p × (p.status ≡ s))
 
--- and none has a greater one.
+-- The greatest of the start, if there is one, and the statuses of the processors is this; or there is none.
 abbrev pub IsGreatestWith : Option Status → List ProcessorResult → Option Status → Type 0
 IsGreatestWith start processors None = (s : Status) → HasStatusWith start processors s → ⊥
 IsGreatestWith start processors (Some greatest) =
@@ -55,7 +55,7 @@ abbrev pub HasStatus : List FinalResult → Status → Type 0
 HasStatus results s =
     (r : FinalResult) × (p : ProcessorResult) × Contains results r × Contains r.processors p × (p.status ≡ s)
 
--- It is one of them, and none has a greater one; or there is none.
+-- This is the greatest status of a processor in the results; or there is none.
 abbrev pub IsGreatestStatus : List FinalResult → Option Status → Type 0
 IsGreatestStatus results None = (s : Status) → HasStatus results s → ⊥
 IsGreatestStatus results (Some greatest) =
@@ -78,7 +78,7 @@ size_line k results states termination greatest =
     size_text k ++ counted results (codes "result") ++ codes ", " ++ counted states (codes "state") ++ codes ", "
     ++ schedules_text termination ++ codes ", " ++ greatest_text greatest ++ line_feed
 
--- what says why a size is not explored
+-- the word for why a size is not explored
 abbrev pub refusal_text : Fault → List ℕ
 refusal_text fault.Size = codes "K1"
 refusal_text fault.States = codes "states"
@@ -91,8 +91,8 @@ refused_line k f = size_text k ++ codes "not explored: " ++ refusal_text f ++ li
 
 -- ---- a size
 
--- Why a size is not explored: it is out of the limits; or there are too many states, or a processor goes on for too
--- long alone. Of the last no more is said, nor of a lack of memory.
+-- Why a size is not explored: it is out of limits; there are too many states; or a processor runs alone for too long,
+-- of which only the machine's opening is known. Nothing is said about a lack of memory.
 abbrev pub IsSizeRefused : Problem → Fault → Type 0
 IsSizeRefused p fault.Size = IsWithinLimits p.config → ⊥
 IsSizeRefused p fault.States = HasTooMany p
@@ -100,13 +100,13 @@ IsSizeRefused p fault.Alone = Opens p
 IsSizeRefused p fault.Memory = Unit {0}
 IsSizeRefused p other = ⊥
 
--- What is reported of a size: its line, its exit status, and the fault for which it is not explored, if there is one.
+-- What is reported of a size: its line, its exit status, and the fault that prevents its exploration, if there is one.
 pub record SizeReport : Type 0 where
   pub line : List ℕ
   pub status : ℕ
   pub fault : Option Fault
 
--- The line says what is found of the size, and this is the exit status;
+-- The size is explored: the line says what is found, and this is the exit status.
 pub record IsSizeExplored (p : Problem) (r : SizeReport) : Type 0 where
   pub found : SearchResult
   pub is : IsFound p found
@@ -116,8 +116,8 @@ pub record IsSizeExplored (p : Problem) (r : SizeReport) : Type 0 where
   pub exit : IsExitOf found.results found.termination r.status
   pub faultless : r.fault ≡ None
 
--- or why it is not explored, and the status is that of the fault. A size that is out of its limits is always reported
--- as such.
+-- The size is not explored: the line says why, and the exit status is that of the fault. A size out of limits is always
+-- reported as such.
 pub record IsSizeNotExplored (p : Problem) (r : SizeReport) : Type 0 where
   pub why : Fault
   pub cause : IsSizeRefused p why
@@ -135,64 +135,64 @@ IsSizeReport p r = IsSizeExplored p r ⊎ IsSizeNotExplored p r
 abbrev pub sizes : ℕ
 sizes = 7
 
--- the lines of sizes
+-- the lines of these reports
 abbrev pub lines_of : List SizeReport → List ℕ
 lines_of rs = flat_map (λ (r : SizeReport). r.line) rs
 
--- the faults of those that are not explored
+-- the faults of the sizes that are not explored
 abbrev pub faults_of : List SizeReport → List Fault
 faults_of rs = flat_map (λ (r : SizeReport). option_to_list r.fault) rs
 
--- the greatest of their exit statuses
+-- the greatest exit status of these reports
 abbrev pub greatest_exit : List SizeReport → ℕ
 greatest_exit [] = 0
 greatest_exit (r ∷ rs) = max r.status (greatest_exit rs)
 
--- the same on a machine with this many stages of switches
+-- the same problem on a machine with this many stages of switches
 abbrev pub with_stages : Problem → (k : ℕ) → Problem
 with_stages p k = record p { config = record p.config { k = k } }
 
--- These are the reports of the first sizes of the machine, whatever its k.
+-- These are the reports of the first sizes, from k = 0 on, whatever the k of the problem.
 abbrev pub AreSizeReports : Problem → List SizeReport → Type 0
 AreSizeReports p rs = (k : ℕ) (r : SizeReport) → slice_get rs k ≡ Some r → IsSizeReport (with_stages p k) r
 
 -- ---- what is printed and reported
 
--- Standard error has got the lines that report these faults, one after another, and nothing else; of each there is a
--- beginning, if a write failed.
+-- Standard error got the lines that report these faults, one after another, and nothing else. Of each line there may be
+-- only a beginning, if a write failed.
 abbrev pub AreReported : {E : Type 0} → List Fault → ErrorOutput E → Type 0
 AreReported [] err = err.new ≡ err.old
 AreReported {E} (f ∷ fs) err = (middle : E) × IsReported (err.contents err.old) (err.contents middle) f
     × AreReported fs (errors_to err.contents middle err.new)
 
--- What a size comes to is this line and this exit status; and the fault is reported, if it is not explored.
+-- These are the line and the exit status of the size, and its fault is reported if it is not explored.
 pub record IsSizeLine {E : Type 0} (p : Problem) (err : ErrorOutput E) (line : List ℕ) (status : ℕ) : Type 0 where
   pub fault : Option Fault
   pub is : IsSizeReport p (record { line = line; status = status; fault = fault })
   pub reported : AreReported (option_to_list fault) err
 
--- The line is printed.
+-- The line of the size is printed, and this is its exit status.
 pub record PrintsSize {E : Type 0} (p : Problem) (out : Output) (err : ErrorOutput E) (status : ℕ) : Type 0 where
   pub line : List ℕ
   pub is : IsSizeLine p err line status
   pub printed : Appends out.old out.new line
 
--- A beginning of the line is printed, and not all of it.
+-- A beginning of the size's line is printed, and not all of it.
 pub record BeginsSize {E : Type 0} (p : Problem) (out : Output) (err : ErrorOutput E) : Type 0 where
   pub line : List ℕ
   pub status : ℕ
   pub is : IsSizeLine p err line status
   pub part : AppendsPart out.old out.new line
 
--- Why the line of a size is not printed: it cannot be written, and there is a beginning of it; or there is no memory
--- for it, and nothing is printed or reported.
+-- Why the line of a size is not printed: it cannot be written, and only a beginning of it is; or there is no memory for
+-- it, and nothing is printed or reported.
 abbrev pub FailsSize : {E : Type 0} → (p : Problem) → (out : Output) → (err : ErrorOutput E) → Fault → Type 0
 FailsSize p out err fault.Link = BeginsSize p out err
 FailsSize p out err fault.Memory = (out.new ≡ out.old) × (err.new ≡ err.old)
 FailsSize p out err other = ⊥
 
--- These are the reports of the first sizes; this is said of their lines, and the faults of those that are not explored
--- are reported.
+-- These are the reports of the first sizes. Their lines have this property, and the faults of the sizes that are not
+-- explored are reported.
 pub record AreSizesReported {E : Type 0} (p : Problem) (rs : List SizeReport) (is_said : List ℕ → Type 0)
     (err : ErrorOutput E) : Type 0 where
   pub are : AreSizeReports p rs
@@ -207,7 +207,7 @@ pub record PrintsFirst {E : Type 0} (p : Problem) (count : ℕ) (out : Output) (
   pub exit : status ≡ greatest_exit reports
   pub are : AreSizesReported p reports (Appends out.old out.new) err
 
--- The lines of the first sizes are not all printed: only a beginning of them.
+-- Only a beginning of the lines of the first sizes is printed.
 pub record BeginsSizes {E : Type 0} (p : Problem) (out : Output) (err : ErrorOutput E) : Type 0 where
   pub reports : List SizeReport
   pub few : length reports ≤ sizes
@@ -219,8 +219,8 @@ pub record StopsAtSizes {E : Type 0} (p : Problem) (out : Output) (err : ErrorOu
   pub few : length reports ≤ sizes
   pub are : AreSizesReported p reports (Appends out.old out.new) err
 
--- Why the lines of every size are not printed: one of them cannot be written, and there is a beginning of it and all
--- before; or there is no memory for one, and all before are there.
+-- Why the lines are not all printed: one cannot be written, and a beginning of the lines up to it is printed; or there
+-- is no memory for one, and those before it are printed.
 abbrev pub FailsSizes : {E : Type 0} → (p : Problem) → (out : Output) → (err : ErrorOutput E) → Fault → Type 0
 FailsSizes p out err fault.Link = BeginsSizes p out err
 FailsSizes p out err fault.Memory = StopsAtSizes p out err
@@ -228,14 +228,14 @@ FailsSizes p out err other = ⊥
 
 -- ---- of the image that a file means
 
--- The lines of every size are printed, of the image that the file means.
+-- The lines of every size are printed for the image in the file.
 pub record PrintsEverySize {E : Type 0} (e : Exploration) (out : Output) (err : ErrorOutput E)
     (status : ℕ) : Type 0 where
   pub image : ImageContents
   pub meant : IsImageOf e.config.shared_words e.file.bytes image
   pub printed : PrintsFirst (problem_of e.config image e.asked) sizes out err status
 
--- The lines of the image that the file means are not all printed.
+-- The lines for the image in the file are not all printed.
 pub record FailsImage {E : Type 0} (e : Exploration) (out : Output) (err : ErrorOutput E) (f : Fault) : Type 0 where
   pub image : ImageContents
   pub meant : IsImageOf e.config.shared_words e.file.bytes image
@@ -245,15 +245,15 @@ pub record FailsImage {E : Type 0} (e : Exploration) (out : Output) (err : Error
 abbrev pub IsSilent : {E : Type 0} → (out : Output) → (err : ErrorOutput E) → Type 0
 IsSilent out err = (out.new ≡ out.old) × (err.new ≡ err.old)
 
--- Why the lines of every size are not printed: the image is refused, or there is no memory for it; or its lines are not
--- all printed.
+-- Why the command fails, before the fault is reported: the image is refused, or there is no memory for it, and nothing
+-- is printed; or its lines are not all printed.
 abbrev pub FailsBefore : {E : Type 0} → (e : Exploration) → (out : Output) → (err : ErrorOutput E) → Fault → Type 0
 FailsBefore e out err (fault.Image r) = IsSilent out err × IsImageRefusal e.config.shared_words e.file.bytes r
 FailsBefore e out err fault.Memory = IsSilent out err ⊎ FailsImage e out err fault.Memory
 FailsBefore e out err other = FailsImage e out err other
 
--- The exit status says a fault, which has its cause. It is reported after those of the sizes. It is that of the output
--- or of the file exactly if a write or a read has failed.
+-- The command fails with a fault that has a cause and is reported after the faults of the sizes; the exit status is
+-- that of the fault. It is the fault of the output or of the file exactly if a write or a read has failed.
 pub record FailsEverySize {E : Type 0} (e : Exploration) (out : Output) (err : ErrorOutput E)
     (status : ℕ) : Type 0 where
   pub why : Fault
@@ -264,7 +264,8 @@ pub record FailsEverySize {E : Type 0} (e : Exploration) (out : Output) (err : E
   pub unwritten : IsOfLink fault.Link out.has_failed why
   pub unread : IsOfLink (fault.Image of_image.Link) e.file.has_failed why
 
--- The exit status is the greatest of those of all sizes, whose lines are printed; or it says a fault.
+-- The lines of all sizes are printed, and the exit status is the greatest of theirs; or the command fails, and the exit
+-- status is that of the fault.
 abbrev pub ReportsEverySize : {E : Type 0} → (e : Exploration) → (out : Output) → (err : ErrorOutput E) →
     (status : ℕ) → Type 0
 ReportsEverySize e out err status = PrintsEverySize e out err status ⊎ FailsEverySize e out err status

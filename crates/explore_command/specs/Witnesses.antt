@@ -1,4 +1,4 @@
--- What steps lead to: a final result, or a machine from which none can be reached.
+-- What steps lead to: a final result, or a machine from which no result can be reached.
 use Rattle.std.specs.Prelude.{◌≡◌, ℕ, zero, suc, ◌^◌, List, IsSomeAnd, map, slice_get, slice_index_or}
 use Rattle.std.specs.List.{range_with_len}
 use Rattle.flat_machine.specs.declared.config.Config.{Config}
@@ -16,8 +16,8 @@ use Rattle.exploration.specs.Results.{AreOfTheMachine, IsMachineResult, NoneRuns
 
 -- ---- what steps lead to
 
--- The steps lead to the result: each of them does something, none is a write from outside, after them no processor
--- runs, and this is left.
+-- The steps lead to the result: each of them does something, none is a poke, no processor runs after them, and the
+-- machine leaves the result.
 pub record LeadToResult (opening : MachineLists) (steps : List Step) (r : FinalResult) : Type 0 where
   pub machine : MachineLists
   pub replay : IsReplay opening steps machine
@@ -30,19 +30,20 @@ pub record IsStuck (m : MachineLists) : Type 0 where
   pub idle : IsIdle m
   pub never : (r : FinalResult) → IsMachineResult m r → ⊥
 
--- The steps lead to such a machine.
+-- The steps lead to such a machine: each of them does something, and none is a poke.
 pub record LeadToNoEnd (opening : MachineLists) (steps : List Step) : Type 0 where
   pub machine : MachineLists
   pub replay : IsReplay opening steps machine
   pub own : AreOfTheMachine steps
   pub stuck : IsStuck machine
 
--- They lead to the result of this number, from 1; and for 0 to where no result can be reached.
+-- The steps lead to the result of this number, counted from 1, or, for 0, to a machine from which none can be reached.
 abbrev pub LeadTo : (opening : MachineLists) → List FinalResult → (number : ℕ) → List Step → Type 0
 LeadTo opening results zero steps = LeadToNoEnd opening steps
 LeadTo opening results (suc place) steps = IsSomeAnd (slice_get results place) (LeadToResult opening steps)
 
--- What a way is wanted to: the result of this number of these, from 1, or for 0 to where no result can be reached.
+-- What a witness should lead to: the result of this number among these, counted from 1, or, for 0, a machine from which
+-- none can be reached.
 pub record Target : Type 0 where
   pub results : List FinalResult
   pub number : ℕ
@@ -50,7 +51,7 @@ pub record Target : Type 0 where
 abbrev pub target : List FinalResult → (number : ℕ) → Target
 target results number = record { results = results; number = number }
 
--- So does the machine of this size that opens on the image; and a trace can have the steps.
+-- The steps lead the machine of this size that opens on the image to the target, and a trace file can spell them.
 pub record IsWitness (c : Config) (image : ImageContents) (to : Target) (steps : List Step) : Type 0 where
   pub opening : MachineLists
   pub opens : IsOpening c image opening
@@ -66,14 +67,14 @@ processor_left m shown p = record {
   console = (slice_index_or shown p nothing_shown).console;
 }
 
--- what a machine leaves whose processors have shown this
+-- what a machine leaves, given what its processors have shown
 abbrev pub left_by : MachineLists → List ShownBy → FinalResult
 left_by m shown = record {
   processors = map (processor_left m shown) (range_with_len 0 (2 ^ m.config.k));
   words = map (word_at m.config.k m.modules) (range_with_len 0 m.config.shared_words);
 }
 
--- No processor runs of a machine whose processors have shown this, and it leaves the result.
+-- No processor of the machine runs, and it leaves the result, given what its processors have shown.
 pub record IsEnd (m : MachineLists) (shown : List ShownBy) (r : FinalResult) : Type 0 where
   pub stopped : HasRunning m → ⊥
   pub left : r ≡ left_by m shown

@@ -1,4 +1,4 @@
-//! Which processors can be exchanged, as lines.
+//! The lines of the processors that can be exchanged.
 
 ghost use Rattle.std.specs.Prelude.{◌≡◌, ◌++◌, ◌<◌, length, OnOk, string_bytes};
 ghost use Rattle.std.specs.Fmt.{decimal};
@@ -8,7 +8,7 @@ ghost use Rattle.explore_command.specs.Lines.{member_text, members_of, members_t
 use std::alloc::AllocError;
 use std::fmt::Write;
 
-/// The class of a processor, and past the last of them one that none has.
+/// The class of a processor. Past the last processor, a class that none has.
 fn class_at(classes: &[u8], processor: usize) -> u8
     ensures { result ≡ class_at classes.now processor }
 {
@@ -18,7 +18,7 @@ fn class_at(classes: &[u8], processor: usize) -> u8
     }
 }
 
-/// Appends a line for each class that has two processors or more.
+/// Appends a line for each class of two or more processors.
 pub(crate) fn push_classes(text: &mut String, classes: &[u8]) -> Result<(), AllocError>
     ensures { OnOk result (string_bytes text.new ≡ string_bytes text.old
         ++ class_lines classes.now (length classes.now)) }
@@ -29,7 +29,7 @@ pub(crate) fn push_classes(text: &mut String, classes: &[u8]) -> Result<(), Allo
     Ok(())
 }
 
-/// Appends the line of a class, if it has two processors or more.
+/// Appends the line of a class, if it has two or more processors.
 fn push_class(text: &mut String, classes: &[u8], class: usize) -> Result<(), AllocError>
     ensures { OnOk result (string_bytes text.new ≡ string_bytes text.old ++ class_line classes.now class) }
 {
@@ -62,14 +62,14 @@ fn members_of(classes: &[u8], class: usize) -> usize
     members
 }
 
-/// Whether a processor is of a class.
+/// Whether a processor belongs to a class.
 fn is_of(classes: &[u8], class: usize, processor: usize) -> bool
     ensures { result ≡ is_of classes.now class processor }
 {
     usize::from(class_at(classes, processor)) == class
 }
 
-/// Whether the processor before one is of a class.
+/// Whether the processor before this one belongs to a class.
 fn is_of_before(classes: &[u8], class: usize, processor: usize) -> bool
     ensures { result ≡ is_of_before classes.now class processor }
 {
@@ -90,7 +90,7 @@ fn push_members(text: &mut String, classes: &[u8], class: usize) -> Result<(), A
     Ok(())
 }
 
-/// Appends a processor, if it is of the class and the first of some that follow one another, or the last of them.
+/// Appends a processor of the class, if it begins or ends a range of consecutive processors of the class.
 fn push_member(
     text: &mut String,
     classes: &[u8],

@@ -1,4 +1,4 @@
-//! The command.
+//! The command `ultra explore`.
 
 ghost use Rattle.std.specs.Prelude.{◌≡◌, ◌≤◌, ◌↔◌, true, false, IfOk, IfErr, IsErrOf, OnErr};
 ghost use Rattle.command_io.specs.Links.{input, output};
@@ -20,27 +20,28 @@ use link::{LinkRead, LinkWrite};
 use std::alloc::Global;
 use std::io::Write;
 
-/// What is asked of a search.
+/// What a search is asked for.
 #[derive(Clone, Copy, Debug, PartialEq, Eq, Drop)]
 pub struct Asked {
-    /// With how many states between references to shared words it is given up.
+    /// The number of states between references to shared words at which the search gives up.
     pub limit: u32,
-    /// Whether each result is to be listed by itself, so that processors that stand alike are not exchanged.
+    /// Whether each result is listed by itself, so that processors that are alike are not exchanged.
     pub each: bool,
-    /// The number of the result that the trace is to lead to, from 1; or 0 for a state from which no end can be
-    /// reached. It is of no account if no trace is asked for.
+    /// The number of the result to which the trace leads, counted from 1, or 0 for a state from which no end can be
+    /// reached. Ignored if no trace is asked for.
     pub witness: u32,
 }
 
-/// Finds every final result that the program can have which the image means that a file is, on a machine of this size,
-/// and prints them, up to exchanges of processors that stand alike: each after some steps of the machine after which no
-/// processor runs; and which processors can be exchanged, and whether schedules end. How many states are found is
-/// reported meanwhile. If a trace is asked for, that of a way to the result of a number is written before.
+/// Reads an image, finds every final result that its program can have on a machine of this size, and prints them, up to
+/// exchanges of processors that are alike. A final result is what is left after steps of the machine after which no
+/// processor runs. Also prints which processors can be exchanged, and whether schedules end. The observer sees the
+/// progress of the search. If a trace is asked for, that of a way to the result with the wanted number is written
+/// first.
 ///
-/// Answers the exit status: 0 if the results are printed, 1 if they are and in one of them a fault has stopped a
-/// processor, or from a state no end can be reached, else that of the fault that is reported on standard error. A
-/// fault is reported in this order: of the image, of the machine's size, of the search, of the witness, of the trace,
-/// of standard output.
+/// Returns the exit status: 0 if the results are printed; 1 if they are printed, and in one of them a fault has stopped
+/// a processor, or there is a state from which no end can be reached; else that of the fault reported on standard
+/// error. Faults are checked in this order: of the image, of the machine's size, of the search, of the witness, of the
+/// trace, of standard output.
 pub fn explore_command<R: LinkRead, T: LinkWrite, G: SearchObserver, W: LinkWrite, E: Write>(
     alloc: Global,
     file: &mut R,
@@ -72,7 +73,7 @@ pub fn explore_command<R: LinkRead, T: LinkWrite, G: SearchObserver, W: LinkWrit
     }
 }
 
-/// Reports why the results are not printed, and answers the exit status.
+/// Reports why the results are not printed, and returns the exit status.
 fn tell_refused<E: Write>(refused: Refused, number: u32, err: &mut E) -> u8
     ensures fault { result ≡ status_of refused }
     ensures high { 2 ≤ result }
@@ -91,7 +92,7 @@ fn tell_refused<E: Write>(refused: Refused, number: u32, err: &mut E) -> u8
     }
 }
 
-/// The line that reports that no result has the number, or for 0 that an end can be reached from each state.
+/// The line that reports that no result has the number, or, for 0, that an end can be reached from each state.
 fn unknown_line(number: u32) -> ArrayString<48>
     ensures { result.bytes ≡ unknown_line number }
 {
@@ -106,7 +107,7 @@ fn unknown_line(number: u32) -> ArrayString<48>
     line
 }
 
-/// Carries the command out.
+/// Executes the command.
 fn execute<R: LinkRead, T: LinkWrite, G: SearchObserver, W: LinkWrite>(
     alloc: Global,
     file: &mut R,

@@ -6,8 +6,8 @@ ghost use Rattle.explore_command.specs.Sizes.{IsGreatestStatus, IsGreatestWith, 
 use exploration::{FinalResult, ProcessorResult};
 use flat_machine::Status;
 
-/// The greatest status of a processor in any of these results, if there is one: halts come in the order of their bytes,
-/// and after them faults in the order of their numbers.
+/// The greatest status of a processor in any of these results, if there is one. Halts are ordered by their bytes, and
+/// faults come after all halts, ordered by their numbers.
 pub(crate) fn greatest_status(results: &[FinalResult]) -> Option<Status>
     ensures { IsGreatestStatus results.now result }
 {
@@ -18,7 +18,7 @@ pub(crate) fn greatest_status(results: &[FinalResult]) -> Option<Status>
     greatest
 }
 
-/// The greatest of a status, if there is one, and those of processors.
+/// The greatest of a status, if there is one, and the statuses of processors.
 fn greatest_in(status: Option<Status>, processors: &[ProcessorResult]) -> Option<Status>
     ensures { IsGreatestWith status processors.now result }
 {
@@ -29,7 +29,7 @@ fn greatest_in(status: Option<Status>, processors: &[ProcessorResult]) -> Option
     greatest
 }
 
-/// The greater of two statuses, if there are two.
+/// The greater of two statuses, or the second if there is no first.
 fn greater(one: Option<Status>, other: Status) -> Status
     ensures { result ≡ greater one other }
 {
@@ -39,7 +39,7 @@ fn greater(one: Option<Status>, other: Status) -> Status
     }
 }
 
-/// The place of a status in their order.
+/// The rank of a status in that order.
 fn rank_of(status: Status) -> u16
     ensures { result ≡ rank_of_status status }
 {

@@ -1,4 +1,4 @@
-//! What a machine leaves in which no processor runs.
+//! What a machine leaves when no processor runs.
 
 ghost use Rattle.std.specs.Prelude.{◌≡◌, ◌<◌, ◌^◌, IfOk, length, map};
 ghost use Rattle.std.specs.List.{range_with_len};
@@ -10,7 +10,7 @@ use exploration::{FinalResult, ProcessorResult, words_of};
 use machine_steps::Machine;
 use std::alloc::{AllocError, Global};
 
-/// What a machine leaves whose processors have shown this.
+/// What a machine leaves. The tally says what its processors have shown.
 pub(crate) fn left_by(
     alloc: Global,
     machine: &Machine,
@@ -25,7 +25,7 @@ pub(crate) fn left_by(
     Ok(FinalResult { processors, words })
 }
 
-/// That of each of its processors.
+/// What each processor of the machine leaves.
 fn processors_left(
     alloc: Global,
     machine: &Machine,
@@ -43,7 +43,7 @@ fn processors_left(
     Ok(processors)
 }
 
-/// Where a processor stands that the machine has, its status, and the bytes that it has printed.
+/// What a processor of the machine leaves: its pc, its status, and the bytes that it wrote to the console.
 fn processor_left(
     alloc: Global,
     machine: &Machine,

@@ -1,11 +1,11 @@
-//! `ultra explore`: from the bytes of an image to every final result that its program can have.
+//! `ultra explore`: from the bytes of an image to every final result of its program.
 //!
-//! The results are those of the crate `exploration`. Here they become lines ([`results_text`]), which are made whole
-//! before the first byte is printed. [`explore_every_size`] prints a line for each size of a machine.
+//! The crate `exploration` finds the results. This crate makes the lines of all of them ([`results_text`]), and then
+//! prints them. [`explore_every_size`] prints a line for each size of a machine.
 //!
-//! Where a trace is asked for, it is that of a witness, and is written before. [`witness_of`] takes the path that the
-//! search has noted, on a machine of its own, and compares what is left with the result before it gives the steps
-//! away. So nothing of the path has to be right for the steps to be a witness.
+//! If a trace is asked for, that of a witness is written before the lines. [`witness_of`] takes the path that the
+//! search has noted on a second machine, and compares what is left with the result before it returns the steps. So the
+//! proof that the steps are a witness needs to know nothing about the path.
 #![tactic(auto)]
 
 mod classes;

@@ -1,4 +1,4 @@
-//! Final results as lines.
+//! The lines of final results.
 
 ghost use Rattle.std.specs.Prelude.{◌≡◌, ◌+◌, ◌++◌, ◌<◌, ◌^◌, codes, length, IfOk, OnOk, string_bytes};
 ghost use Rattle.std.specs.Fmt.{decimal};
@@ -11,8 +11,8 @@ use exploration::{FinalResult, ProcessorResult, Termination};
 use std::alloc::{AllocError, Global};
 use std::fmt::Write;
 
-/// The lines of these results, and after them a line for each class of processors that can be exchanged, one with the
-/// number of the results and that of the states that were found, and one that says whether schedules end.
+/// The lines of these results, then a line for each class of processors that can be exchanged, one with the numbers of
+/// results and states found, and one that says whether schedules end.
 ///
 /// # Errors
 ///
@@ -37,7 +37,7 @@ pub fn results_text(
     Ok(text)
 }
 
-/// Appends what is said of the schedules.
+/// Appends whether schedules end.
 pub(crate) fn push_schedules(text: &mut String, termination: Termination) -> Result<(), AllocError>
     ensures { OnOk result (string_bytes text.new ≡ string_bytes text.old ++ schedules_text termination) }
 {
@@ -54,7 +54,7 @@ pub(crate) fn push_schedules(text: &mut String, termination: Termination) -> Res
     }
 }
 
-/// Appends the line of the numbers.
+/// Appends the line with the numbers of results and states.
 fn push_counts(text: &mut String, results: usize, states: usize) -> Result<(), AllocError>
     ensures { OnOk result (string_bytes text.new
         ≡ string_bytes text.old ++ counted results (codes "result") ++ codes ", " ++ counted states (codes "state")
@@ -66,7 +66,7 @@ fn push_counts(text: &mut String, results: usize, states: usize) -> Result<(), A
     text.push('\n')
 }
 
-/// Appends how many there are of something.
+/// Appends a count and its noun, in the plural unless the count is 1.
 pub(crate) fn push_count(text: &mut String, count: usize, noun: &str) -> Result<(), AllocError>
     ensures { OnOk result (string_bytes text.new ≡ string_bytes text.old ++ counted count noun.now) }
 {

@@ -1,26 +1,26 @@
-//! How far a search is, on a line of a terminal.
+//! Shows the progress of a search on a line of a terminal.
 
 use exploration::SearchObserver;
 use std::time::{Clock, Instant};
 
-/// How many milliseconds a line stands at least, before it is written again.
+/// The minimum number of milliseconds before the line is written again.
 const LEAST: u64 = 1000;
 
-/// One who says on a terminal how many states are found, and how many were in each second of those that have gone by.
-/// There is one line, which is written again at most once a second, and not in the first. It is gone once the search is
-/// over; then another may begin.
+/// Shows on a terminal how many states a search has found, and how many a second on average. It rewrites one line at
+/// most once a second, for the first time after a second, and clears it after the search. Then another search may
+/// begin.
 #[derive(Drop)]
 pub struct SearchProgress<'a, C: Clock, E: Eprint> {
     clock: &'a C,
     terminal: &'a E,
-    /// None where the clock cannot be read: nothing is reported then.
+    /// None if the clock cannot be read; then nothing is shown.
     begun: Option<Instant>,
-    /// How many milliseconds after the beginning the line was written last; 0 where it has not been.
+    /// When the line was last written, in milliseconds since the beginning, or 0 if it has not been written.
     written: u64,
 }
 
 impl<'a, C: Clock, E: Eprint> SearchProgress<'a, C, E> {
-    /// That of a search which begins now.
+    /// The progress of a search that begins now.
     pub fn new(clock: &'a C, terminal: &'a E) -> Self {
         SearchProgress {
             clock,
@@ -30,7 +30,7 @@ impl<'a, C: Clock, E: Eprint> SearchProgress<'a, C, E> {
         }
     }
 
-    /// How many milliseconds have gone by, where the line is to be written.
+    /// The milliseconds since the beginning, if the line is to be written now.
     fn due(&self) -> Option<u64> {
         let since = self.begun?.elapsed(self.clock).ok()?;
         let now = u64::try_from(since.as_millis()).ok()?;

@@ -1,4 +1,4 @@
-//! Why there is no witness.
+//! Why the command fails.
 
 ghost use Rattle.std.specs.Prelude.{◌≡◌};
 ghost use Rattle.command_io.specs.declared.fault.Fault.TheVariants.{Full as NoRoom, Memory as NoMemory};
@@ -9,14 +9,14 @@ use command_io::Fault;
 use machine_log::LockRefusal;
 use std::alloc::AllocError;
 
-/// Why there is no witness, or nothing at all.
+/// Why there is no witness, or why nothing is printed.
 #[derive(Clone, Copy, Debug, PartialEq, Eq, Drop)]
 pub enum Refused {
     /// A fault that has a code.
     Fault(Fault),
-    /// No result has the number; or it is 0, and from each state that was found an end can be reached.
+    /// No result has the number, or the number is 0 and an end can be reached from each state found.
     Unknown,
-    /// The steps that were taken lead elsewhere.
+    /// The steps taken do not lead to the result.
     Missed,
 }
 

@@ -30,7 +30,7 @@ use machine_steps::Machine;
 use std::alloc::Global;
 use trace_commands::save;
 
-/// The lines of the results, and the exit status. Where a trace is asked for, that of a witness is written.
+/// The lines of the results, and the exit status. Writes the trace of a witness, if one is asked for.
 pub(crate) fn explored<T: LinkWrite, G: SearchObserver>(
     alloc: Global,
     image: Image,
@@ -52,9 +52,9 @@ pub(crate) fn explored<T: LinkWrite, G: SearchObserver>(
     explored_from(alloc, &machine, config, asked, trace, observer)
 }
 
-/// The lines of the results of a machine that has just opened, and the exit status. Where a trace is asked for, that of
-/// a witness is written.
-// A function of its own, so that none has many values to drop at each of its ends.
+/// The lines of the results of a machine that has just opened, and the exit status. Writes the trace of a witness, if
+/// one is asked for.
+// A separate function, so that neither has many values to drop at each return.
 #[tactic(auto, using(crate::proofs::NotFound::not_searched, crate::proofs::NotFound::not_saved))]
 fn explored_from<T: LinkWrite, G: SearchObserver>(
     alloc: Global,
@@ -82,7 +82,7 @@ fn explored_from<T: LinkWrite, G: SearchObserver>(
     Ok((text, exit_status(results, found.termination)))
 }
 
-/// What a search is to look for, if a witness is wanted or not.
+/// The search that is asked for, with or without the path of a witness.
 pub(crate) fn search_of(asked: Asked, is_wanted: bool) -> Search
     ensures exchanged { result.exchanged ≡ not asked.each }
     ensures limit { result.limit ≡ asked.limit }
@@ -120,7 +120,7 @@ pub(crate) fn found<G: SearchObserver>(
     }
 }
 
-/// The fault that says why a search is given up.
+/// The fault that reports why a search gave up.
 fn fault_of_search(refusal: Refusal) -> Fault
     ensures { result ≡ fault_of_search refusal }
 {
@@ -131,7 +131,7 @@ fn fault_of_search(refusal: Refusal) -> Fault
     }
 }
 
-/// Writes the trace of a witness, where a trace is asked for.
+/// Writes the trace of a witness, if a trace is asked for.
 fn save_witness<T: LinkWrite>(
     alloc: Global,
     image: &Image,

@@ -1,4 +1,4 @@
-//! The results of every size of a machine, a line for each.
+//! The results for every size of a machine, one line each.
 
 ghost use Rattle.std.specs.Prelude.{◌≡◌, ◌↔◌, ◌++◌, ◌≤◌, true, false, max, Option, IfOk, IfErr, IsErrOf, OnErr, OnOk};
 ghost use Rattle.std.specs.Prelude.{length, string_bytes};
@@ -28,13 +28,12 @@ use std::io::Write;
 /// How many sizes there are: a machine has 0 to 6 stages of switches.
 const SIZES: u8 = 7;
 
-/// Explores the program that the image means which a file is, on machines of every size, one after another, and prints
-/// a line for each: how many results and states there are, how schedules end, and the greatest status of a processor;
-/// or why the size is not explored. How many states are found is reported meanwhile. What the size has for `k` is of no
-/// account.
+/// Reads an image, explores its program on machines of every size, one after another, and prints a line for each: the
+/// numbers of results and states, how schedules end, and the greatest status of a processor; or why the size is not
+/// explored. The observer sees the progress of each search. The `k` of `config` is ignored.
 ///
-/// Answers the greatest exit status of all sizes, each as [`explore_command`](crate::explore_command) gives it; or, if
-/// the image is refused, a line cannot be printed, or there is no memory for it, that of the fault that is reported on
+/// Returns the greatest exit status of all sizes, each as [`explore_command`](crate::explore_command) returns it. If
+/// the image is refused, a line cannot be printed, or there is no memory for it, returns that of the fault reported on
 /// standard error.
 pub fn explore_every_size<R: LinkRead, G: SearchObserver, W: LinkWrite, E: Write>(
     alloc: Global,
@@ -56,7 +55,7 @@ pub fn explore_every_size<R: LinkRead, G: SearchObserver, W: LinkWrite, E: Write
     }
 }
 
-/// Prints the lines, and gives the greatest of their exit statuses.
+/// Prints the lines, and returns the greatest of their exit statuses.
 fn print_every_size<R: LinkRead, G: SearchObserver, W: LinkWrite, E: Write>(
     alloc: Global,
     file: &mut R,
@@ -81,8 +80,8 @@ fn print_every_size<R: LinkRead, G: SearchObserver, W: LinkWrite, E: Write>(
     print_sizes(alloc, &image, config, asked, observer, out, err)
 }
 
-/// Prints the lines of every size, of an image.
-// A law of texts that are written in parts says what is there if a line is not written whole.
+/// Prints the lines of every size for an image.
+// A law about texts written in parts says what is printed if a line is not written whole.
 fn print_sizes<G: SearchObserver, W: LinkWrite, E: Write>(
     alloc: Global,
     image: &Image,
@@ -117,7 +116,7 @@ fn greater(one: u8, other: u8) -> u8
     if one < other { other } else { one }
 }
 
-/// Prints the line of a size, and gives its exit status.
+/// Prints the line of a size, and returns its exit status.
 fn print_size<G: SearchObserver, W: LinkWrite, E: Write>(
     alloc: Global,
     image: &Image,
@@ -142,7 +141,7 @@ fn print_size<G: SearchObserver, W: LinkWrite, E: Write>(
     Ok(status)
 }
 
-/// The line of a size, and its exit status. If it is not explored, the fault is reported on standard error too.
+/// The line of a size, and its exit status. If the size is not explored, standard error also reports the fault.
 fn line_of<G: SearchObserver, E: Write>(
     alloc: Global,
     image: &Image,
@@ -169,7 +168,7 @@ fn line_of<G: SearchObserver, E: Write>(
     }
 }
 
-/// What is found of a size.
+/// Explores a size.
 fn explore_size<G: SearchObserver>(
     alloc: Global,
     image: &Image,
@@ -220,7 +219,7 @@ fn line_of_refused(alloc: Global, k: u8, fault: Fault) -> Result<String, AllocEr
     Ok(text)
 }
 
-/// Appends what a size is.
+/// Appends a size: its `k` and its number of processors.
 fn push_size(text: &mut String, k: u8) -> Result<(), AllocError>
     requires { k ≤ 6 }
     ensures { OnOk result (string_bytes text.new ≡ string_bytes text.old ++ size_text k) }
@@ -244,7 +243,7 @@ fn push_greatest(
     }
 }
 
-/// What says why a size is not explored.
+/// The word for why a size is not explored.
 fn refusal_text(fault: Fault) -> &'static str
     ensures { result.now ≡ refusal_text fault }
 {

@@ -1,4 +1,4 @@
-//! The exit status that says how the processors of the results stopped, and whether they always can.
+//! The exit status for how the processors of the results stopped, and whether they always can stop.
 
 ghost use Rattle.std.specs.Prelude.{◌≤◌, ◌↔◌, All, IsTrue};
 ghost use Rattle.explore_command.specs.Explorations.{IsExitOf, IsFaultless, IsNotFaulted, IsNotStuck};
@@ -7,8 +7,8 @@ use command_io::{DONE, STOPPED_BY_FAULT};
 use exploration::{FinalResult, ProcessorResult, Termination};
 use flat_machine::Status;
 
-/// The exit status of results: [`STOPPED_BY_FAULT`] where in one of them a fault has stopped a processor, or from a
-/// state no end can be reached, else [`DONE`].
+/// The exit status for results: [`STOPPED_BY_FAULT`] if a fault has stopped a processor in one of them, or if there is
+/// a state from which no end can be reached; else [`DONE`].
 pub fn exit_status(results: &[FinalResult], termination: Termination) -> u8
     ensures exit { IsExitOf results.now termination result }
     ensures low { result ≤ 1 }

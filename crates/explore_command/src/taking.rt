@@ -1,4 +1,4 @@
-//! Steps that are taken once more, on a machine that has just opened.
+//! Taking steps again, on a machine that has just opened.
 
 ghost use Rattle.std.specs.Prelude.{◌≡◌, ◌≤◌, length, IfErr, IfOk};
 ghost use Rattle.explore_command.specs.Refusals.{IsNotTaken};
@@ -13,7 +13,7 @@ use std::alloc::Global;
 use steps::Step;
 use trace_commands::replay_counted;
 
-/// The machine after these steps, which opened on a copy of the image, and what its processors have shown in them.
+/// The machine that opened on a copy of the image and took these steps, and what its processors have shown in them.
 #[tactic(auto, using(crate::proofs::Refusing::size_refuses))]
 pub(crate) fn taken(
     alloc: Global,

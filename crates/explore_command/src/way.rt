@@ -1,4 +1,4 @@
-//! The log of a way: references of processors, one after another, each with what its processor does alone before it.
+//! The log of a way: references of processors, one after another, each after what its processor does alone before it.
 
 ghost use Rattle.std.specs.Prelude.{◌≡◌, IfErr, IsErrOf};
 ghost use Rattle.flat_machine.specs.Limits.{IsWithinLimits};
@@ -12,11 +12,11 @@ use machine_log::Logged;
 use std::alloc::Global;
 use steps::{Outcome, Step};
 
-/// How many turns a processor is given to come to its next reference, or to stop: as many as the search gives it.
+/// How many turns a processor may take to reach its next reference or its stop: as many as in the search.
 const MAX_TURNS: u32 = 1_000_000;
 
-/// The log of a way, on a machine of this size that opens on a copy of the image. After it no reference is open; and
-/// where it is to end in a result, each processor has taken turns until it stops.
+/// The log of a way, on a machine of this size that opens on a copy of the image. Each reference is drained before the
+/// next. If the way is to end in a result, each processor then takes turns until it stops.
 #[tactic(auto, using(crate::proofs::Refusing::size_refuses, crate::proofs::Refusing::steps_refuse))]
 pub(crate) fn log_of(
     alloc: Global,
@@ -39,14 +39,14 @@ pub(crate) fn log_of(
     Ok(log)
 }
 
-/// What a turn of a processor came to.
+/// The result of a processor's turn.
 #[derive(Clone, Copy, Debug, PartialEq, Eq, Drop)]
 enum Turned {
-    /// An instruction is done.
+    /// An instruction has retired.
     On,
-    /// A request is sent.
+    /// The processor has sent a request.
     Sent,
-    /// The processor has stopped, or had before.
+    /// The processor has stopped, now or before.
     Stopped,
 }
 
@@ -63,7 +63,7 @@ fn turn(log: &mut Logged, p: u8) -> Result<Turned, Refused>
     }
 }
 
-/// Brings what is on its way to its end.
+/// Takes steps until no reference is open.
 #[tactic(auto, using(crate::proofs::Refusing::log_refuses))]
 fn drain_within(log: &mut Logged) -> Result<(), Refused>
     ensures refused { IfErr result IsOfSteps }
@@ -74,7 +74,7 @@ fn drain_within(log: &mut Logged) -> Result<(), Refused>
     }
 }
 
-/// Takes turns of a processor up to its next reference, which is brought to its end.
+/// Takes turns of a processor up to its next reference, and then steps until the reference retires.
 fn refer(log: &mut Logged, p: u8) -> Result<(), Refused>
     ensures refused { IfErr result IsOfSteps }
 {

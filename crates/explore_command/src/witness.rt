@@ -1,4 +1,4 @@
-//! Steps that lead to a result, or to where no end can be reached.
+//! Steps that lead to a result, or to a state from which no end can be reached.
 
 ghost use Rattle.std.specs.Prelude.{◌≡◌, ◌≤◌, ◌↔◌, ◌^◌, length, IfErr, IfOk, IsErrOf, IsTrue, OnOk};
 ghost use Rattle.flat_machine.specs.Limits.{IsWithinLimits};
@@ -21,15 +21,15 @@ use std::alloc::Global;
 use steps::Step;
 use trace_file::is_trace;
 
-/// The log of a machine of this size that opens on a copy of the image, and ends in the result of this number, from 1;
-/// for 0, in a state from which no end can be reached, by another search of at most this many states. Its references
-/// are those of the way that was wanted as the machine was explored.
+/// The log of a machine of this size that opens on a copy of the image and ends in the result of this number, counted
+/// from 1. For 0, it ends in a state from which no end can be reached, as a second search of fewer than `limit` states
+/// confirms. Its references are those of the way that the search of the machine kept.
 ///
 /// # Errors
 ///
-/// [`Refused::Unknown`] exactly if no result has the number, or, for 0, from each state that was found an end can be
-/// reached; else [`Fault::Size`] exactly if the size is out of its limits, [`Refused::Missed`] where the steps lead
-/// elsewhere, [`Fault::Full`] where there would be more than [`steps::MAX_STEPS`], and [`Fault::Memory`].
+/// [`Refused::Unknown`] exactly if no result has the number, or, for 0, if an end can be reached from each state found;
+/// else [`Fault::Size`] exactly if the size is out of limits, [`Refused::Missed`] if the steps lead elsewhere,
+/// [`Fault::Full`] if there would be more than [`steps::MAX_STEPS`], and [`Fault::Memory`].
 #[tactic(auto, using(crate::proofs::Refusing::not_taken))]
 pub fn witness_of(
     alloc: Global,
@@ -70,7 +70,7 @@ fn has_witness(results: &[FinalResult], termination: Termination, number: u32) -
     }
 }
 
-/// Sees that steps are a witness.
+/// Checks that the steps are a witness.
 fn check(
     alloc: Global,
     image: &Image,
@@ -98,7 +98,7 @@ fn check(
     }
 }
 
-/// Whether none of the steps is a write from outside.
+/// Whether none of the steps is a poke.
 #[tactic(auto, using(crate::proofs::Leading::all_own))]
 fn are_of_the_machine(steps: &[Step]) -> bool
     ensures { IsTrue result → AreOfTheMachine steps.now }
@@ -106,7 +106,7 @@ fn are_of_the_machine(steps: &[Step]) -> bool
     steps.iter().all(is_of_the_machine)
 }
 
-/// Whether a step is no write from outside.
+/// Whether a step is no poke.
 fn is_of_the_machine(step: &Step) -> bool
     ensures { IsTrue result ↔ IsOfTheMachine step.now }
 {
@@ -116,7 +116,7 @@ fn is_of_the_machine(step: &Step) -> bool
     }
 }
 
-/// Sees that a machine whose processors have shown this leaves the result.
+/// Checks that no processor runs and the machine leaves the result. The tally says what its processors have shown.
 fn compare(
     alloc: Global,
     machine: &Machine,
@@ -136,7 +136,7 @@ fn compare(
     }
 }
 
-/// Sees that from a machine no end can be reached.
+/// Checks that no end can be reached from a machine.
 fn look_for_an_end(alloc: Global, machine: &Machine, limit: u32) -> Result<(), Refused>
     requires home { AreHome machine.now }
     ensures stuck { OnOk result (IsStuck machine.now) }

@@ -1,5 +1,5 @@
--- The passes of a run on threads say what its processors have shown: each has stopped, none has a reference open, and what was sent to
--- the consoles is what the processors gave to them.
+-- What the passes of a run on threads show: each processor has stopped, no reference is open, and the bytes sent to the
+-- consoles are those that the processors wrote.
 use Rattle.std.proofs.Common.{◌≡◌, inl, inr, ℕ, ◌^◌, ◌<◌, false, List, [], ◌∷◌, ◌++◌, length, map, append_assoc, refl, sym, ap, ◌∙◌, subst, arith}
 use Rattle.std.specs.Prelude.{Option, Some, None, slice_get, slice_index_or}
 use Rattle.std.proofs.lemmas.List.{append-nil, length-map}
@@ -47,7 +47,7 @@ shown_behind s (event.Retired retired ∷ events) =
     ∙ append_assoc s.console (held_of retired.out) (console_bytes events)
 shown_behind s (event.Stopped cause ∷ events) = shown_behind s events
 
--- what is counted of the console is what the events give to it
+-- The console bytes that a tally counts are those that the events have.
 shown_console : (events : List Event) → (shown_by events).console ≡ console_bytes events
 shown_console events = shown_behind nothing_shown events
 
@@ -69,7 +69,7 @@ module _ (listed : EventsAreListed) (shut : StoppedAreShut) (serialized : RunsAr
   abbrev M : theory.Machine ObservedCore
   M = machine_of m (λ p. [])
 
-  -- what the steps give a processor
+  -- the pass events of a processor in the steps of the log
   abbrev given : ℕ → List PassEvent
   given p = pass_events_of m.config m.code p 0 M log.steps
 
@@ -95,7 +95,7 @@ module _ (listed : EventsAreListed) (shut : StoppedAreShut) (serialized : RunsAr
   pub idle_is : IsIdle log.machine
   idle_is p within = shut_is p (subst (λ (c : Config). p < 2 ^ c.k) kept.replay.run.config within)
 
-  -- its pass has the events that it has shown
+  -- The pass of a processor has the events that the processor shows in the steps of the log.
   events_are : (p : ℕ) → p < 2 ^ m.config.k → (h : Held) → slice_get hs p ≡ Some h → map event_of h.row.pass_events ≡ events_in m log.steps p
   events_are p within h at =
       ap (map event_of) (pass_is p h at)
@@ -128,7 +128,7 @@ module _ (listed : EventsAreListed) (shut : StoppedAreShut) (serialized : RunsAr
     each = λ p within. ap (λ (cs : List (List ℕ)). slice_index_or cs p []) sent ∙ console_is p within;
   }
 
--- a run that began after no step, with as many passes as there are processors
+-- A run on threads that began with an empty log, and with a pass for each processor, has ended.
 pub has_ended : EventsAreListed → StoppedAreShut → RunsAreSerialized → EventsAreShown → (opening : MachineLists) (first : List Step) (count : ℕ) →
     first ≡ [] → count ≡ 2 ^ opening.config.k → (log : Log) → log.opening ≡ opening → IsWellFormed log → (hs : List Held) → IsWhole count hs →
     Fits opening first count log.steps (rows_of hs) → ((p : ℕ) (h : Held) → slice_get hs p ≡ Some h → EndsWithStop h) →
@@ -148,7 +148,7 @@ has_ended listed shut serialized fact opening first count none all log is kept h
       heard = consoles_are listed shut serialized fact log kept hs every fit stopped consoles sent;
     }
 
--- a run without a fault had its passes made
+-- If a run has no fault, its passes were made.
 pub were_made : (fault : Option RunFault) (hs : List Held) → fault ≡ None → (hs ≡ [] → IsOfMemory fault) → WereMade hs
 were_made fault hs none refused nothing = by (refused nothing)
   where

@@ -1,4 +1,4 @@
--- What the log of a run on threads says, and why there is none.
+-- The log of a run on threads, and why there may be none.
 use Rattle.std.proofs.Common.{◌≡◌, ℕ, List, ◌∙◌, ap, sym, subst}
 use Rattle.flat_machine.specs.declared.config.Config.{Config}
 use Rattle.flat_machine.specs.Limits.{IsWithinLimits}
@@ -21,7 +21,8 @@ module _ (run : ThreadedRun) (image : ImageContents) (log : Log) (consoles : Lis
   pub log_opens : IsOpening run.config image log.opening
   log_opens = subst (IsOpening run.config image) (sym is.ended.opening_is) is.opens
 
--- a run of the machine that opens on the image
+-- If a run has ended on a machine that opens on the image, it is a run of the image, and a trace file can spell its
+-- steps.
 pub threaded_is : (c : Config) (file : Input) (image : ImageContents) (meant : IsImageOf c.shared_words file.bytes image) (opening : MachineLists)
     (opens : IsOpening c image opening) (log : Log) (consoles : List (List ℕ)) → HasEnded opening log consoles →
     IsThreaded (threaded_run c file) image log consoles
@@ -39,7 +40,7 @@ threaded_is c file image meant opening opens log consoles ended =
           (have_records log.opening.config log.steps ended.no_pokes ended.named));
     }
 
--- a fault of the run
+-- If a run ends with a fault, there is no run, for the same fault.
 pub not_threaded : (run : ThreadedRun) → HasBegun run → (f : Fault) → IsOfRun f → IsNotThreaded run f
 not_threaded run begun fault.Memory is = tt
 not_threaded run begun fault.Full is = begun

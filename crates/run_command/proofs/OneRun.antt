@@ -1,4 +1,4 @@
--- A run is given by the machine's size, the budget and the bytes of the image's file.
+-- The machine's size, the budget and the bytes of the image's file determine a run by the sweep.
 use Rattle.std.proofs.Common.{◌≡◌, ℕ, List, Some, sym, ◌∙◌, subst}
 use Rattle.flat_machine.specs.declared.config.Config.{Config}
 use Rattle.elf_image.specs.declared.layout.Layout.{Layout}

@@ -1,4 +1,4 @@
--- A trace has a record of each step that names places of the machine and writes nothing from outside.
+-- Each step that names a place of the machine and is no poke has a record in a trace.
 use Rattle.std.proofs.Common.{◌≡◌, true, not, List, [], ◌∷◌}
 use Rattle.std.proofs.lemmas.Bool.{and_parts}
 use Rattle.std.proofs.lemmas.List.Elements.{All-cons, All-nil}
@@ -17,7 +17,7 @@ has_record c (step.Serve m) own named = named
 has_record c (step.Down s w) own named = named
 has_record c (step.Poke q) own named = absurd (cc)
 
--- Steps that name places of the machine, and none of which writes from outside, have records.
+-- Steps that name places of the machine, and none of which is a poke, have records.
 pub have_records : (c : Config) (steps : List Step) → no_poke steps ≡ true → all_named c steps ≡ true → HaveRecords c.k steps
 have_records c [] own named = All-nil (HasRecord c.k)
 have_records c (s ∷ ss) own named =

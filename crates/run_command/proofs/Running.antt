@@ -1,4 +1,4 @@
--- The log that has followed the sweep from a machine's opening on is that of a run, and has a spelling.
+-- A log that has followed the sweep from a machine's opening on is that of a run, and a trace file can spell its steps.
 use Rattle.std.proofs.Common.{◌≡◌, ℕ, ◌∙◌, ap, sym, subst, arith}
 use Rattle.flat_machine.specs.declared.config.Config.{Config}
 use Rattle.flat_machine.specs.Limits.{IsWithinLimits}
@@ -37,14 +37,14 @@ module _ (c : Config) (budget : ℕ) (file : Input) (image : ImageContents) (mea
     };
   }
 
-  -- If the steps of the log have records, a trace can have them.
+  -- If each step of the log has a record, a trace file can spell the steps.
   pub trace_is : (HaveRecords old.machine.config.k old.steps → HaveRecords log.machine.config.k log.steps) → IsTrace (trace_of c log.steps)
   trace_is records =
       is_spelled c log.steps (subst IsWithinLimits config_is kept.sound.limits) kept.room
       (subst (λ (d : Config). HaveRecords d.k log.steps) config_is
       (records (subst (λ (l : Log). HaveRecords l.machine.config.k l.steps) (sym starts) (λ p d inside. absurd (omega (arith, inside))))))
 
--- If the sweep has not ended on a log, there is no run, for the same fault.
+-- If the sweep of a log is not over, there is no run, for the same fault.
 pub not_over : (run : SweepRun) (image : ImageContents) (old log : Log) → (IsSwept (most_of run.budget) old Budget log → IsRunOf run Budget image log) →
     (f : Fault) → IsNotOver run.budget old log f → RunItselfFails run f
 not_over run image old log spent fault.Budget p = (image, log, spent p)

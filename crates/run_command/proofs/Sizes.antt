@@ -1,4 +1,4 @@
--- There is no run where there is no machine.
+-- If there is no machine, there is no run.
 use Rattle.std.proofs.Common.{ℕ}
 use Rattle.flat_machine.specs.declared.config.Config.{Config}
 use Rattle.elf_image.specs.Files.{IsImageOf}
@@ -11,7 +11,7 @@ use Rattle.run_command.specs.SweepRuns.{RunItselfFails, sweep_run}
 use Rattle.run_command.specs.ThreadRuns.{IsNotThreaded, threaded_run}
 
 module _ (c : Config) (file : Input) (image : ImageContents) (meant : IsImageOf c.shared_words file.bytes image) where
-  -- by the sweep
+  -- There is no run by the sweep, for the same fault.
   pub not_run : (budget : ℕ) (f : Fault) → IsFaultOfSize c f → RunItselfFails (sweep_run c budget file) f
   not_run budget fault.Size p = ((image, meant), p)
   not_run budget fault.Memory p = tt
@@ -29,7 +29,7 @@ module _ (c : Config) (file : Input) (image : ImageContents) (meant : IsImageOf 
   not_run budget fault.Alone p = absurd p
   not_run budget fault.Link p = absurd p
 
-  -- on threads
+  -- There is no run on threads, for the same fault.
   pub not_on_threads : (f : Fault) → IsFaultOfSize c f → IsNotThreaded (threaded_run c file) f
   not_on_threads fault.Size p = ((image, meant), p)
   not_on_threads fault.Memory p = tt

@@ -1,4 +1,4 @@
--- The faults of runs on threads, as they are reported.
+-- How the faults of runs on threads are reported.
 use Rattle.command_io.specs.declared.fault.Fault.{Fault}
 use Rattle.command_io.specs.declared.fault.Fault.TheVariants as fault
 use Rattle.processor_threads.specs.declared.fault.RunFault.{RunFault}
@@ -11,10 +11,10 @@ fault_of run.Full = fault.Full
 fault_of run.Loan = fault.Loan
 fault_of run.Budget = fault.Budget
 fault_of run.Start = fault.Start
--- A thread is cancelled only for the fault of another, which is then reported.
+-- A thread is cancelled only after another has a fault, which is then reported.
 fault_of run.Cancelled = fault.Memory
 
--- It is a fault that a run ends with.
+-- A run on threads can end with this fault.
 abbrev pub IsOfRun : Fault → Type 0
 IsOfRun fault.Memory = Unit {0}
 IsOfRun fault.Full = Unit {0}

@@ -24,9 +24,9 @@ pub record EndInStop (events : List Event) : Type 0 where
   pub cause : Cause
   pub is : events ≡ before ++ Stopped cause ∷ []
 
--- Threads have taken all steps of the log since its opening, none of which writes from outside or names a place that
--- the machine has not, until each processor had stopped. No reference is open, and these are the bytes that were sent
--- to the consoles: those that the processors gave to them in the steps, each of them and no other.
+-- The run has ended: no step of the log is a poke or names a place that the machine does not have, each processor has
+-- stopped, and no reference is open. The bytes received from the consoles are exactly those that the processors wrote
+-- in the steps.
 pub record HasEnded (opening : MachineLists) (log : Log) (consoles : List (List ℕ)) : Type 0 where
   pub opening_is : log.opening ≡ opening
   pub kept : IsWellFormed log
@@ -36,7 +36,7 @@ pub record HasEnded (opening : MachineLists) (log : Log) (consoles : List (List 
   pub idle : IsIdle log.machine
   pub heard : AreConsoles log.opening log.steps consoles
 
--- A run on threads that is asked for: the machine's size, and the image's file.
+-- A run on threads, as it is asked for: the machine's size, and the image's file.
 pub record ThreadedRun : Type 0 where
   pub config : Config
   pub file : Input
@@ -44,8 +44,8 @@ pub record ThreadedRun : Type 0 where
 abbrev pub threaded_run : Config → Input → ThreadedRun
 threaded_run config file = record { config = config; file = file }
 
--- So has a run of the image that a file means, on the machine of this size that opens on it, with a trace that has a
--- spelling.
+-- A run of the file's image has ended, on the machine of this size that opens on the image, and a trace file can spell
+-- the steps of its log.
 pub record IsThreaded (run : ThreadedRun) (image : ImageContents) (log : Log) (consoles : List (List ℕ)) : Type 0 where
   pub meant : IsImageOf run.config.shared_words run.file.bytes image
   pub opening : MachineLists
@@ -53,23 +53,23 @@ pub record IsThreaded (run : ThreadedRun) (image : ImageContents) (log : Log) (c
   pub ended : HasEnded opening log consoles
   pub trace : IsTrace (trace_of run.config log.steps)
 
--- so has a run of whatever image
+-- The same, for some image.
 abbrev pub IsSomeThreaded : ThreadedRun → Log → (consoles : List (List ℕ)) → Type 0
 IsSomeThreaded run log consoles = (image : ImageContents) × IsThreaded run image log consoles
 
--- the log of such a run, whatever was sent to the consoles
+-- This is the log of such a run, whatever the bytes of the consoles.
 abbrev pub IsThreadedLog : ThreadedRun → ImageContents → Log → Type 0
 IsThreadedLog run image log = (consoles : List (List ℕ)) × IsThreaded run image log consoles
 
--- A machine of this size opens on the image that a file means.
+-- A machine of this size opens on the image in the file.
 pub record HasBegun (run : ThreadedRun) : Type 0 where
   pub image : ImageContents
   pub meant : IsImageOf run.config.shared_words run.file.bytes image
   pub opening : MachineLists
   pub opens : IsOpening run.config image opening
 
--- Why there is no such run: the image is refused; the machine's size is out of its limits; there is no memory, or else
--- the machine was there, and the run ended with a fault of its own.
+-- Why there is no such run: the image is refused; the machine's size is out of limits; there is no memory; or the
+-- machine opened, and the run ended with a fault of its own.
 abbrev pub IsNotThreaded : ThreadedRun → Fault → Type 0
 IsNotThreaded run (fault.Image e) = IsImageRefusal run.config.shared_words run.file.bytes e
 IsNotThreaded run fault.Size = ((image : ImageContents) × IsImageOf run.config.shared_words run.file.bytes image)
@@ -81,7 +81,7 @@ IsNotThreaded run fault.Budget = HasBegun run
 IsNotThreaded run fault.Start = HasBegun run
 IsNotThreaded run other = ⊥
 
--- such a run, as one that a command reports
+-- such a run, as a command reports it
 abbrev pub on_threads : ThreadedRun → AskedRun
 on_threads run = record {
   config = run.config;

@@ -1,4 +1,4 @@
-//! What a run is a function of: the contract of a function that does nothing.
+//! What a run depends on, as the contract of a function that does nothing.
 
 ghost use Rattle.std.specs.Prelude.{◌≡◌, ℕ, List};
 ghost use Rattle.flat_machine.specs.declared.config.Config.{Config};
@@ -7,8 +7,8 @@ ghost use Rattle.trace_commands.specs.TraceReports.{IsReportedRun};
 ghost use Rattle.command_io.specs.Links.{known_input};
 ghost use Rattle.run_command.specs.SweepRuns.{by_sweep, sweep_run};
 
-/// The steps of a run, its report and its exit status are a function of the machine's size, the budget and
-/// the bytes of the image's file: the same run comes out each time.
+/// The steps of a run by the sweep, its report and its exit status depend only on the machine's size, the budget and
+/// the bytes of the image's file. So each run of the same input is the same.
 pub fn runs_have_one_report()
     ensures { (c : Config) (budget : ℕ) (file : List ℕ) (steps others : List Step) (text other : List ℕ)
         (status another : ℕ) →

@@ -1,11 +1,10 @@
 //! `ultra run`: from the bytes of an image to the report of its run.
 //!
-//! [`run_command`] runs a program by the sweep (`schedules`). [`threaded_run_command`] runs the processors of a
-//! machine on threads of their own (`processor_threads`), until each of them has stopped.
+//! [`run_command`] runs a program by the sweep (`schedules`). [`threaded_run_command`] runs each processor of a machine
+//! on its own thread (`processor_threads`), until all have stopped.
 //!
-//! Both report the log of the run as `ultra replay` does (`trace_commands`). Of a run on threads, the steps stand in
-//! the log in the order in which the threads came to take them, and the bytes of the consoles are those that the
-//! threads have sent.
+//! Both report the log of the run as `ultra replay` does (`trace_commands`). For a run on threads, the log has the
+//! steps in the order in which the threads took them, and the console bytes are those that the threads sent.
 #![tactic(auto)]
 
 pub mod laws;

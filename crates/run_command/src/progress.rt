@@ -1,29 +1,29 @@
-//! How far a run on threads is, on a line of a terminal.
+//! Shows the progress of a run on threads on a line of a terminal.
 
 use processor_threads::Gate;
 use std::sync::atomic::{AtomicU64, Ordering};
 use std::time::{Clock, Instant};
 
-/// How many milliseconds a line stands at least, before it is written again.
+/// The minimum number of milliseconds before the line is written again.
 const LEAST: u64 = 1000;
 
-/// A gate that stands open, and says on a terminal how far the run is: how many rounds all threads have gone through,
-/// and how many instructions have been retired, without what a thread has not reported yet. There is one line, which
-/// is written again at most once a second, and not in the first. It is gone once the threads have ended.
+/// A gate that is always open, and shows the progress of the run on a terminal: how many rounds the threads have gone
+/// through, and how many instructions have retired, as far as the threads have reported them. It rewrites one line at
+/// most once a second, for the first time after a second, and clears it after the threads have ended.
 #[derive(Drop)]
 pub struct Progress<'a, C: Clock, E: Eprint> {
     clock: &'a C,
     terminal: &'a E,
-    /// None where the clock cannot be read: nothing is reported then.
+    /// None if the clock cannot be read; then nothing is shown.
     begun: Option<Instant>,
     rounds: AtomicU64,
     retired: AtomicU64,
-    /// How many milliseconds after the beginning the line was written last; 0 where it has not been.
+    /// When the line was last written, in milliseconds since the beginning, or 0 if it has not been written.
     written: AtomicU64,
 }
 
 impl<'a, C: Clock, E: Eprint> Progress<'a, C, E> {
-    /// That of a run which begins now.
+    /// The progress of a run that begins now.
     pub fn new(clock: &'a C, terminal: &'a E) -> Self {
         Progress {
             clock,
@@ -35,7 +35,7 @@ impl<'a, C: Clock, E: Eprint> Progress<'a, C, E> {
         }
     }
 
-    /// Whether the line is to be written. Of the threads that ask in one second, one is answered so.
+    /// Returns whether the line is to be written. Of the threads that ask in the same second, only one gets true.
     fn is_due(&self) -> bool {
         let Some(begun) = self.begun else {
             return false;

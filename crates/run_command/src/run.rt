@@ -1,4 +1,4 @@
-//! A run of an image on threads.
+//! Runs an image on threads.
 
 ghost use Rattle.std.specs.Prelude.{◌≡◌, ◌^◌, ◌↔◌, [], IfErr, IfOk, IsErrOf, false, map, true, vec_len};
 ghost use Rattle.std.specs.List.{range_with_len};
@@ -26,17 +26,17 @@ use std::thread::Threads;
 #[derive(Drop)]
 pub(crate) struct Finished {
     pub(crate) log: Logged,
-    /// The bytes that each processor has sent to the console.
+    /// The bytes that each processor's thread has sent to the console.
     pub(crate) consoles: Vec<Vec<u8>>,
 }
 
-/// Runs the image that a file is on a machine of this size, on threads, this many rounds each at most. They pass the
-/// gate.
+/// Reads an image, and runs it on threads, on a machine of this size. Each thread has at most this many rounds, and
+/// passes the gate before its turns.
 ///
 /// # Errors
 ///
-/// [`Fault::Image`] with [`ImageError::Link`] exactly if a read of the file fails, and with another error where the
-/// file is refused; [`Fault::Size`] where the size is out of its limits; what the run ends with; and [`Fault::Memory`].
+/// [`Fault::Image`] with [`ImageError::Link`] exactly if a read of the file fails, and with another error if the file
+/// is refused; [`Fault::Size`] if the size is out of limits; the fault of the run; and [`Fault::Memory`].
 pub(crate) fn run_to_log<F: LinkRead, G: Gate + Sync, R: Threads + Wait + Sync>(
     rt: &R,
     alloc: Global,
@@ -61,7 +61,7 @@ pub(crate) fn run_to_log<F: LinkRead, G: Gate + Sync, R: Threads + Wait + Sync>(
     run_on_threads::<Brand, G, R>(rt, alloc, room, log, arbiters, gate, budget)
 }
 
-/// The arbiters of this many processors, in order: each begins with the run's number and its processor's.
+/// The arbiters of this many processors, in order. Each begins with the number of the run and that of its processor.
 fn arbiters(alloc: Global, start: u32, processors: u8) -> Result<Vec<Shuffled>, AllocError>
     ensures states { IfOk result (λ arbiters. arbiters.items ≡ map (first_state start) (range_with_len 0 processors)) }
     ensures many { IfOk result (λ arbiters. vec_len arbiters ≡ processors) }
@@ -73,7 +73,7 @@ fn arbiters(alloc: Global, start: u32, processors: u8) -> Result<Vec<Shuffled>, 
     Ok(arbiters)
 }
 
-/// Runs a log that has no steps on threads, which pass the gate.
+/// Runs a log that has no steps yet on threads, which pass the gate before their turns.
 fn run_on_threads<N: Run + Send + Sync, G: Gate + Sync, R: Threads + Wait + Sync>(
     rt: &R,
     alloc: Global,
@@ -105,8 +105,8 @@ fn run_on_threads<N: Run + Send + Sync, G: Gate + Sync, R: Threads + Wait + Sync
     }
 }
 
-/// How the fault of a run is reported. That a thread was cancelled is no run's fault: it is for the fault of another,
-/// which is reported.
+/// The fault that reports how a run ended. A thread is cancelled only after another has a fault, which is then
+/// reported.
 fn fault_of(fault: RunFault) -> Fault
     ensures { result ≡ fault_of fault }
 {

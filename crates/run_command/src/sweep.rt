@@ -21,14 +21,13 @@ use std::alloc::Global;
 use std::io::Write;
 use trace_commands::print_run;
 
-/// Runs the image that a file is on a machine of this size, by the sweep, and prints the report. The sweep
-/// ends where a fault stops a processor, where no processor runs, or where as many steps are entered as the
-/// budget has; then steps are taken until no reference is open. Where a trace is asked for, that of the run
-/// is written before the report.
+/// Reads an image, runs it by the sweep on a machine of this size, and prints the report. The sweep ends if a fault
+/// stops a processor, if no processor runs, or if the log has as many steps as the budget; then the machine takes steps
+/// until no reference is open. If a trace is asked for, it is written before the report.
 ///
-/// Answers the exit status: 0 where the report is printed, 1 where it is and a processor is faulted, else
-/// that of the fault that is reported on standard error. A fault is reported in this order: of the image, of the
-/// machine's size, of the run, of the trace, of the report.
+/// Returns the exit status: 0 if the report is printed, 1 if it is printed and a fault has stopped a processor, else
+/// that of the fault reported on standard error. Faults are checked in this order: of the image, of the machine's size,
+/// of the run, of the trace, of the report.
 pub fn run_command<R: LinkRead, T: LinkWrite, W: LinkWrite, E: Write>(
     alloc: Global,
     file: &mut R,
@@ -57,7 +56,7 @@ pub fn run_command<R: LinkRead, T: LinkWrite, W: LinkWrite, E: Write>(
     report_outcome(outcome, err)
 }
 
-/// Carries the command out.
+/// Executes the command.
 fn execute<R: LinkRead, T: LinkWrite, W: LinkWrite>(
     alloc: Global,
     file: &mut R,
@@ -84,7 +83,7 @@ fn execute<R: LinkRead, T: LinkWrite, W: LinkWrite>(
     print_run(alloc, &log, None, trace, out)
 }
 
-/// The log of a run.
+/// Runs the image, and returns the log of the run.
 fn run_to_log<R: LinkRead>(
     alloc: Global,
     file: &mut R,
@@ -112,8 +111,8 @@ fn run_to_log<R: LinkRead>(
 ///
 /// # Errors
 ///
-/// [`Fault::Budget`] where the budget is used up before, whatever memory there is, and [`Fault::Memory`] where there is
-/// none for the log: no step is taken then.
+/// [`Fault::Budget`] if the budget is used up before that, and [`Fault::Memory`] if there is no memory for the log;
+/// then no step is taken.
 fn run_to_end(log: &mut Logged, budget: u32) -> Result<(), Fault>
     ensures swept { OnOk result (IsSwept (most_of budget) log.old SweepEnd.Over log.new) }
     ensures records { OnOk result (HaveRecords log.old.machine.config.k log.old.steps →
@@ -121,7 +120,7 @@ fn run_to_end(log: &mut Logged, budget: u32) -> Result<(), Fault>
     ensures refused { IfErr result (IsNotOver budget log.old log.new) }
 {
     let Ok(end) = follow_sweep(log, budget) else {
-        // A new log has room for the longest run, so memory is all that it can want.
+        // A new log has room for the longest run, so it refuses only if out of memory.
         return Err(Fault::Memory);
     };
     match end {

@@ -20,20 +20,19 @@ use std::sync::Wait;
 use std::thread::Threads;
 use trace_commands::print_run;
 
-/// Runs the image that a file is on a machine of this size, each processor on a thread of its own, and prints the
-/// report. The run ends where each processor has stopped. A thread has as many rounds as the budget: in each it takes
-/// a turn of its processor, or tries to send the byte that it holds, and then asks for a step of the network, which
-/// its arbiter picks. The arbiters begin with `start`. Where a trace is asked for, that of the run is written before
-/// the report.
+/// Reads an image, runs it on a machine of this size with each processor on its own thread, and prints the report. The
+/// run ends when all processors have stopped. Each thread has `budget` rounds: in each round it takes a turn of its
+/// processor, or tries to send the byte that it holds, and then asks for a step of the network, which its arbiter
+/// picks. The arbiters begin with `start`. If a trace is asked for, it is written before the report.
 ///
-/// Which threads come first is left open, so another run may enter other steps. Those of this one have a serial order,
-/// which explains the report. The console column has the bytes that the threads have sent. Threads pass the gate
-/// before their turns, and say it how far they are; nothing here depends on what it does.
+/// The threads race, so another run may log other steps. The steps of this run have a serial order, which explains the
+/// report. The console column has the bytes that the threads have sent. The threads pass the gate before their turns,
+/// and report their progress to it; nothing here depends on what it does.
 ///
-/// Answers the exit status: 0 where the report is printed, 1 where it is and a processor is faulted, else that of the
-/// fault that is reported on standard error. A fault is reported in this order: of the image, of the machine's size,
-/// of the run, of the trace, of the report. A run has a fault where there is no memory, where its log is full, where a
-/// thread has used up its budget, or could not be started.
+/// Returns the exit status: 0 if the report is printed, 1 if it is printed and a fault has stopped a processor, else
+/// that of the fault reported on standard error. Faults are checked in this order: of the image, of the machine's size,
+/// of the run, of the trace, of the report. A run has a fault if it is out of memory, if its log is full, or if a
+/// thread uses up its budget or fails to start.
 pub fn threaded_run_command<
     F: LinkRead,
     T: LinkWrite,
@@ -72,7 +71,7 @@ pub fn threaded_run_command<
     report_outcome(outcome, err)
 }
 
-/// Carries the command out.
+/// Executes the command.
 fn execute<F: LinkRead, T: LinkWrite, W: LinkWrite, G: Gate + Sync, R: Threads + Wait + Sync>(
     rt: &R,
     alloc: Global,

@@ -1,7 +1,7 @@
 use Rattle.std.specs.Prelude.{◌^◌}
 use Rattle.run_command.proofs.run.run_to_log.Given as goal
 
--- the table that was just made, and the machine in the log
+-- the new table, and the log's opening, steps and number of processors
 abbrev pub ghosts-run_on_threads-N-Naming : goal.ghosts-run_on_threads-N-Naming
 ghosts-run_on_threads-N-Naming g a = record { table = a.room }
 
