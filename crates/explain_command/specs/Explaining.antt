@@ -8,28 +8,28 @@ use Rattle.explain_command.specs.declared.topic.Topic.{Topic}
 use Rattle.explain_command.specs.declared.topic.Topics.{Topics}
 use Rattle.explain_command.specs.Topics.{list_of, text_of, topic_named}
 
--- the bytes are the text of the topic that the word names, or the list where there is no word
+-- The bytes are the text of the topic that the word names, or the list if there is no word.
 abbrev pub IsExplanation : Topics → (word : Option (List ℕ)) → (bytes : List ℕ) → Type 0
 IsExplanation topics None bytes = bytes ≡ list_of topics
 IsExplanation topics (Some word) bytes = (topic : Topic) × (topic_named topics word ≡ Some topic)
     × (bytes ≡ text_of topic)
 
--- there is a word, and it names no topic
+-- There is a word, and it names no topic.
 abbrev pub IsUnknown : Topics → (word : Option (List ℕ)) → Type 0
 IsUnknown topics None = ⊥
 IsUnknown topics (Some word) = topic_named topics word ≡ None
 
--- what reports that the word names no topic
+-- the text that reports that the word names no topic
 unfoldable pub unknown_text : (word : List ℕ) → List ℕ
 unknown_text word = codes "error: unrecognized code '" ++ word
     ++ codes "'\n\n`ultra explain` lists what there is.\n"
 
--- Standard error has got this of the word; or, if a write failed, a beginning of it.
+-- There is a word, and standard error got the text that reports it, or, if a write failed, a beginning of that text.
 abbrev pub IsUnknownReported : (word : Option (List ℕ)) → (old new : Option (List ℕ)) → Type 0
 IsUnknownReported None old new = ⊥
 IsUnknownReported (Some word) old new = AppendsOrPart old new (unknown_text word)
 
--- why not all is printed that was asked for, and what is printed then
+-- Why the explanation is not printed, and what is printed then.
 abbrev pub IsNoExplanation : Topics → (word : Option (List ℕ)) → (old new : Option (List ℕ)) → Fault → Type 0
 IsNoExplanation topics word old new fault.Link = PrintsPrefix (IsExplanation topics word) old new
 IsNoExplanation topics word old new fault.Memory = Unit {0}

@@ -1,15 +1,15 @@
--- What there is to explain, and the texts that are printed of it.
+-- Topics, and the texts that are printed for them.
 use Rattle.std.specs.Prelude.{ℕ, Bool, List, [], ◌∷◌, ◌++◌, Option, codes, find}
 use Rattle.std.specs.Option.{option_or}
 use Rattle.std.specs.Str.{str_eq_ignore_ascii_case}
 use Rattle.explain_command.specs.declared.topic.Topic.{Topic}
 use Rattle.explain_command.specs.declared.topic.Topics.{Topics}
 
--- the word names the topic, in letters of either case
+-- whether the word names the topic, in upper or lower case
 abbrev pub is_named : (word : List ℕ) → Topic → Bool
 is_named word t = str_eq_ignore_ascii_case t.name.now word
 
--- the first topic that the word names, of what stands after `ultra:`, the faults, the debugger's errors and the pages
+-- the first topic that the word names: of what follows `ultra:`, the faults, the debugger's errors and the pages
 abbrev pub topic_named : Topics → (word : List ℕ) → Option Topic
 topic_named topics word =
     option_or (find (is_named word) topics.codes.now) (option_or (find (is_named word) topics.ends.now)
@@ -20,7 +20,7 @@ topic_named topics word =
 abbrev pub line_of : Topic → List ℕ
 line_of t = t.name.now ++ codes ": " ++ t.meaning.now ++ 10 ∷ []
 
--- the line, an empty one, and all else that there is to say
+-- the line, an empty line, and the advice
 abbrev pub text_of : Topic → List ℕ
 text_of t = line_of t ++ 10 ∷ t.advice.now
 
@@ -28,7 +28,7 @@ abbrev pub lines_of : List Topic → List ℕ
 lines_of [] = []
 lines_of (t ∷ ts) = line_of t ++ lines_of ts
 
--- a line for each topic, below a line that says what they are
+-- a line for each topic, below a heading for each kind
 abbrev pub list_of : Topics → List ℕ
 list_of topics =
     codes "Codes, which follow `ultra:` on standard error\n" ++ lines_of topics.codes.now ++ lines_of topics.ends.now

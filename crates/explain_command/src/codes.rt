@@ -2,7 +2,7 @@
 
 use crate::topic::Topic;
 
-/// Codes of what is read or written, in the order of their letters and numbers.
+/// The codes of inputs and outputs, ordered by letter and number.
 pub(crate) const CODES: &[Topic] = &[
     Topic {
         name: "V1",

@@ -1,4 +1,4 @@
-//! The command.
+//! The command `ultra explain`.
 
 ghost use Rattle.std.specs.Prelude.{◌≡◌, ◌≢◌, true, false, option_map};
 ghost use Rattle.command_io.specs.FaultTexts.{AppendsOrPart, IsReported};
@@ -13,9 +13,9 @@ use link::LinkWrite;
 use std::alloc::Global;
 use std::io::Write;
 
-/// Prints the text of the topic that a word names, or a list of all topics where no word is given. Answers the exit
-/// status: 0 where all of it is printed, 2 where nothing has that name, else that of the fault that is reported on
-/// standard error. The text is made whole before its first byte is printed.
+/// Prints the text of the topic that a word names, or a list of all topics if no word is given. Returns the exit
+/// status: 0 if all of it is printed, 2 if nothing has that name, else that of the fault reported on standard error.
+/// The whole text is made before its first byte is printed.
 pub fn explain_command<W: LinkWrite, E: Write>(
     alloc: Global,
     topics: &Topics,
@@ -53,13 +53,13 @@ pub fn explain_command<W: LinkWrite, E: Write>(
     }
 }
 
-/// Tells that a word names nothing, as the command line's faults are reported.
+/// Reports that a word names nothing, in the form of command-line errors.
 #[tactic(auto, unfolding(crate::specs::Explaining::unknown_text))]
 fn refuse<E: Write>(word: &str, err: &mut E) -> u8
     ensures status { result ≡ 2 }
     ensures reported { AppendsOrPart (E.contents err.old) (E.contents err.new) (unknown_text word.now) }
 {
-    // Where standard error fails too, the exit status alone reports it.
+    // If standard error fails too, only the exit status reports it.
     write_error_parts(
         &[
             "error: unrecognized code '",

@@ -2,7 +2,7 @@
 
 use crate::topic::Topic;
 
-/// The faults by their numbers, as `fault 4` in a report. The exit status of such a run is 1.
+/// The faults by their numbers, as in `fault 4` of a report. The exit status of such a run is 1.
 pub(crate) const FAULTS: &[Topic] = &[
     Topic {
         name: "1",

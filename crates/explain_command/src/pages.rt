@@ -2,7 +2,7 @@
 
 use crate::topic::Topic;
 
-/// What a program can ask for, and what it sees.
+/// What a program can ask for, and what it observes.
 pub(crate) const PAGES: &[Topic] = &[
     Topic {
         name: "calls",

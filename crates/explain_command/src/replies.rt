@@ -2,7 +2,7 @@
 
 use crate::topic::Topic;
 
-/// What `ultra debug` answers to a line that it refuses. Each leaves the machine as it was.
+/// The replies of `ultra debug` to a line that it refuses. Each leaves the machine as it was.
 pub(crate) const REPLIES: &[Topic] = &[
     Topic {
         name: "E01",

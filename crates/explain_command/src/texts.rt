@@ -1,4 +1,4 @@
-//! The texts that are printed.
+//! The texts of topics.
 
 ghost use Rattle.std.specs.Prelude.{◌≡◌, ◌++◌, IfOk, OnOk, string_bytes};
 ghost use Rattle.explain_command.specs.Topics.{line_of, lines_of, list_of, text_of};
@@ -17,7 +17,7 @@ pub(crate) fn topic_text(alloc: Global, topic: &Topic) -> Result<String, AllocEr
     Ok(text)
 }
 
-/// A line for each topic, below a line that says what they are.
+/// A line for each topic, below a heading for each kind.
 pub(crate) fn list_text(alloc: Global, topics: &Topics) -> Result<String, AllocError>
     ensures { IfOk result (λ text. string_bytes text ≡ list_of topics.now) }
 {

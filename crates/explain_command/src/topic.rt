@@ -1,4 +1,4 @@
-//! What there is to explain.
+//! Topics, and how a word names one.
 
 ghost use Rattle.std.specs.Prelude.{◌≡◌, find, option_map};
 ghost use Rattle.explain_command.specs.Topics.{is_named, topic_named};
@@ -10,27 +10,27 @@ pub struct Topic {
     pub name: &'static str,
     /// What it means, in one line.
     pub meaning: &'static str,
-    /// All else that there is to say, in whole lines: where it is reported, what usually causes it, and what to do.
+    /// The rest, in whole lines: where it is reported, what usually causes it, and what to do.
     pub advice: &'static str,
 }
 
-/// Topics by their kinds. Of two topics with one name the first is explained.
+/// Topics by their kinds. If two topics have the same name, the first is explained.
 #[derive(Debug, Drop)]
 pub struct Topics {
-    /// What stands after `ultra: ` on standard error: codes of what is read or written.
+    /// Codes of inputs and outputs, which follow `ultra: ` on standard error.
     pub codes: &'static [Topic],
-    /// What else stands there: why a command has come to no end of its own.
+    /// Other words that follow `ultra: `: why a command gave up.
     pub ends: &'static [Topic],
-    /// The numbers of the faults that stop a processor, as a report has them.
+    /// The numbers of the faults that stop a processor, as in a report.
     pub faults: &'static [Topic],
-    /// The errors that a debugger's lines are answered by.
+    /// The errors with which a debugger's lines are answered.
     pub replies: &'static [Topic],
     /// Pages of help.
     pub pages: &'static [Topic],
 }
 
 impl Topics {
-    /// The topic that a word names, in letters of either case.
+    /// The topic that a word names, in upper or lower case.
     pub fn named(&self, word: &str) -> Option<&Topic>
         ensures { option_map (λ t. t.now) result ≡ topic_named self.now word.now }
     {

@@ -1,4 +1,4 @@
-//! All that there is to explain.
+//! All topics of `ultra explain`.
 
 use crate::codes::CODES;
 use crate::ends::ENDS;
@@ -7,7 +7,7 @@ use crate::pages::PAGES;
 use crate::replies::REPLIES;
 use crate::topic::{Topic, Topics};
 
-/// What `ultra` has to explain.
+/// All topics of `ultra explain`.
 pub fn all_topics() -> Topics {
     Topics {
         codes: codes(),
@@ -18,7 +18,7 @@ pub fn all_topics() -> Topics {
     }
 }
 
-// A function for each table, so that no proof but its own has the texts.
+// Each table has its own function, so that only its proof contains the texts.
 
 fn codes() -> &'static [Topic] {
     CODES

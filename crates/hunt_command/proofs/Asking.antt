@@ -1,4 +1,4 @@
--- A run from step to step of its schedule.
+-- A run, step by step of its schedule.
 use Rattle.std.proofs.Common.{◌≡◌, ℕ, ◌<◌, ◌≤◌, ◌⊎◌, inl, inr, List, [], ◌∷◌, ◌++◌, length, refl, sym, ap, ◌∙◌, subst, arith, append_assoc}
 use Rattle.steps.specs.declared.step.Outcome.{Outcome}
 use Rattle.steps.specs.declared.step.Step.{Step}
@@ -12,25 +12,25 @@ use Rattle.schedules.proofs.Lemmas.{IsFirst, IsUnder, asked_append, at_most_one,
 use Rattle.schedules.proofs.Lemmas.{none_faulted, not_over, one_asked, runs_after, step_first, step_over, step_under}
 use Rattle.hunt_command.specs.Runs.{WasAsked}
 
--- The run has come so far, and is not over: these steps of its schedule are left.
+-- The run is under way and not over, and these steps of its schedule are left.
 pub record IsAsking (plan : List Step) (limit : ℕ) (old l : Log) (unasked : List Step) : Type 0 where
-  -- the log opened as the old one did
+  -- The log opened as the old one did.
   pub opening : l.opening ≡ old.opening
-  -- its machine is the replay of its steps
+  -- Its machine is the replay of its steps.
   pub replay : IsReplay l.opening l.steps l.machine
   -- the steps that were asked for
   pub asked : List Step
-  -- these and the steps that are left are the whole schedule
+  -- These and the steps that are left are the whole schedule.
   pub all : plan ≡ asked ++ unasked
-  -- no step that is left writes from outside
+  -- No step that is left is a poke.
   pub own : AreOwn unasked
-  -- the log has entered each step asked for that did something
+  -- The log has each step asked for that did something.
   pub steps : l.steps ≡ entered_of old.opening old.steps asked
-  -- it has no more steps than the limit
+  -- It has no more steps than the limit.
   pub few : length l.steps ≤ limit
-  -- the run was not over before
+  -- The run was not over before.
   pub first : IsFirst old.opening (length old.steps) l.steps
-  -- nor is it over now: a processor runs, and the last step was no fault
+  -- It is not over now: a processor runs, and the last step was no fault.
   pub under : IsUnder old.opening (length old.steps) l.steps
 
 -- If a processor runs and there is room, a run begins, with its whole schedule left.
@@ -48,7 +48,7 @@ asking_begins plan limit l own few replay runs = record {
   under = record { running = runs_after l.opening l.machine l.steps replay runs; sound = none_faulted l.opening (length l.steps) l.steps (omega arith) };
 }
 
--- where no processor runs, the run is over at once
+-- If no processor runs, the run is over at once.
 pub over_at_once : (plan : List Step) (limit : ℕ) (l : Log) → length l.steps ≤ limit → IsReplay l.opening l.steps l.machine →
     (RunsAfter l.opening l.steps → ⊥) → WasAsked plan limit l Over l
 over_at_once plan limit l few replay none = record {
@@ -63,7 +63,7 @@ over_at_once plan limit l few replay none = record {
   ends = inr none;
 }
 
--- where there is no room, or no step is left, the budget is used up
+-- If there is no room, or no step is left, the budget is used up.
 pub budget_used : (plan : List Step) (limit : ℕ) (old l : Log) (rest : List Step) → IsAsking plan limit old l rest →
     (limit ≤ length l.steps) ⊎ (rest ≡ []) → WasAsked plan limit old Budget l
 budget_used plan limit old l rest i used = record {

@@ -1,4 +1,4 @@
--- What is noted of a run, from step to step.
+-- The notes of a run, step by step.
 use Rattle.std.proofs.Common.{◌≡◌, ℕ, ◌+◌, length, arith, List, [], ◌∷◌, ◌++◌, Bool, true, false, refl, sym, ap, ◌∙◌, subst, if◌then◌else◌}
 use Rattle.std.proofs.lemmas.List.{length-append}
 use Rattle.steps.specs.declared.step.Step.{Step}
@@ -9,7 +9,7 @@ use Rattle.machine_steps.specs.Runs.{IsReplay, IsRun}
 use Rattle.machine_steps.proofs.Lemmas.{noted_more}
 use Rattle.machine_log.specs.Logs.{HasTaken, Log}
 
--- Where a step is noted unless it stalls, what is noted goes on with it.
+-- A step is noted unless it stalls.
 module _ {N : Type 0} (R : N → Step → Outcome → N → Type 0) (old l new : Log) (s : Step) (o : Outcome) (first n n' : N)
     (opening : l.opening ≡ old.opening) (replay : IsReplay l.opening l.steps l.machine) (taken : HasTaken l s o new)
     (moved : is_stalled o ≡ false → R n s o n') (stalled : is_stalled o ≡ true → n' ≡ n) where
@@ -28,7 +28,7 @@ module _ {N : Type 0} (R : N → Step → Outcome → N → Type 0) (old l new :
   pub noted_on : AreNoted R old.opening l.steps first n → AreNoted R old.opening new.steps first n'
   noted_on = goes_on (is_stalled o) refl
 
--- There is room for as many notes as steps can still be entered.
+-- There is room for a note of each step that the log can still take.
 module _ {N : Type 0} (has_room : N → ℕ → Type 0) (l new : Log) (s : Step) (o : Outcome) (n n' : N) (limit : ℕ) (taken : HasTaken l s o new)
     (moved : (more : ℕ) → has_room n (more + 1) → is_stalled o ≡ false → has_room n' more) (stalled : is_stalled o ≡ true → n' ≡ n)
     (room : (left : ℕ) → length l.steps + left ≡ limit → has_room n left) where
@@ -41,6 +41,6 @@ module _ {N : Type 0} (has_room : N → ℕ → Type 0) (l new : Log) (s : Step)
       let one = length-append l.steps (s ∷ []) in
       moved left (room (left + 1) (omega (arith, same, one, all))) is
 
-  -- After a log has taken a step, there is room for as many notes as steps can still be entered.
+  -- After a log has taken a step, there is still room for a note of each step that it can take.
   pub room_on : (left : ℕ) → length new.steps + left ≡ limit → has_room n' left
   room_on = by (is_stalled o) refl

@@ -1,4 +1,4 @@
--- Results, one after another, and what is found in them.
+-- The results found, run by run.
 use Rattle.std.proofs.Common.{◌≡◌, ℕ, zero, suc, ◌+◌, List, [], ◌∷◌, ◌++◌, length, Some, refl, sym, ap, ◌∙◌, subst, arith}
 use Rattle.std.specs.Prelude.{slice_get}
 use Rattle.std.proofs.lemmas.List.{length-append}
@@ -36,7 +36,7 @@ results_more c image most start place (y ∷ rs) r each one (suc i) x there =
     step : (j : ℕ) → place + 1 + j ≡ place + suc j
     step j = omega arith
 
--- In no runs nothing is found, and the exit status is 0.
+-- In no runs, no result is found, and the exit status is 0.
 pub none_found : (c : Config) (image : ImageContents) (most start : ℕ) → AreFound c image most start 0 [] 0
 none_found c image most start = record {
   results = [];
@@ -46,7 +46,7 @@ none_found c image most start = record {
   exit = refl;
 }
 
--- one run more
+-- After one more run, its result is noted, and the exit status is the greater of its own and that before.
 pub one_found : (c : Config) (image : ImageContents) (most start place : ℕ) (fs : List FindingState) (status number : ℕ) (r : ResultState) →
     AreFound c image most start place fs status → number ≡ number_at start place → IsResultOf c image most number r →
     AreFound c image most start (place + 1) (noted fs r.text number) (greater r.status status)
@@ -65,7 +65,7 @@ one_found c image most start place fs status number r f is one = record {
     here : number_at start place ≡ number_at start (0 + length f.results)
     here = ap (number_at start) (let all = f.all in let same : place ≡ 0 + length f.results = omega (arith, all) in same)
 
--- the same, where it is noted
+-- The same, for findings that have noted the result.
 pub one_observed : (c : Config) (image : ImageContents) (most start place number : ℕ) (old new : FindingsState) (status status' of_run : ℕ) (text : List ℕ) →
     AreFound c image most start place old.found status → number ≡ number_at start place →
     IsResultOf c image most number (record { text = text; status = of_run }) →

@@ -1,4 +1,4 @@
--- A result that is noted: the place that is looked for, and that none came more often than results were noted.
+-- A result is noted: its place, and that no result is counted more often than results were noted.
 use Rattle.std.proofs.Common.{◌≡◌, ℕ, zero, suc, ◌+◌, ◌≤◌, Bool, true, false, cond, not, List, [], ◌∷◌, ◌++◌, Option, Some, None}
 use Rattle.std.proofs.Common.{String, Global, string_bytes, length, take, refl, sym, ap, subst, ◌∙◌, arith, append_assoc}
 use Rattle.std.specs.Prelude.{All, bytes_eq, is_some, nat_lt, position, slice_get, slice_set}
@@ -33,29 +33,29 @@ module _ {K V : Type 0} (text : K → List ℕ) (runs first : V → ℕ) where
   abbrev One : K → V → FindingState
   One k v = record { text = text k; runs = runs v; first = first v }
 
-  -- a text is found where the map finds its key
+  -- A text is found at the place where the map finds its key.
   pub place_in : (t : List ℕ) (is : K → Bool) → ((k : K) → is k ≡ bytes_eq t (text k)) → (es : List (K × V)) →
       position_or_len is (keys_of es) ≡ place_of t (Found es)
   place_in t is same [] = refl
   place_in t is same (e ∷ es) = λ j. cond (not (same e.0 j)) (1 + place_in t is same es j) 0
 
-  -- What is found at a place is what the entry of the map says there.
+  -- The result at a place is that of the map's entry there.
   pub entry_in : (es : List (K × V)) (i : ℕ) (k : K) (v : V) → slice_get es i ≡ Some (k, v) → slice_get (Found es) i ≡ Some (One k v)
   entry_in es i k v there = slice_get-map _ es i ∙ ap (option_map (λ (e : K × V). One e.0 e.1)) there
 
-  -- If the value of an entry is replaced, what is found is replaced at its place alone.
+  -- If the value of an entry is replaced, only the result at its place is.
   pub set_in : (es : List (K × V)) (i : ℕ) (k : K) (v w : V) → slice_get es i ≡ Some (k, v) →
       Found (set_value_at es i w) ≡ slice_set (Found es) i (One k w)
   set_in [] i k v w there = absurd (cc)
   set_in (e ∷ es) zero k v w there = (let same : e ≡ (k, v) = cc in ap (λ (x : K × V). One x.0 w ∷ Found es) same)
   set_in (e ∷ es) (suc i) k v w there = ap (λ fs. One e.0 e.1 ∷ fs) (set_in es i k v w there)
 
-  -- the number of the first run to it
+  -- The number of the first run at a place is that of the map's entry there.
   pub first_in : (es : List (K × V)) (i : ℕ) (k : K) (v : V) → slice_get es i ≡ Some (k, v) → slice_get (firsts (Found es)) i ≡ Some (first v)
   first_in es i k v there =
       slice_get-map _ (Found es) i ∙ ap (option_map (λ (f : FindingState). f.first)) (entry_in es i k v there)
 
-  -- If an entry is appended to the map, what it says is appended to what is found.
+  -- If an entry is appended to the map, its result is appended to the results.
   pub new_in : (es : List (K × V)) (k : K) (v : V) → Found (es ++ (k, v) ∷ []) ≡ Found es ++ One k v ∷ []
   new_in es k v = map-append _ es ((k, v) ∷ [])
 
@@ -64,7 +64,7 @@ module _ {K V : Type 0} (text : K → List ℕ) (runs first : V → ℕ) where
         cond b (Some (position_or_len is (keys_of es))) None ≡ i
     by_test i at b e = ap (λ c. cond c (Some (position_or_len is (keys_of es))) None) (sym e) ∙ at
 
-    -- where the map does not find the key
+    -- If the map does not find the key, no result has the text.
     pub absent_in : position is (keys_of es) ≡ None → length (Found es) ≤ place_of t (Found es)
     absent_in none = by (nat_lt (position_or_len is (keys_of es)) (length (keys_of es))) refl
       where
@@ -76,7 +76,7 @@ module _ {K V : Type 0} (text : K → List ℕ) (runs first : V → ℕ) where
             let found = length-map es (λ (e : K × V). One e.0 e.1) in
             let place = place_in t is same es in omega (arith, past, keys, found, place)
 
-    -- where it does
+    -- If the map finds the key at a place, the result with the text is at this place.
     pub present_in : (i : ℕ) → position is (keys_of es) ≡ Some i → place_of t (Found es) ≡ i
     present_in i at = by (nat_lt (position_or_len is (keys_of es)) (length (keys_of es))) refl
       where
@@ -86,7 +86,7 @@ module _ {K V : Type 0} (text : K → List ℕ) (runs first : V → ℕ) where
             let one : position_or_len is (keys_of es) ≡ i = cc in sym (place_in t is same es) ∙ one
         by false e = let bad : None ≡ Some i = by_test (Some i) at false e in absurd (cc)
 
-    -- a new key goes last
+    -- If the map appends a new key, the results are those after a run with its text.
     pub noted_absent : (es' : List (K × V)) (k : K) (v : V) → text k ≡ t → runs v ≡ 1 → position is (keys_of es) ≡ None →
         es' ≡ es ++ (k, v) ∷ [] → Found es' ≡ noted (Found es) t (first v)
     noted_absent es' k v named once none more =
@@ -94,7 +94,7 @@ module _ {K V : Type 0} (text : K → List ℕ) (runs first : V → ℕ) where
         ∙ (λ j. Found es ++ (record { text = named j; runs = once j; first = first v }) ∷ [])
         ∙ sym (noted_new (Found es) t (first v) (absent_in none))
 
-    -- a key that is there is counted once more
+    -- If the map counts an existing key once more, the results are those after a run with its text.
     pub noted_present : (es' : List (K × V)) (i : ℕ) (k : K) (v w : V) (number : ℕ) → position is (keys_of es) ≡ Some i →
         slice_get es i ≡ Some (k, v) → One k w ≡ once_more (One k v) → es' ≡ set_value_at es i w → Found es' ≡ noted (Found es) t number
     noted_present es' i k v w number at there more now =
@@ -114,7 +114,7 @@ runs_in counted = counted.runs
 abbrev pub first_of : Counted → ℕ
 first_of counted = counted.first
 
--- nothing is there
+-- If an option has no value, it is None.
 pub none_of : {X : Type 0} → (o : Option X) → false ≡ is_some o → o ≡ None
 none_of None e = refl
 none_of (Some x) e = absurd (cc)
@@ -148,19 +148,19 @@ NoneOver n fs = All (λ (f : FindingState). f.runs ≤ n) fs
 few_more : (fs : List FindingState) (n : ℕ) → NoneOver n fs → NoneOver (n + 1) fs
 few_more fs n few i d inside = (let here = few i d inside in omega (arith, here))
 
--- If no result came more than n times, the one at this place did not.
+-- If no result was counted more than n times, the one at this place was not.
 pub few_here : (fs : List FindingState) (n i : ℕ) (f : FindingState) → slice_get fs i ≡ Some f → NoneOver n fs → f.runs ≤ n
 few_here fs n i f there few =
     subst (λ (g : FindingState). g.runs ≤ n) (get_or_from_slice_get fs i f f there) (few i f (slice_get_within fs i f there))
 
--- If no result came more than n times, and one is counted once more, none came more than n + 1 times.
+-- If no result was counted more than n times, and one is counted once more, none was counted more than n + 1 times.
 pub few_there : (fs : List FindingState) (n i : ℕ) (f : FindingState) → slice_get fs i ≡ Some f → NoneOver n fs →
     NoneOver (n + 1) (slice_set fs i (once_more f))
 few_there fs n i f there few =
     All-set (λ (f : FindingState). f.runs ≤ n + 1) fs i (once_more f) (let here = few_here fs n i f there few in omega (arith, here))
     (few_more fs n few)
 
--- If no result came more than n times, and a new one came once, none came more than n + 1 times.
+-- If no result was counted more than n times, and a new one is counted once, none was counted more than n + 1 times.
 pub few_new : (fs : List FindingState) (n number : ℕ) (text : List ℕ) → NoneOver n fs →
     NoneOver (n + 1) (fs ++ (record { text = text; runs = 1; first = number }) ∷ [])
 few_new fs n number text few =

@@ -1,4 +1,4 @@
--- The steps that a run enters are a function of the machine's size, the image, the run's number and the most steps and turns.
+-- The machine's size, the image, the run's number and the limit on steps and turns determine the steps of a run.
 use Rattle.std.proofs.Common.{◌≡◌, ℕ, ◌+◌, ◌≤◌, ◌⊎◌, inl, inr, List, [], ◌∷◌, ◌++◌, length, refl, sym, ap, ap₂, ◌∙◌, subst, arith}
 use Rattle.std.proofs.lemmas.List.{length-append}
 use Rattle.flat_machine.specs.declared.config.Config.{Config}
@@ -38,7 +38,7 @@ none_behind xs (y ∷ ys) zs short =
 -- ---- two runs
 
 module _ (c : Config) (image : ImageContents) (number most : ℕ) where
-  -- the schedule of a run, with the number of stages of the size
+  -- The schedule of a run is what was asked for and what was not.
   plan_is : (e : SweepEnd) (l : Log) (w : IsRandomRun c image number most e l) → schedule c.k number most ≡ w.ran.asked.asked ++ w.ran.asked.unasked
   plan_is e l w = ap (λ (d : Config). schedule d.k number most) (sym w.opens.config) ∙ w.ran.asked.all
 
@@ -55,7 +55,7 @@ module _ (c : Config) (image : ImageContents) (number most : ℕ) where
         drained = w.ran.steps;
       }
 
-  -- where the first was asked for all, so was the second
+  -- If the first run was asked for its whole schedule, the second was asked for no more than the first.
   no_more : (e d : SweepEnd) (a b : Log) (one : IsRandomRun c image number most e a) (two : IsRandomRun c image number most d b) (rest : List Step) →
       two.ran.asked.asked ≡ one.ran.asked.asked ++ rest → one.ran.asked.unasked ≡ [] → rest ≡ []
   no_more e d a b one two rest is none =
@@ -72,7 +72,7 @@ has_ended m limit steps unasked rest Over over none = inl over
 has_ended m limit steps unasked rest Budget (inl used, under) none = inr (inl used)
 has_ended m limit steps unasked rest Budget (inr all, under) none = inr (inr (none all))
 
--- two runs of one number enter the same steps
+-- Two runs with the same number have the same steps.
 pub one_run : (c : Config) (image : ImageContents) (number most : ℕ) (end other : SweepEnd) (a b : Log) → IsRandomRun c image number most end a →
     IsRandomRun c image number most other b → a.steps ≡ b.steps
 one_run c image number most end other a b one two =

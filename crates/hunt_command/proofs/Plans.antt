@@ -1,4 +1,4 @@
--- A schedule has steps left or none, and none of its steps writes anything from outside.
+-- The next step of a schedule, and that none of its steps is a poke.
 use Rattle.std.proofs.Common.{◌≡◌, ℕ, zero, suc, ◌+◌, ◌-◌, ◌^◌, ◌≤◌, Bool, true, false, List, [], ◌∷◌, ◌++◌, drop, length, Some, refl, sym, ap, ap₂, ◌∙◌, arith}
 use Rattle.std.specs.Prelude.{◌/◌, ◌%◌, ◌==◌, slice_get, if◌then◌else◌}
 use Rattle.std.specs.List.{range_with_len}
@@ -18,7 +18,7 @@ drop_at xs i s there =
     drop-cons xs i (Turn 0) (slice_get_within xs i s there)
     ∙ ap₂ (λ y ys. y ∷ ys) (get_or_from_slice_get xs i s (Turn 0) there) (ap (λ j. drop j xs) (let same : suc i ≡ i + 1 = omega arith in same))
 
--- after the moves of the network comes the next turn
+-- After the network's steps comes the next turn.
 pub turn_next : (k number x before turns place y p next : ℕ) → length (choices k) ≤ place → (turns ≡ 0 → ⊥) → y ≡ next_state x →
     p ≡ favoured_processor k number y before → next ≡ (if y / 2 ^ 8 % 2 == 0 then 0 else place) →
     drop place (choices k) ++ turns_from k number x before turns ≡ Turn p ∷ (drop next (choices k) ++ turns_from k number y p (turns - 1))
@@ -58,7 +58,7 @@ own_turns k start x before (suc n) =
     let y = next_state x in
     let p = favoured_processor k start y before in (tt, own_both (moves_behind k y) (turns_from k start y p n) (own_moves k y) (own_turns k start y p n))
 
--- No step of a random schedule writes from outside.
+-- No step of a random schedule is a poke.
 pub own_schedule : (k number turns : ℕ) → AreOwn (schedule k number turns)
 unfolding schedule
 own_schedule k number turns = own_turns k number (first_state number 0) 0 turns

@@ -10,7 +10,7 @@ use Rattle.schedules.proofs.Lemmas.{drained_has_records}
 use Rattle.hunt_command.specs.Runs.{HasRunAtRandom}
 use Rattle.hunt_command.proofs.Plans.{own_schedule}
 
--- If none of the steps of two lists in a row writes from outside, none of the first list does.
+-- If no step of two lists in a row is a poke, none of the first list is.
 pub own_first : (xs ys : List Step) → AreOwn (xs ++ ys) → AreOwn xs
 own_first [] ys own = tt
 own_first (x ∷ xs) ys own = (own.0, own_first xs ys own.1)

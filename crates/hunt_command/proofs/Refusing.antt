@@ -20,13 +20,13 @@ asked_of P Q f (Some old) None h = absurd h
 asked_of P Q f None new h = absurd h
 
 module _ {T W : Type 0} (h : AskedHunt) (t : HuntTraces T W) (out : Output) where
-  -- If a fault says why there is no image, and the traces are as before, the hunt fails with this fault.
+  -- If reading the image fails with this fault, and the traces are as before, the hunt fails with it.
   pub of_image : (f : Fault) → t.new ≡ t.old → IsFaultOfImage h.config.shared_words h.file.bytes f → IsRefused h t out (refused.Fault f)
   of_image (fault.Image e) same why = (same, why)
   of_image fault.Memory same why = inl same
   of_image other same why = absurd why
 
-  -- If a fault says why there is no machine of this size, and the traces are as before, the hunt fails with this fault.
+  -- If opening a machine of this size fails with this fault, and the traces are as before, the hunt fails with it.
   pub of_size : (image : ImageContents) → IsImageOf h.config.shared_words h.file.bytes image → (f : Fault) → t.new ≡ t.old →
       IsFaultOfSize h.config f → IsRefused h t out (refused.Fault f)
   of_size image meant fault.Size same why = (same, (image, meant), why)
@@ -45,7 +45,7 @@ module _ {T W : Type 0} (h : AskedHunt) (t : HuntTraces T W) (out : Output) wher
       by old new (inl p) = not_memory p.1
       by old new (inr p) = not_so old new p.1
 
-  -- If the traces of what is found are not saved, the hunt fails for the same reason.
+  -- If the traces of the results are not saved, the hunt fails for the same reason.
   pub of_traces : (r : Refused) → HasNotSaved h t r → IsRefused h t out r
   of_traces (refused.There n) why = why
   of_traces (refused.Fault (fault.Trace e)) why = why

@@ -1,4 +1,4 @@
--- The log of a run, from its machine's opening on, and what the run comes to.
+-- The log of a run from its machine's opening on, and the run's result.
 use Rattle.std.proofs.Common.{◌≡◌, ℕ, ◌+◌, ◌^◌, List, ◌++◌, length, ◌∙◌, ap, sym, refl, subst, arith}
 use Rattle.std.specs.Prelude.{replicate}
 use Rattle.flat_machine.specs.declared.config.Config.{Config}
@@ -28,7 +28,7 @@ module _ (c : Config) (most number : ℕ) (image : ImageContents) (m : MachineLi
   config_is : log.machine.config ≡ c
   config_is = kept.replay.run.config ∙ ap (λ (n : MachineLists). n.config) opening_is ∙ opens.config
 
-  -- A log that has run by a schedule from the machine's opening on is that of the run of this number.
+  -- A log that has run by a schedule from the machine's opening on is that of the run with this number.
   pub log_of : IsLogOf c image most number end log
   log_of = record {
     ran = record {
@@ -42,7 +42,7 @@ module _ (c : Config) (most number : ℕ) (image : ImageContents) (m : MachineLi
         (records (subst (λ (l : Log). HaveRecords l.machine.config.k l.steps) (sym starts) (λ p d inside. absurd (omega (arith, inside))))));
   }
 
--- What the drain leads to of a machine that was asked for the steps of a schedule is what the run comes to.
+-- The result to which the drain leads after the steps of a schedule is the result of the run.
 pub result_of_drain : (c : Config) (image : ImageContents) (most number : ℕ) (m : MachineLists) (old log : Log) (end : SweepEnd) (text : List ℕ) (status : ℕ) →
     IsOpening c image m → old ≡ opened m → WasAsked (schedule old.machine.config.k number most) (length old.steps + most) old end log →
     IsDrainedTo log.opening log.steps log.machine end text status → IsResultOf c image most number (record { text = text; status = status })
@@ -69,7 +69,7 @@ result_of_drain c image most number m old log end text status opens starts asked
       exit = d.exit;
     }
 
--- What is noted of the steps of a kept log from its opening on is what is shown in them.
+-- A tally that has noted the steps of a well-formed log since its opening has what the processors show in them.
 pub log_retaken : (m : MachineLists) (old log : Log) (t t' : TallyState) → old ≡ opened m → IsWellFormed log → log.opening ≡ old.opening →
     t ≡ record { shown = replicate (2 ^ m.config.k) nothing_shown; observed = 0 } → AreNoted StepObserver old.opening log.steps t t' →
     IsReplayCounted log.opening log.steps log.machine t'

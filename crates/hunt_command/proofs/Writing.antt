@@ -1,4 +1,4 @@
--- Traces that are written, one after another.
+-- Traces written one after another.
 use Rattle.std.proofs.Common.{◌≡◌, ℕ, ◌+◌, ◌≤◌, Bool, false, List, [], ◌∷◌, ◌++◌, Option, Some, length, take, refl, sym, ap, ◌∙◌, subst}
 use Rattle.std.specs.Prelude.{slice_get}
 use Rattle.std.proofs.lemmas.List.{take_all, take_more}
@@ -27,7 +27,7 @@ module _ {T W : Type 0} (opens : T → (number : ℕ) → W → T → Type 0) (c
       (new, subst (λ t. IsWhole opens closes has_failed contents c image most n t new) all one, refl)
   one_behind (m ∷ ns) n old middle new all one = (all.0, all.1, one_behind ns n all.0 middle new all.2 one)
 
-  -- one more is written
+  -- If the traces of the first numbers are written, and then the next, one more is written.
   pub written_more : (ns : List ℕ) (i n : ℕ) (old middle new : T) → slice_get ns i ≡ Some n → Written (take i ns) old middle →
       IsWhole opens closes has_failed contents c image most n middle new → Written (take (i + 1) ns) old new
   written_more ns i n old middle new there all one =
@@ -37,7 +37,7 @@ module _ {T W : Type 0} (opens : T → (number : ℕ) → W → T → Type 0) (c
   pub written_whole : (ns : List ℕ) (i : ℕ) (old new : T) → length ns ≤ i → Written (take i ns) old new → Written ns old new
   written_whole ns i old new past all = subst (λ xs. Written xs old new) (take_all i ns past) all
 
-  -- why the next is not written is why not all are
+  -- If the next trace is not written, not all are, for the same fault.
   pub not_written : (ns : List ℕ) (i n : ℕ) (old middle new : T) (f : Fault) → slice_get ns i ≡ Some n → Written (take i ns) old middle →
       IsNotWhole opens closes has_failed contents c image most n middle new f → AreNotWritten opens closes has_failed contents c image most ns old new f
   not_written ns i n old middle new (fault.Trace e) there all why =
@@ -45,14 +45,14 @@ module _ {T W : Type 0} (opens : T → (number : ℕ) → W → T → Type 0) (c
   not_written ns i n old middle new fault.Memory there all why = record { count = i; whole = subst (Written (take i ns) old) (sym why) all }
   not_written ns i n old middle new other there all why = absurd why
 
-  -- a machine of a size within its limits is refused if out of memory alone
+  -- If the size is within limits, a machine that does not open leaves its trace unwritten for a lack of memory.
   pub not_begun : (n : ℕ) (old new : T) (f : Fault) → IsWithinLimits c → new ≡ old → IsFaultOfSize c f →
       IsNotWhole opens closes has_failed contents c image most n old new f
   not_begun n old new fault.Size within same why = absurd (why within)
   not_begun n old new fault.Memory within same why = same
   not_begun n old new other within same why = absurd why
 
--- none of one more is there
+-- If no trace exists under the first numbers, or under the next, none exists under one more.
 pub free_more : {T : Type 0} → (finds : T → (number : ℕ) → (is_there : Bool) → Type 0) (t : T) (ns : List ℕ) (i n : ℕ) → slice_get ns i ≡ Some n →
     AreFree finds (take i ns) t → finds t n false → AreFree finds (take (i + 1) ns) t
 free_more finds t ns i n there all one =

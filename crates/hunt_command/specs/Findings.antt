@@ -1,47 +1,48 @@
--- Different results, and how often each came.
+-- The different results of runs, and how many runs had each.
 use Rattle.std.specs.Prelude.{ℕ, ◌+◌, ◌≤◌, All, List, [], ◌∷◌, ◌++◌, Option, Some, None, bytes_eq, codes, map}
 use Rattle.std.specs.Prelude.{slice_get, slice_set}
 use Rattle.std.specs.List.{position_or_len}
 use Rattle.std.specs.Fmt.{decimal}
 
--- the text of a result, how many runs came to it, and the number of the first of them
+-- A result: its text, how many runs had it, and the number of the first of them.
 pub record FindingState : Type 0 where
   pub text : List ℕ
   pub runs : ℕ
   pub first : ℕ
 
--- what is found in this many results
+-- The different results found, and how many results were noted.
 pub record FindingsState : Type 0 where
   pub found : List FindingState
   pub noted : ℕ
 
--- what is found, as the entries of a map say it
+-- the results in the entries of a map
 abbrev pub found_in : {K V : Type 0} → (text : K → List ℕ) → (runs first : V → ℕ) → List (K × V) → List FindingState
 found_in text runs first entries = map (λ e. record { text = text e.0; runs = runs e.1; first = first e.1 }) entries
 
--- the numbers of the first runs to each result
+-- the number of the first run with each result
 abbrev pub firsts : List FindingState → List ℕ
 firsts fs = map (λ (f : FindingState). f.first) fs
 
--- no result came more often than results were noted
+-- No result was noted more often than all results together.
 abbrev pub AreFew : FindingsState → Type 0
 AreFew f = All (λ (one : FindingState). one.runs ≤ f.noted) f.found
 
--- the place of a text, or how many there are where it is not found
+-- the place of a text, or the number of results if no result has it
 abbrev pub place_of : (text : List ℕ) → List FindingState → ℕ
 place_of text fs = position_or_len (λ (f : FindingState). bytes_eq text f.text) fs
 
--- one run more
+-- the result after one more run with it
 abbrev pub once_more : FindingState → FindingState
 once_more f = record f { runs = f.runs + 1 }
 
--- what was found at its place is counted once more; where nothing was, it is new
+-- the results after a run with this text: the result at the place is counted once more, or, if there is none, a new one
+-- is appended
 abbrev pub noted_at : List FindingState → (place : ℕ) → Option FindingState → (text : List ℕ) → (number : ℕ) →
     List FindingState
 noted_at fs place (Some f) text number = slice_set fs place (once_more f)
 noted_at fs place None text number = fs ++ (record { text = text; runs = 1; first = number }) ∷ []
 
--- the run of this number came to this text
+-- the results after the run with this number had this text
 abbrev pub noted : List FindingState → (text : List ℕ) → (number : ℕ) → List FindingState
 noted fs text number = noted_at fs (place_of text fs) (slice_get fs (place_of text fs)) text number
 

@@ -32,13 +32,13 @@ use Rattle.hunt_command.specs.Traces.{AreNotSaved, AreSaved, WhereAsked}
 
 -- ---- one run
 
--- the text of a result, and the exit status of the machine
+-- The result of a run: its text, and the exit status of the machine.
 pub record ResultState : Type 0 where
   pub text : List ℕ
   pub status : ℕ
 
--- The run of this number of this many steps and turns at most comes to this result: its steps are taken on a machine
--- that opens on the image.
+-- This is the result of the run with this number, of at most this many steps and turns, on a machine that opens on the
+-- image.
 pub record IsResultOf (c : Config) (image : ImageContents) (most number : ℕ) (r : ResultState) : Type 0 where
   pub end : SweepEnd
   pub log : Log
@@ -51,7 +51,7 @@ pub record IsResultOf (c : Config) (image : ImageContents) (most number : ℕ) (
   pub is : r.text ≡ result_of end machine tally.shown
   pub exit : IsExitOf machine r.status
 
--- The drain of a machine that stands after these steps leads to a result.
+-- The machine has taken these steps, and its drain leads to this result.
 pub record IsDrainedTo (opening : MachineLists) (steps : List Step) (old : MachineLists) (end : SweepEnd)
     (text : List ℕ) (status : ℕ) : Type 0 where
   pub machine : MachineLists
@@ -61,7 +61,7 @@ pub record IsDrainedTo (opening : MachineLists) (steps : List Step) (old : Machi
   pub is : text ≡ result_of end machine tally.shown
   pub exit : IsExitOf machine status
 
--- The log is that of the run of this number, and a trace can have its steps.
+-- The log is that of the run with this number, and a trace file can spell its steps.
 pub record IsLogOf (c : Config) (image : ImageContents) (most number : ℕ) (end : SweepEnd) (log : Log) : Type 0 where
   pub ran : IsRandomRun c image number most end log
   pub trace : IsTrace (trace_of c log.steps)
@@ -72,12 +72,12 @@ pub record IsLogOf (c : Config) (image : ImageContents) (most number : ℕ) (end
 abbrev pub number_at : (start place : ℕ) → ℕ
 number_at start place = (start + place) % 2 ^ 32
 
--- these are the results of runs, one after another, of which the first has this number
+-- These are the results of consecutive runs, the first of which has this number.
 abbrev pub AreResults : Config → ImageContents → (most start : ℕ) → List ResultState → Type 0
 AreResults c image most start results =
     (place : ℕ) (r : ResultState) → slice_get results place ≡ Some r → IsResultOf c image most (number_at start place) r
 
--- what is found once these results are noted too, of which the first is that of the run at a place
+-- the results found after these are noted too, the first of them as that of the run at this place
 abbrev pub found_from : (start place : ℕ) → List FindingState → List ResultState → List FindingState
 found_from start place fs [] = fs
 found_from start place fs (r ∷ rs) = found_from start (place + 1) (noted fs r.text (number_at start place)) rs
@@ -86,12 +86,13 @@ found_from start place fs (r ∷ rs) = found_from start (place + 1) (noted fs r.
 abbrev pub greater : (one other : ℕ) → ℕ
 greater one other = if nat_lt one other then other else one
 
--- the greatest of them
+-- the greatest of a status and the statuses of these results
 abbrev pub greatest_from : ℕ → List ResultState → ℕ
 greatest_from status [] = status
 greatest_from status (r ∷ rs) = greatest_from (greater r.status status) rs
 
--- This is found in this many runs, of which the first has this number, and this is the greatest of their exit statuses.
+-- These are the results found in this many runs, starting with this number, and this is the greatest of their exit
+-- statuses.
 pub record AreFound (c : Config) (image : ImageContents) (most start runs : ℕ) (found : List FindingState)
     (status : ℕ) : Type 0 where
   pub results : List ResultState
@@ -102,7 +103,7 @@ pub record AreFound (c : Config) (image : ImageContents) (most start runs : ℕ)
 
 -- ---- a hunt
 
--- A hunt that is asked for: the machine's size, which runs it takes, and the image's file.
+-- A hunt, as it is asked for: the machine's size, the runs, and the image's file.
 pub record AskedHunt : Type 0 where
   pub config : Config
   pub hunt : Hunt
@@ -111,8 +112,8 @@ pub record AskedHunt : Type 0 where
 abbrev pub asked_hunt : Config → Hunt → Input → AskedHunt
 asked_hunt c hunt file = record { config = c; hunt = hunt; file = file }
 
--- Where traces go, each under its number: what is found at a number, what is handed out for one and taken back; whether
--- a writer has failed, and what it is known to have.
+-- A store of traces, each under its number: whether it has a trace under a number, how a writer opens and closes,
+-- whether a writer has failed, and the bytes that it is known to have.
 pub record TraceStore (T W : Type 0) : Type 1 where
   pub finds : T → (number : ℕ) → (is_there : Bool) → Type 0
   pub opens : T → (number : ℕ) → W → T → Type 0
@@ -126,7 +127,7 @@ abbrev pub trace_store : {T W : Type 0} → (finds : T → (number : ℕ) → (i
 trace_store finds opens closes has_failed contents =
     record { finds = finds; opens = opens; closes = closes; has_failed = has_failed; contents = contents }
 
--- Where traces go, if they are asked for, before and after a hunt.
+-- The store of traces, if they are asked for, before and after a hunt.
 pub record HuntTraces (T W : Type 0) : Type 1 where
   pub store : TraceStore T W
   pub old : Option T
@@ -135,20 +136,19 @@ pub record HuntTraces (T W : Type 0) : Type 1 where
 abbrev pub hunt_traces : {T W : Type 0} → TraceStore T W → (old new : Option T) → HuntTraces T W
 hunt_traces store old new = record { store = store; old = old; new = new }
 
--- This is found in the runs of a hunt of the image that the file means, and this is the greatest of their exit
--- statuses.
+-- These are the results found by the hunt on the image in the file, and this is the greatest exit status of its runs.
 pub record HasFound (h : AskedHunt) (image : ImageContents) (found : List FindingState) (status : ℕ) : Type 0 where
   pub meant : IsImageOf h.config.shared_words h.file.bytes image
   pub are : AreFound h.config image (most_of h.hunt.budget) h.hunt.start h.hunt.runs found status
 
--- The traces of the first runs to each result are written, where traces are asked for, and no other.
+-- If traces are asked for, those of the first runs with each result are written, and no others.
 abbrev pub HasSaved : {T W : Type 0} → AskedHunt → HuntTraces T W → ImageContents → List FindingState → Type 0
 HasSaved h t image found =
     WhereAsked (AreSaved t.store.finds t.store.opens t.store.closes t.store.has_failed t.store.contents h.config image
     (most_of h.hunt.budget) (firsts found)) t.old t.new
 
--- This is to be printed of a hunt of the image that the file means, and this is its exit status. The traces are
--- written.
+-- This is the text of the hunt on the image in the file, and this is its exit status. The traces are written, if they
+-- are asked for.
 pub record IsHunt {T W : Type 0} (h : AskedHunt) (t : HuntTraces T W) (status : ℕ) (text : List ℕ) : Type 0 where
   pub image : ImageContents
   pub found : List FindingState
@@ -156,11 +156,11 @@ pub record IsHunt {T W : Type 0} (h : AskedHunt) (t : HuntTraces T W) (status : 
   pub saved : HasSaved h t image found
   pub lines : text ≡ findings_lines found
 
--- the same, with whatever exit status
+-- This is the text of the hunt, with some exit status.
 abbrev pub IsSomeHunt : {T W : Type 0} → AskedHunt → HuntTraces T W → (text : List ℕ) → Type 0
 IsSomeHunt h t text = (status : ℕ) × IsHunt h t status text
 
--- The traces of what is found are written in part, or none is, as this refusal says.
+-- The traces of the results found are written in part or not at all, for this reason.
 pub record HasNotSaved {T W : Type 0} (h : AskedHunt) (t : HuntTraces T W) (r : Refused) : Type 0 where
   pub image : ImageContents
   pub found : List FindingState
@@ -169,9 +169,8 @@ pub record HasNotSaved {T W : Type 0} (h : AskedHunt) (t : HuntTraces T W) (r : 
   pub unsaved : AreNotSaved t.store.finds t.store.opens t.store.closes t.store.has_failed t.store.contents h.config
       image (most_of h.hunt.budget) (firsts found) t.old t.new r
 
--- Why nothing is printed: the image is refused; the machine's size is out of its limits; a trace is there already, or
--- cannot be written; or what is to be printed cannot be. Of a lack of memory no more is said than which traces are
--- written then: none, or the first.
+-- Why nothing is printed: the image is refused; the machine's size is out of limits; a trace exists already or cannot
+-- be written; or the text cannot be printed. If there is no memory, no trace or only the first ones are written.
 abbrev pub IsRefused : {T W : Type 0} → AskedHunt → HuntTraces T W → Output → Refused → Type 0
 IsRefused h t out (refused.There n) = HasNotSaved h t (refused.There n)
 IsRefused h t out (refused.Fault (fault.Image e)) =
@@ -184,7 +183,7 @@ IsRefused h t out (refused.Fault fault.Link) = PrintsPrefix (IsSomeHunt h t) out
 IsRefused h t out (refused.Fault fault.Memory) = (t.new ≡ t.old) ⊎ HasNotSaved h t (refused.Fault fault.Memory)
 IsRefused h t out (refused.Fault other) = ⊥
 
--- Why the command fails: the refusal has its cause, and is that of a link exactly if the link has failed.
+-- Why the command fails: the refusal has a cause, and it is that of a link exactly if the link has failed.
 pub record HuntFails {T W : Type 0} (h : AskedHunt) (t : HuntTraces T W) (out : Output) (r : Refused) : Type 0 where
   pub cause : IsRefused h t out r
   pub unread : IsOfLink (refused.Fault (fault.Image of_image.Link)) h.file.has_failed r
@@ -192,12 +191,13 @@ pub record HuntFails {T W : Type 0} (h : AskedHunt) (t : HuntTraces T W) (out : 
 
 -- ---- the exit status
 
--- the exit status that says why nothing is printed
+-- the exit status for a refusal
 abbrev pub status_of : Refused → ℕ
 status_of (refused.Fault f) = status_of_fault f
 status_of (refused.There n) = 2
 
--- Standard error has got the line that reports a fault; or, if a write failed, a beginning of it.
+-- Standard error got the line that reports a fault, or, if a write failed, a beginning of it. Nothing is said about the
+-- report of a trace that exists already.
 abbrev pub IsRefusalReported : (bytes bytes' : Option (List ℕ)) → Refused → Type 0
 IsRefusalReported bytes bytes' (refused.Fault f) = IsReported bytes bytes' f
 IsRefusalReported bytes bytes' (refused.There n) = Unit {0}

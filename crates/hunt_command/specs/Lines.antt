@@ -1,4 +1,4 @@
--- The lines of what a run comes to.
+-- The lines of a run's result.
 use Rattle.std.specs.Prelude.{ℕ, zero, suc, ◌^◌, List, [], ◌++◌, codes, slice_index_or}
 use Rattle.std.specs.Fmt.{decimal}
 use Rattle.flat_machine.specs.declared.event.Status.{Status}
@@ -22,14 +22,13 @@ outcome_line number status shown =
     codes "processor " ++ decimal number ++ codes " " ++ status_text status ++ codes " console "
     ++ console_text shown.console ++ line_feed
 
--- the lines of the first processors, which have shown this
+-- the lines of the first processors, given what they have shown
 abbrev pub outcome_lines : MachineLists → List ShownBy → (count : ℕ) → List ℕ
 outcome_lines m shown zero = []
 outcome_lines m shown (suc p) = outcome_lines m shown p
     ++ outcome_line p (processor_of m p).status (slice_index_or shown p nothing_shown)
 
--- What a run comes to: how it ended, how each processor stands and what it gave to the console, and the shared words
--- that are not zero. How many instructions a processor has retired, and where it stands, is left out: it may wait for
--- ever in a loop.
+-- the result of a run: how it ended, the status and the console bytes of each processor, and the shared words that are
+-- not zero; not a processor's retired instructions and pc, since it may wait in a loop for ever
 abbrev pub result_of : SweepEnd → MachineLists → List ShownBy → List ℕ
 result_of end m shown = end_line end ++ outcome_lines m shown (2 ^ m.config.k) ++ shared_lines m m.config.shared_words

@@ -1,4 +1,4 @@
--- What a machine's log enters by a schedule, and where a run ends.
+-- Which steps of a schedule a log takes, and how a run ends.
 use Rattle.std.specs.Prelude.{◌≡◌, ◌⊎◌, ℕ, ◌+◌, ◌≤◌, ◌<◌, List, [], ◌++◌, length, take}
 use Rattle.flat_machine.specs.declared.config.Config.{Config}
 use Rattle.elf_image.specs.Images.{ImageContents}
@@ -12,13 +12,13 @@ use Rattle.schedules.specs.declared.sweeping.SweepEnd.{SweepEnd}
 use Rattle.schedules.specs.declared.sweeping.SweepEnd.TheVariants.{Over, Budget}
 use Rattle.hunt_command.specs.Schedules.{schedule}
 
--- where a run has ended that leaves this many steps at most, and these of its schedule unasked
+-- The run has ended in this way, given its steps, their limit, and the steps of its schedule that were not asked for.
 abbrev pub EndsWith : (opening : MachineLists) → (start limit : ℕ) → (steps unasked : List Step) → SweepEnd → Type 0
 EndsWith m start limit steps unasked Over = IsOver m start steps
 EndsWith m start limit steps unasked Budget = ((length steps ≡ limit) ⊎ (unasked ≡ [])) × (IsOver m start steps → ⊥)
 
--- A log was asked for the steps of a schedule, one after another, until a fault stopped a processor, none ran, it had
--- this many steps, or all were asked for. It has entered each that did something.
+-- The log was asked for the steps of the schedule, one after another, until a fault stopped a processor, no processor
+-- ran, the log had this many steps, or all had been asked for. It has logged each step that did something.
 pub record WasAsked (plan : List Step) (limit : ℕ) (old : Log) (end : SweepEnd) (new : Log) : Type 0 where
   pub opening : new.opening ≡ old.opening
   pub replay : IsReplay new.opening new.steps new.machine
@@ -27,12 +27,12 @@ pub record WasAsked (plan : List Step) (limit : ℕ) (old : Log) (end : SweepEnd
   pub all : plan ≡ asked ++ unasked
   pub steps : new.steps ≡ entered_of old.opening old.steps asked
   pub few : length new.steps ≤ limit
-  -- it was not over before
+  -- The run was not over before.
   pub first : (place : ℕ) → length old.steps ≤ place → place < length new.steps →
       IsOver old.opening (length old.steps) (take place new.steps) → ⊥
   pub ends : EndsWith old.opening (length old.steps) limit new.steps unasked end
 
--- A log has run by the schedule of this number, for this many steps and turns at most, and was then drained.
+-- The log has run by the schedule with this number, for at most this many steps and turns, and was then drained.
 pub record HasRunAtRandom (number most : ℕ) (old : Log) (end : SweepEnd) (new : Log) : Type 0 where
   pub middle : Log
   pub asked : WasAsked (schedule old.machine.config.k number most) (length old.steps + most) old end middle
@@ -40,7 +40,7 @@ pub record HasRunAtRandom (number most : ℕ) (old : Log) (end : SweepEnd) (new 
   pub steps : new.steps ≡ middle.steps ++ drain_steps middle.machine
   pub idle : IsIdle new.machine
 
--- The log has run so from its machine's opening on an image.
+-- The log has run in this way from its machine's opening on the image.
 pub record IsRandomRun (c : Config) (image : ImageContents) (number most : ℕ) (end : SweepEnd)
     (log : Log) : Type 0 where
   pub opens : IsOpening c image log.opening

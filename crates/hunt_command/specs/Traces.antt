@@ -1,4 +1,4 @@
--- The traces of a hunt: what is written under which number.
+-- The traces of a hunt: which trace is written under which number.
 use Rattle.std.specs.Prelude.{◌≡◌, ◌⊎◌, ℕ, Bool, true, false, All, List, [], ◌∷◌, Option, Some, None, slice_get, take}
 use Rattle.std.specs.Io.KnownBytes.{Appends}
 use Rattle.link.specs.Transfer.{AppendsPart}
@@ -16,14 +16,14 @@ use Rattle.hunt_command.specs.Runs.{IsRandomRun}
 
 -- ---- one trace
 
--- The trace of the run of this number is written, after what was there.
+-- The trace of the run with this number is appended.
 pub record IsRunSaved (c : Config) (image : ImageContents) (most number : ℕ) (old new : Option (List ℕ)) : Type 0 where
   pub end : SweepEnd
   pub log : Log
   pub ran : IsRandomRun c image number most end log
   pub saved : Appends old new (trace_bytes (trace_of c log.steps))
 
--- A beginning of it is, and not all of it.
+-- A beginning of the trace of the run with this number, and not all of it, is appended.
 pub record IsRunBegun (c : Config) (image : ImageContents) (most number : ℕ) (old new : Option (List ℕ)) : Type 0 where
   pub end : SweepEnd
   pub log : Log
@@ -32,12 +32,12 @@ pub record IsRunBegun (c : Config) (image : ImageContents) (most number : ℕ) (
 
 -- ---- traces, each under its number
 
--- Where traces go: what is handed out for a number and what is taken back; whether a writer has failed, and what it is
--- known to have.
+-- A store of traces: how a writer opens for a number and closes, whether it has failed, and the bytes that it is known
+-- to have.
 module _ {T W : Type 0} (opens : T → (number : ℕ) → W → T → Type 0) (closes : T → W → T → Type 0) (has_failed : W →
     Bool)
     (contents : W → Option (List ℕ)) where
-  -- The writer of this number is handed out, gets what is said, and is taken back; nothing else is done.
+  -- The writer for this number is opened, used as `what` says, and closed; nothing else is done.
   pub record IsWritten (number : ℕ) (what : (before after : W) → Type 0) (old new : T) : Type 0 where
     pub middle : T
     pub before : W
@@ -47,27 +47,27 @@ module _ {T W : Type 0} (opens : T → (number : ℕ) → W → T → Type 0) (c
     pub closed : closes middle after new
 
   module _ (c : Config) (image : ImageContents) (most : ℕ) where
-    -- The trace of the run of this number is written under it.
+    -- The trace of the run with this number is written under the number.
     abbrev pub IsWhole : (number : ℕ) → (old new : T) → Type 0
     IsWhole n = IsWritten n (λ before after. IsRunSaved c image most n (contents before) (contents after))
 
-    -- The writer failed after a beginning of it.
+    -- The writer failed after a beginning of that trace.
     abbrev pub IsPart : (number : ℕ) → (old new : T) → Type 0
     IsPart n = IsWritten n (λ before after. (has_failed after ≡ true)
         × IsRunBegun c image most n (contents before) (contents after))
 
-    -- The traces of the runs of these numbers are written, one after another, each under its number, and nothing else
+    -- The traces of the runs with these numbers are written, one after another, each under its number, and nothing else
     -- is.
     abbrev pub AreWritten : (numbers : List ℕ) → (old new : T) → Type 0
     AreWritten [] old new = new ≡ old
     AreWritten (n ∷ ns) old new = (middle : T) × IsWhole n old middle × AreWritten ns middle new
 
-    -- Those of the first this many are written, and nothing else is.
+    -- The traces of the first `count` numbers are written, and nothing else is.
     pub record AreBegun (numbers : List ℕ) (old new : T) : Type 0 where
       pub count : ℕ
       pub whole : AreWritten (take count numbers) old new
 
-    -- Those of the first this many are written, then a beginning of the next, and nothing else is.
+    -- The traces of the first `count` numbers are written, then a beginning of the next, and nothing else is.
     pub record AreCut (numbers : List ℕ) (old new : T) : Type 0 where
       pub count : ℕ
       pub middle : T
@@ -76,13 +76,13 @@ module _ {T W : Type 0} (opens : T → (number : ℕ) → W → T → Type 0) (c
       pub next : slice_get numbers count ≡ Some number
       pub part : IsPart number middle new
 
-    -- Why it is not written: its writer has failed, or there was no memory, and then nothing is done.
+    -- Why a trace is not written: its writer has failed, or there was no memory, and then nothing is done.
     abbrev pub IsNotWhole : (number : ℕ) → (old new : T) → Fault → Type 0
     IsNotWhole number old new (fault.Trace e) = (e ≡ of_trace.Link) × IsPart number old new
     IsNotWhole number old new fault.Memory = new ≡ old
     IsNotWhole number old new other = ⊥
 
-    -- Why not all are written: a writer has failed, or there was no memory.
+    -- Why not all traces are written: a writer has failed, or there was no memory.
     abbrev pub AreNotWritten : (numbers : List ℕ) → (old new : T) → Fault → Type 0
     AreNotWritten numbers old new (fault.Trace e) = (e ≡ of_trace.Link) × AreCut numbers old new
     AreNotWritten numbers old new fault.Memory = AreBegun numbers old new
@@ -90,25 +90,25 @@ module _ {T W : Type 0} (opens : T → (number : ℕ) → W → T → Type 0) (c
 
 -- ---- traces that are asked for or not
 
--- Where traces are asked for, this is what becomes of them.
+-- If traces are asked for, their store changes in this way.
 abbrev pub WhereAsked : {T : Type 0} → (becomes : T → T → Type 0) → (old new : Option T) → Type 0
 WhereAsked becomes None None = Unit {0}
 WhereAsked becomes (Some old) (Some new) = becomes old new
 WhereAsked becomes None (Some new) = ⊥
 WhereAsked becomes (Some old) None = ⊥
 
--- Traces are asked for, and this is what becomes of them.
+-- Traces are asked for, and their store changes in this way.
 abbrev pub AreAsked : {T : Type 0} → (becomes : T → T → Type 0) → (old new : Option T) → Type 0
 AreAsked becomes (Some old) (Some new) = becomes old new
 AreAsked becomes (Some old) None = ⊥
 AreAsked becomes None new = ⊥
 
--- What is found at numbers where traces are to go: none.
+-- The store has no trace under any of these numbers.
 abbrev pub AreFree : {T : Type 0} → (finds : T → (number : ℕ) → (is_there : Bool) → Type 0) → (numbers : List ℕ) → T →
     Type 0
 AreFree finds numbers t = All (λ n. finds t n false) numbers
 
--- One is found there, under this one of the numbers.
+-- The store has a trace under this one of the numbers.
 pub record IsThereAt {T : Type 0} (finds : T → (number : ℕ) → (is_there : Bool) →
     Type 0) (numbers : List ℕ) (number : ℕ) (t : T) : Type 0 where
   pub place : ℕ
@@ -119,12 +119,13 @@ module _ {T W : Type 0} (finds : T → (number : ℕ) → (is_there : Bool) → 
     Type 0)
     (closes : T → W → T → Type 0) (has_failed : W → Bool) (contents : W →
     Option (List ℕ)) (c : Config) (image : ImageContents) (most : ℕ) where
-  -- The traces of these runs are written, none of which was there.
+  -- No trace existed under these numbers, and the traces of their runs are written.
   abbrev pub AreSaved : (numbers : List ℕ) → (old new : T) → Type 0
   AreSaved numbers old new = AreFree finds numbers old
       × AreWritten opens closes has_failed contents c image most numbers old new
 
-  -- Why not all are: one is there already, or they cannot be written. None is before it is known that none was there.
+  -- Why not all traces are written: one exists already, and none is written; there is no memory to look, and none is
+  -- written; or none existed, and they cannot all be written.
   abbrev pub AreNotSaved : (numbers : List ℕ) → (old new : Option T) → Refused → Type 0
   AreNotSaved numbers old new (refused.There n) = AreAsked (λ t t'. IsThereAt finds numbers n t × (t' ≡ t)) old new
   AreNotSaved numbers old new (refused.Fault f) =

@@ -1,4 +1,4 @@
-//! `ultra hunt`: from the bytes of an image to the lines of what its runs come to.
+//! `ultra hunt`: from the bytes of an image to the results of its runs.
 
 ghost use Rattle.std.specs.Prelude.{◌≡◌, ◌≤◌, ◌↔◌, true, false, IfOk, IfErr, IsErrOf, OnErr, OnOk};
 ghost use Rattle.flat_machine.specs.Limits.{IsWithinLimits};
@@ -25,22 +25,21 @@ use std::io::Write;
 /// Which runs a hunt takes.
 #[derive(Clone, Copy, Debug, PartialEq, Eq, Drop)]
 pub struct Hunt {
-    /// How many steps a run may take, and for how many turns it may ask.
+    /// The maximum number of steps of a run, and of turns that it asks for.
     pub budget: u32,
-    /// How many runs there are.
+    /// The number of runs.
     pub runs: u32,
-    /// The number of the first run. Each other has the next number, and 0 comes after the greatest.
+    /// The number of the first run. Each later run has the next number, and 0 comes after the greatest.
     pub start: u32,
 }
 
-/// Runs the image that a file is on machines of this size, by the random schedules of numbers, and prints what the
-/// runs come to, each different result once. How far the runs are is reported meanwhile. Where traces are asked for,
-/// that of the first run to each result is written before; where one of these is there already, none is, and nothing
-/// is printed.
+/// Reads an image, runs it on machines of this size by random schedules, one for each number, and prints each different
+/// result of the runs once. The observer sees the progress of the hunt. If traces are asked for, that of the first run
+/// to each result is written first. If one of these traces exists already, none is written and nothing is printed.
 ///
-/// Answers the exit status: 0 where all is printed, 1 where it is and a processor is faulted in a run, else that of
-/// what is reported on standard error. That is reported in this order: of the image, of the machine's size, of a trace
-/// that is there, of one that cannot be written, of standard output.
+/// Returns the exit status: 0 if all is printed, 1 if all is printed and a fault has stopped a processor in a run, else
+/// that of the refusal reported on standard error. Refusals are checked in this order: of the image, of the machine's
+/// size, of a trace that exists, of one that cannot be written, of standard output.
 pub fn hunt_command<R: LinkRead, T: Traces, G: HuntObserver, W: LinkWrite, E: Write>(
     alloc: Global,
     file: &mut R,
@@ -73,7 +72,7 @@ pub fn hunt_command<R: LinkRead, T: Traces, G: HuntObserver, W: LinkWrite, E: Wr
     }
 }
 
-/// Tells why nothing is printed, and answers the exit status.
+/// Reports why nothing is printed, and returns the exit status.
 fn tell_refused<T: Traces, E: Write>(refused: Refused, traces: &Option<T>, err: &mut E) -> u8
     ensures fault { result ≡ status_of refused }
     ensures high { 2 ≤ result }
@@ -89,7 +88,7 @@ fn tell_refused<T: Traces, E: Write>(refused: Refused, traces: &Option<T>, err: 
     }
 }
 
-/// Carries the command out.
+/// Executes the command.
 fn execute<R: LinkRead, T: Traces, G: HuntObserver, W: LinkWrite>(
     alloc: Global,
     file: &mut R,
@@ -118,8 +117,8 @@ fn execute<R: LinkRead, T: Traces, G: HuntObserver, W: LinkWrite>(
     hunt_image(alloc, &image, config, hunt, traces, observer, out)
 }
 
-/// Prints what the runs of an image come to, and writes their traces before, where these are asked for.
-// A function of its own, so that none has many values to drop at each of its ends.
+/// Prints the results of the runs of an image. Writes the traces first, if they are asked for.
+// A separate function, so that neither has many values to drop at each return.
 fn hunt_image<T: Traces, G: HuntObserver, W: LinkWrite>(
     alloc: Global,
     image: &Image,
@@ -152,7 +151,7 @@ fn hunt_image<T: Traces, G: HuntObserver, W: LinkWrite>(
     Ok(status)
 }
 
-/// What the runs of a hunt come to, and the greatest of their exit statuses.
+/// The results of the runs of a hunt, and the greatest of their exit statuses.
 fn watched<G: HuntObserver>(
     alloc: Global,
     image: &Image,

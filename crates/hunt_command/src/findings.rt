@@ -1,4 +1,4 @@
-//! Different results, and how often each came.
+//! The different results of runs, and how many runs had each.
 
 ghost use Rattle.std.specs.Prelude.{◌≡◌, ◌+◌, ◌++◌, ◌<◌, ◌^◌, [], Some, IfOk, OnOk, length, slice_get, string_bytes};
 ghost use Rattle.indexmap.specs.IndexMap.{index_map_len};
@@ -10,18 +10,17 @@ use std::alloc::{AllocError, Global};
 use std::fmt::Write;
 use std::marker::Model;
 
-/// How many runs came to a result, and the number of the first of them.
+/// How many runs had a result, and the number of the first of them.
 #[derive(Clone, Copy, Debug, PartialEq, Eq, Drop)]
 struct Counted {
     runs: u32,
     first: u32,
 }
 
-/// Different results, in the order in which they came first. Contracts see what is found, and how many results are
-/// noted.
+/// Different results, ordered by their first runs. Contracts see the results found, and how many results were noted.
 #[derive(Drop)]
 pub struct Findings {
-    /// By the text of each.
+    /// The counts, by the text of each result.
     found: IndexMap<String, Counted>,
     noted: u32,
 }
@@ -44,7 +43,7 @@ impl Model for Findings {
 }
 
 impl Findings {
-    /// No result is noted.
+    /// Findings with no result noted.
     pub fn new(alloc: Global) -> Self
         ensures { result ≡ record { found = []; noted = 0 } }
     {
@@ -54,14 +53,14 @@ impl Findings {
         }
     }
 
-    /// How many results are found.
+    /// How many different results were found.
     pub fn count(&self) -> usize
         ensures { result ≡ length self.now.found }
     {
         self.found.len()
     }
 
-    /// The number of the first run that came to the result at a place.
+    /// The number of the first run with the result at a place.
     pub fn first_at(&self, place: usize) -> u32
         requires { place < length self.now.found }
         ensures { slice_get (firsts self.now.found) place ≡ Some result }
@@ -72,11 +71,11 @@ impl Findings {
         }
     }
 
-    /// Notes the result of the run of a number.
+    /// Notes the result of the run with this number.
     ///
     /// # Errors
     ///
-    /// [`AllocError`] where there is no memory for it.
+    /// [`AllocError`] if there is no memory for it.
     pub fn add(&mut self, text: String, number: u32) -> Result<(), AllocError>
         requires { self.old.noted + 1 < 2 ^ 32 }
         ensures { OnOk result (self.new
@@ -103,7 +102,7 @@ impl Findings {
     }
 }
 
-/// Puts what is counted of the result at a place.
+/// Replaces the counts of the result at a place.
 fn put_at(found: &mut IndexMap<String, Counted>, place: usize, counted: Counted)
     requires { place < index_map_len found.old }
     ensures { found.new.entries ≡ set_value_at found.old.entries place counted }
@@ -123,11 +122,11 @@ fn push_result(text: &mut String, found: &str, counted: &Counted) -> Result<(), 
     text.push_str(found)
 }
 
-/// The lines of all that is found.
+/// The lines of all results found.
 ///
 /// # Errors
 ///
-/// [`AllocError`] where there is no memory for them.
+/// [`AllocError`] if there is no memory for them.
 pub fn findings_text(alloc: Global, findings: &Findings) -> Result<String, AllocError>
     ensures { IfOk result (λ text. string_bytes text ≡ findings_lines findings.now.found) }
 {

@@ -1,13 +1,13 @@
 //! `ultra hunt`: from the bytes of an image to the different results of its runs by random schedules.
 //!
-//! A run has a number. [`random_run`] asks for the steps of a schedule that is made of that number, the size of the
-//! machine and the budget alone (`specs/Schedules.antt`), and enters those that do something, until a fault stops a
-//! processor, none runs, or the budget is used up; then it drains the machine. So the same number gives the same run
-//! ([`random_runs_have_one_log`]).
+//! A run has a number. That number, the size of the machine and the budget determine its schedule
+//! (`specs/Schedules.antt`). [`random_run`] asks for the steps of the schedule, and logs those that do something, until
+//! a fault stops a processor, none runs, or the budget is used up; then it drains the machine. So the same number gives
+//! the same run ([`random_runs_have_one_log`]).
 //!
-//! What a run comes to is a [`result_text`]. Runs that come to the same text are counted together ([`Findings`]), and
-//! each text is printed once. Where traces are asked for, that of the first run to each result is written, to where
-//! [`Traces`] says, unless one of them is there already. How far the runs are, a [`HuntObserver`] is reported.
+//! The result of a run is a text ([`result_text`]). Runs with the same text are counted together ([`Findings`]), and
+//! each text is printed once. If traces are asked for, that of the first run with each result is written where
+//! [`Traces`] says, unless one of them exists already. A [`HuntObserver`] sees the progress.
 #![tactic(auto)]
 
 mod command;

@@ -15,12 +15,12 @@ use std::alloc::{AllocError, Global};
 use std::fmt::Write;
 use trace_commands::push_words;
 
-/// What a run came to that ended so and left this machine, whose processors have shown this: how it ended, a line for
-/// each processor and one for each shared word that is not zero.
+/// The result of a run: how it ended, a line for each processor, and a line for each shared word that is not zero. The
+/// run left this machine, and the tally says what the processors have shown.
 ///
 /// # Errors
 ///
-/// [`AllocError`] where there is no memory for it.
+/// [`AllocError`] if there is no memory for it.
 pub fn result_text(
     alloc: Global,
     end: SweepEnd,

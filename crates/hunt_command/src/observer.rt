@@ -1,20 +1,20 @@
-//! Who sees it how far a hunt is.
+//! Observers of a hunt's progress.
 
 use std::time::{Clock, Instant};
 
-/// How many milliseconds a line stands at least, before it is written again.
+/// The minimum number of milliseconds before the line is written again.
 const LEAST: u64 = 1000;
 
-/// One who is reported how far a hunt is.
+/// Receives the progress of a hunt.
 pub trait HuntObserver {
-    /// This many runs are over by now, and this many different results are found.
+    /// This many runs are over, and this many different results were found.
     fn ran(&mut self, runs: u32, results: usize);
 
-    /// All runs are over, or no more are taken.
+    /// All runs are over, or the hunt stops early.
     fn over(&mut self);
 }
 
-/// One to whom it is all the same.
+/// An observer that ignores the progress.
 #[derive(Clone, Copy, Debug, Drop)]
 pub struct NoHuntProgress;
 
@@ -24,21 +24,20 @@ impl HuntObserver for NoHuntProgress {
     fn over(&mut self) {}
 }
 
-/// One who says on a terminal how many runs are over, how many were in each second of those that have gone by, and how
-/// many results are found. There is one line, which is written again at most once a second, and not in the first. It
-/// is gone once the runs are over.
+/// Shows on a terminal how many runs are over, how many a second on average, and how many results were found. It
+/// rewrites one line at most once a second, for the first time after a second, and clears it after the runs.
 #[derive(Drop)]
 pub struct HuntProgress<'a, C: Clock, E: Eprint> {
     clock: &'a C,
     terminal: &'a E,
-    /// None where the clock cannot be read: nothing is reported then.
+    /// None if the clock cannot be read; then nothing is shown.
     begun: Option<Instant>,
-    /// How many milliseconds after the beginning the line was written last; 0 where it has not been.
+    /// When the line was last written, in milliseconds since the beginning, or 0 if it has not been written.
     written: u64,
 }
 
 impl<'a, C: Clock, E: Eprint> HuntProgress<'a, C, E> {
-    /// That of a hunt which begins now.
+    /// The progress of a hunt that begins now.
     pub fn new(clock: &'a C, terminal: &'a E) -> Self {
         HuntProgress {
             clock,
@@ -48,7 +47,7 @@ impl<'a, C: Clock, E: Eprint> HuntProgress<'a, C, E> {
         }
     }
 
-    /// How many milliseconds have gone by, where the line is to be written.
+    /// The milliseconds since the beginning, if the line is to be written now.
     fn due(&self) -> Option<u64> {
         let since = self.begun?.elapsed(self.clock).ok()?;
         let now = u64::try_from(since.as_millis()).ok()?;

@@ -12,7 +12,7 @@ use std::alloc::AllocError;
 pub enum Refused {
     /// A fault that has a code.
     Fault(Fault),
-    /// There is a trace already where that of the run of this number is to go.
+    /// A trace exists already where that of the run with this number is to be written.
     There(u32),
 }
 

@@ -18,14 +18,14 @@ use machine_steps::any_runs;
 use schedules::{MAX_BUDGET, SweepEnd, is_over, most_steps};
 use steps::{NoObserver, Outcome, Step, StepObserver};
 
-/// Asks for the steps of the schedule of a number, until a fault stops a processor, no processor runs, or as many
-/// steps are entered, or as many turns asked for, as the budget has, [`MAX_BUDGET`] at most. Then takes steps until no
-/// reference is open, as [`Logged::drain`] does. For all these steps it makes room first.
+/// Asks for the steps of the schedule with this number, until a fault stops a processor, no processor runs, or the
+/// number of steps logged or of turns asked for reaches the budget, or [`MAX_BUDGET`] if that is smaller. Then takes
+/// steps until no reference is open, as [`Logged::drain`] does. Makes room for all these steps first.
 ///
 /// # Errors
 ///
-/// [`LockRefusal::Full`] where the log would pass [`steps::MAX_STEPS`] steps with as many, else
-/// [`LockRefusal::Memory`] where there is no memory for them. Each leaves all as it was.
+/// [`LockRefusal::Full`] if the log could then pass [`steps::MAX_STEPS`] steps, else [`LockRefusal::Memory`] if there
+/// is no memory for them. Either leaves the log unchanged.
 pub fn random_run(log: &mut Logged, number: u32, budget: u32) -> Result<SweepEnd, LockRefusal>
     ensures ran { IfOk result (λ end. HasRunAtRandom number (most_of budget) log.old end log.new) }
     ensures records { OnOk result (HaveRecords log.old.machine.config.k log.old.steps →
@@ -41,8 +41,8 @@ pub fn random_run(log: &mut Logged, number: u32, budget: u32) -> Result<SweepEnd
     Ok(run(log.room(room)?, number, most))
 }
 
-/// Asks for the steps of the schedule of a number in a log that has none, as [`random_run`] does, and observer each
-/// that is entered. It does not drain the machine.
+/// Asks for the steps of the schedule with this number, as [`random_run`] does, in a log that has none yet. The tally
+/// notes each step logged. Does not drain the machine.
 ///
 /// # Errors
 ///
@@ -72,7 +72,7 @@ pub(crate) fn observed_run(
     }
 }
 
-/// Runs for this many steps and turns at most, and then drains the machine. There is room for the steps.
+/// Runs for at most this many steps and turns, and then drains the machine. The log has room for the steps.
 fn run(log: &mut ReservedLog, number: u32, most: u32) -> SweepEnd
     requires few { most ≤ 4000000 }
     requires room { most + drain_bound log.old.log.machine.config ≤ log.old.capacity_left }
@@ -87,12 +87,12 @@ fn run(log: &mut ReservedLog, number: u32, most: u32) -> SweepEnd
     end
 }
 
-/// Asks for steps of the schedule of a number, this many steps and turns at most, and observer each that is entered.
-/// There is room for them.
+/// Asks for at most this many steps and turns of the schedule with this number. The observer sees each step logged. The
+/// log has room for the steps.
 ///
 /// # Errors
 ///
-/// That of the observer.
+/// The refusal of the observer.
 fn asked<N: StepObserver>(
     log: &mut ReservedLog,
     number: u32,
@@ -116,12 +116,12 @@ fn asked<N: StepObserver>(
     ask(log, &mut schedule, limit, observer)
 }
 
-/// Asks for the steps of a schedule, until the run is over, the log has this many steps, or all are asked for, and
-/// observer each that is entered.
+/// Asks for the steps of a schedule, until the run is over, the log has this many steps, or all have been asked for.
+/// The observer sees each step logged.
 ///
 /// # Errors
 ///
-/// That of the observer.
+/// The refusal of the observer.
 fn ask<N: StepObserver>(
     log: &mut ReservedLog,
     schedule: &mut Schedule,
@@ -155,11 +155,11 @@ fn ask<N: StepObserver>(
     Ok(SweepEnd::Budget)
 }
 
-/// Notes what a step did that has not stalled.
+/// Shows the observer a step and its outcome, unless the step stalled.
 ///
 /// # Errors
 ///
-/// That of the observer.
+/// The refusal of the observer.
 #[inline(always)]
 fn observe_unless_stalled<N: StepObserver>(
     observer: &mut N,

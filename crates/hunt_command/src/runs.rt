@@ -1,4 +1,4 @@
-//! Runs, and what they come to.
+//! Runs and their results.
 
 ghost use Rattle.std.specs.Prelude.{◌≡◌, ◌≤◌, List, IfErr, IfOk, length, string_bytes};
 ghost use Rattle.machine_steps.specs.Machines.{AreHome, MachineLists};
@@ -21,12 +21,12 @@ use schedules::SweepEnd;
 use std::alloc::Global;
 use trace_commands::{drained, exit_status};
 
-/// The log of the run of a number, on a machine of this size that opens on a copy of the image, and where the run
+/// The log of the run with this number, on a machine of this size that opens on a copy of the image, and how the run
 /// ended.
 ///
 /// # Errors
 ///
-/// [`Fault::Size`] where the size is out of its limits, and [`Fault::Memory`].
+/// [`Fault::Size`] if the size is out of limits, and [`Fault::Memory`].
 pub(crate) fn run_of(
     alloc: Global,
     image: &Image,
@@ -40,15 +40,15 @@ pub(crate) fn run_of(
 {
     let mut log = Logged::new(alloc, opened(alloc, image, config)?);
     let Ok(end) = random_run(&mut log, number, budget) else {
-        // A new log has room for the longest run, so memory is all that it can want.
+        // A new log has room for the longest run, so it refuses only if out of memory.
         return Err(Fault::Memory);
     };
     laws::log_is_well_formed(&log);
     Ok((log, end))
 }
 
-/// What the run of a number comes to: its text, and its exit status. What the processors show is counted as the steps
-/// are taken.
+/// The result of the run with this number: its text and its exit status. A tally notes what the processors show as they
+/// take the steps.
 fn result_of(
     alloc: Global,
     image: &Image,
@@ -71,8 +71,8 @@ fn result_of(
     drained_result(alloc, machine, end, tally)
 }
 
-/// What a run comes to that ended so, once its machine is drained.
-// A function of its own, so that none has many values to drop at each of its ends.
+/// The result of a run that ended in this way, after its machine is drained.
+// A separate function, so that neither has many values to drop at each return.
 fn drained_result(
     alloc: Global,
     machine: Machine,
@@ -102,12 +102,12 @@ fn greater(one: u8, other: u8) -> u8
     if one < other { other } else { one }
 }
 
-/// What this many runs come to, of which the first has this number, and the greatest of their exit statuses. How far
-/// they are is reported meanwhile.
+/// The results of this many runs, starting with this number, and the greatest of their exit statuses. The observer sees
+/// the progress.
 ///
 /// # Errors
 ///
-/// [`Fault::Size`] where the size is out of its limits, and [`Fault::Memory`].
+/// [`Fault::Size`] if the size is out of limits, and [`Fault::Memory`].
 pub(crate) fn findings_of<G: HuntObserver>(
     alloc: Global,
     image: &Image,

@@ -18,46 +18,46 @@ use std::alloc::{AllocError, Global};
 use std::io::Write;
 use trace_file::write_trace;
 
-/// Where traces go, each under the number of its run. One writer at a time is handed out.
+/// A store of traces, each under the number of its run. Only one writer is open at a time.
 pub trait Traces {
     type Writer: LinkWrite;
 
-    /// Whether a trace is found that is there already under a number.
+    /// Whether the store already has a trace under this number.
     ghost finds: { Self → (number : ℕ) → (is_there : Bool) → Type 0 };
 
-    /// What is handed out for a number, and what becomes of the traces.
+    /// The writer that opens for a number, and the store after that.
     ghost opens: { Self → (number : ℕ) → Self.Writer → Self → Type 0 };
 
-    /// What becomes of the traces where the writer that was handed out last comes back as it is now.
+    /// The store after the last opened writer is closed as it is now.
     ghost closes: { Self → Self.Writer → Self → Type 0 };
 
-    /// Whether there is a trace already under the number of a run, which is not to be lost.
+    /// Returns whether the store already has a trace under the number of a run, which must not be overwritten.
     ///
     /// # Errors
     ///
-    /// [`AllocError`] where there is no memory to look.
+    /// [`AllocError`] if there is no memory to look.
     fn is_there(&self, number: u32) -> Result<bool, AllocError>
         ensures { IfOk result (finds self.now number) };
 
-    /// Tells on standard error that there is one already under this number.
+    /// Reports on standard error that the store already has a trace under this number.
     fn tell_there<E: Write>(&self, number: u32, err: &mut E);
 
-    /// Hands out what the trace of the run of a number is written to. No call of it has failed.
+    /// Opens the writer for the trace of the run with this number. No call of it has failed.
     ///
     /// # Errors
     ///
-    /// [`AllocError`] where there is no memory for it. Then all is as it was.
+    /// [`AllocError`] if there is no memory for it. Then the store is unchanged.
     fn open(&mut self, number: u32) -> Result<Self::Writer, AllocError>
         ensures works { IfOk result (λ writer. Self.Writer.has_failed writer ≡ false) }
         ensures opened { IfOk result (λ writer. opens self.old number writer self.new) }
         ensures refused { OnErr result (self.new ≡ self.old) };
 
-    /// Takes back what was handed out last, once all is written to it.
+    /// Closes the last opened writer, after the trace is written to it.
     fn close(&mut self, writer: Self::Writer)
         ensures { closes self.old writer self.new };
 }
 
-/// Writes the trace of the first run to each result, where traces are asked for and none of these is there.
+/// Writes the trace of the first run with each result, if traces are asked for and none of these exists.
 pub(crate) fn save_all<T: Traces>(
     alloc: Global,
     image: &Image,
@@ -87,7 +87,7 @@ pub(crate) fn save_all<T: Traces>(
     Ok(())
 }
 
-/// The number of a first run under which there is a trace already.
+/// The number of a first run under which a trace exists already, if there is one.
 fn there<T: Traces>(findings: &Findings, traces: &T) -> Result<Option<u32>, AllocError>
     ensures { IfOk result (λ number. MatchOption number (AreFree T.finds (firsts findings.now.found) traces.now)
         (λ n. IsThereAt T.finds (firsts findings.now.found) n traces.now)) }
@@ -101,7 +101,7 @@ fn there<T: Traces>(findings: &Findings, traces: &T) -> Result<Option<u32>, Allo
     Ok(None)
 }
 
-/// Writes the trace of the first run to each result.
+/// Writes the trace of the first run with each result.
 fn save_each<T: Traces>(
     alloc: Global,
     image: &Image,
@@ -127,7 +127,7 @@ fn save_each<T: Traces>(
     Ok(())
 }
 
-/// Writes the trace of the run of a number, which is taken once more.
+/// Takes the run with this number again, and writes its trace.
 #[tactic(auto, using(crate::proofs::Writing::not_begun))]
 fn save_run<T: Traces>(
     alloc: Global,

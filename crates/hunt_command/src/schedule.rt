@@ -1,4 +1,4 @@
-//! The schedule of a run: which step is asked for next.
+//! The schedule of a run: the next step to ask for.
 
 ghost use Rattle.std.specs.Prelude.{◌≡◌, ◌≤◌, ◌<◌, ◌+◌, ◌*◌, ◌/◌, ◌%◌, ◌^◌, ◌==◌, ◌∷◌, [], None, IfSome, if◌then◌else◌};
 ghost use Rattle.std.specs.Prelude.{length};
@@ -9,7 +9,7 @@ use schedules::{choice_at, first_state, laws, next_state};
 use std::marker::Model;
 use steps::Step;
 
-/// The schedule of a run. Contracts see the steps that it has still to ask for.
+/// The schedule of a run. Contracts see the steps that are still to be asked for.
 #[derive(Debug, Drop)]
 pub struct Schedule {
     k: u8,
@@ -17,11 +17,11 @@ pub struct Schedule {
     number: u32,
     /// The state of the generator.
     state: u32,
-    /// The processor that is favoured.
+    /// The favoured processor.
     favourite: u8,
-    /// How many turns are still to be asked for.
+    /// The number of turns still to be asked for.
     turns: u32,
-    /// The place in the list of choices of the network's next step, or how many there are.
+    /// The place of the network's next step in the list of choices, or the number of choices if none is left.
     place: u32,
 }
 
@@ -54,7 +54,7 @@ impl Schedule {
         }
     }
 
-    /// The next step. None where all were asked for.
+    /// The next step, or None if all have been asked for.
     pub fn next(&mut self) -> Option<Step>
         ensures next { IfSome result (λ step. self.old ≡ step ∷ self.new) }
         ensures over { result ≡ None → self.old ≡ [] }
@@ -75,7 +75,7 @@ impl Schedule {
     }
 }
 
-/// How many choices there are.
+/// The number of choices.
 fn capacity_left(k: u8) -> u32
     requires { k ≤ 6 }
     ensures count { result ≡ 2 * k * 2 ^ k + 2 ^ k }
@@ -86,14 +86,14 @@ fn capacity_left(k: u8) -> u32
     2 * u32::from(k) * wires + wires
 }
 
-/// The place in the list of choices after a turn that left this state: its beginning, or its end, where the place is.
+/// The place in the list of choices after a turn that left this state: the list's beginning, or its end.
 fn place_behind(state: u32, end: u32) -> u32
     ensures { result ≡ (if state / 2 ^ 8 % 2 == 0 then 0 else end) }
 {
     if state / 256 % 2 == 0 { 0 } else { end }
 }
 
-/// Which processor is favoured after a state of the generator.
+/// The processor that is favoured after this state of the generator.
 fn favoured_processor(k: u8, number: u32, state: u32, before: u8) -> u8
     requires stages { k ≤ 6 }
     requires there { before < 2 ^ k }
