@@ -1,4 +1,4 @@
--- What a runner leaves is what `cont` does, or leaves all as it was.
+-- What a runner does is what `cont` does.
 use Rattle.std.proofs.Common.{◌≡◌, ◌↔◌, Bool, List, Result, Ok, Err, refl}
 use Rattle.std.specs.Prelude.{OnErr, OnOk}
 use Rattle.flat_machine.specs.Flat.{flat_run}
@@ -10,7 +10,7 @@ use Rattle.machine_log.specs.declared.refusal.LockRefusal.TheVariants as refusal
 use Rattle.debug_session.specs.Runs.{HasDriven, RunSpec}
 use Rattle.debug_session.specs.Answers.{Continues, ending_of}
 
--- the law of runs, for these two logs
+-- The law of runs, for these two logs.
 abbrev IsInOrder : (old new : Log) → Type 0
 IsInOrder old new =
     IsWellFormed old → IsWellFormed new → IsIdle old.machine → (run : HasDriven old new) →
@@ -22,7 +22,7 @@ done_is_not_full answer nothing is e = cc
 memory_is_not_full : {T : Type 0} (answer : Result T LockRefusal) → answer ≡ Err refusal.Memory → answer ≡ Err refusal.Full → ⊥
 memory_is_not_full answer is e = cc
 
--- What a runner leaves is what `cont` does, and if the runner refuses, the log is as it was.
+-- What a runner does is what `cont` does; if the runner refuses, `cont` is refused, and the log is as it was.
 pub gone_on : {T : Type 0} (run : RunSpec) (breaks : List Bool) (old new : Log) (answer : Result T LockRefusal) → IsInOrder old new → IsWellFormed old →
     IsWellFormed new
     → IsIdle old.machine → OnOk answer (HasDriven old new) → OnOk answer (run.runs breaks old new) → (answer ≡ Err refusal.Full) ↔ run.lacks_room old

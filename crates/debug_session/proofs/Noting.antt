@@ -1,4 +1,4 @@
--- Which processors have retired an instruction, from step to step.
+-- Which processors have retired an instruction, step by step.
 use Rattle.std.proofs.Common.{◌≡◌, ℕ, ◌≤◌, ◌⊎◌, inl, inr, List, [], ◌∷◌, ◌++◌, length, refl, sym, ap, ◌∙◌, subst, append_assoc}
 use Rattle.steps.specs.declared.step.Step.{Step}
 use Rattle.steps.specs.declared.step.Step.TheVariants as step
@@ -8,7 +8,7 @@ use Rattle.debug_session.specs.Breaks.{HasRetired, IsRetirement, Retires}
 use Rattle.debug_session.proofs.Splits.{split_last}
 
 module _ (m : MachineLists) (start : ℕ) (done : List Step) where
-  -- A processor that has retired an instruction has done so after one step more.
+  -- A processor that has retired an instruction still has after one more step.
   pub retired_more : (s : Step) (p : ℕ) → HasRetired m start done p → HasRetired m start (done ++ s ∷ []) p
   retired_more s p h = record {
     before = h.before;
@@ -18,7 +18,7 @@ module _ (m : MachineLists) (start : ℕ) (done : List Step) where
     retired = h.retired;
   }
 
-  -- If the next step retires an instruction of a processor, it has retired one after this step.
+  -- If the next step retires an instruction of a processor, the processor has retired one after this step.
   pub retired_now : (s : Step) (p : ℕ) → start ≤ length done → Retires s (answer_after m done s) p → HasRetired m start (done ++ s ∷ []) p
   retired_now (step.Turn q) p behind (same, retired) = record {
     before = done;
@@ -32,7 +32,7 @@ module _ (m : MachineLists) (start : ℕ) (done : List Step) where
   retired_now (step.Down s w) p behind r = absurd r
   retired_now (step.Poke q) p behind r = absurd r
 
-  -- what has retired after a step more has retired before, or in it
+  -- A processor that has retired an instruction after one more step had retired one before, or retires one in it.
   pub retired_either : (s : Step) (p : ℕ) → HasRetired m start (done ++ s ∷ []) p → HasRetired m start done p ⊎ Retires s (answer_after m done s) p
   retired_either s p h = by (split_last done h.before h.rest s (step.Turn p) h.is)
     where

@@ -1,4 +1,4 @@
--- A session's machine opens as that of the log that it began with.
+-- The log that a session leaves has the opening of the log with which it began.
 use Rattle.std.proofs.Common.{◌≡◌, ◌∙◌, ◌+◌, ◌*◌, ℕ, zero, suc, Bool, true, false, List, [], ◌∷◌, length, Option, Some, None, Ok, Err, ap}
 use Rattle.flat_machine.specs.declared.poke.Poke.{Poke}
 use Rattle.flat_machine.specs.declared.poke.Poke.TheVariants as poke
@@ -91,7 +91,7 @@ talked run old (event ∷ events) (reply ∷ replies) new h =
 talked run old [] (reply ∷ replies) new h = absurd h
 talked run old (event ∷ events) [] new h = absurd h
 
--- what a session leaves opens as what it began with
+-- The log that a session leaves has the opening of the log with which it began.
 pub opens_alike : (run : RunSpec) (r0 r1 w0 w1 : Option (List ℕ)) (old new : Log) (end : SessionEnd) → HasServed run r0 r1 w0 w1 old new end →
     new.opening ≡ old.opening
 opens_alike run r0 r1 w0 w1 old new end served =

@@ -1,4 +1,4 @@
--- A round in which each step stalls is quiet from end to end.
+-- A round in which each step stalls is quiet as a whole.
 use Rattle.std.proofs.Common.{◌≡◌, ℕ, ◌^◌, ◌<◌, ◌≤◌, ◌⊎◌, inl, inr, [], ◌∷◌, ◌++◌, length, Some, sym, ap, ◌∙◌, subst, arith}
 use Rattle.std.specs.Prelude.{slice_get}
 use Rattle.std.proofs.lemmas.Bool.{cases_lt}
@@ -17,7 +17,7 @@ use Rattle.schedules.specs.Skips.{AreQuiet, IsNext, IsQuiet}
 use Rattle.machine_steps.specs.Standing.{HasRunning}
 use Rattle.debug_session.proofs.Stepping.{entered_either}
 
--- The round has entered a step, or what it has asked for so far stalls, and a processor runs.
+-- The round has logged a step; or all steps asked for so far stall, and a processor runs.
 abbrev pub HasMoved : (count : ℕ) → (place : ℕ) → Log → Type 0
 HasMoved count place l = (count < length l.steps) ⊎ ((length l.steps ≡ count) × HasRunning l.machine × AreQuiet l.machine 0 place)
 
@@ -40,7 +40,7 @@ module _ (l new : Log) (s : Step) (o : Outcome) (taken : HasTaken l s o new) (st
     ap (λ (M : theory.Machine ObservedCore). (M.core p).state.status) machine_is ∙ runs,
   )
 
-  -- the step itself is quiet
+  -- The step itself is quiet.
   quiet_now : (place : ℕ) → slice_get (round l.machine.config.k) place ≡ Some s → IsQuiet l.machine place
   quiet_now place there t also =
       let same : t ≡ s = (let both = sym also ∙ there in cc) in
@@ -57,7 +57,7 @@ module _ (l new : Log) (s : Step) (o : Outcome) (taken : HasTaken l s o new) (st
           let same : n.place ≡ place =
           omega (arith, next, here, to) in quiet_now place (subst (λ i. slice_get (round l.machine.config.k) i ≡ Some s) same n.there)
 
--- a step more
+-- After one more step, the round has logged a step, or all steps asked for so far stall.
 pub moved_more : (count behind behind' : ℕ) (l new : Log) (s : Step) (o : Outcome) → HasTaken l s o new → IsNext l.machine behind s behind' →
     HasMoved count behind l → HasMoved count behind' new
 moved_more count behind behind' l new s o taken next so_far = by (entered_either l.steps s o) so_far
@@ -70,7 +70,7 @@ moved_more count behind behind' l new s o taken next so_far = by (entered_either
     by (inr one) (inr (is, runs, quiet)) =
         inl (let now = ap length (taken.steps ∙ one) in let plus = length-append l.steps (s ∷ []) in omega (arith, now, plus, is))
 
--- the rest of the round is quiet too
+-- If the round is quiet up to a place and from it on, it is quiet as a whole.
 all_quiet : (m : MachineLists) (place : ℕ) → AreQuiet m 0 place → AreQuiet m place (length (round m.config.k)) → AreQuiet m 0 (length (round m.config.k))
 all_quiet m place front rest i from to = by (cases_lt i place)
   where
@@ -78,7 +78,7 @@ all_quiet m place front rest i from to = by (cases_lt i place)
     by (inl less) = front i from less
     by (inr more) = rest i more to
 
--- At the end of a round it has entered a step, since a round of a machine in which a processor runs is not quiet.
+-- At its end, a round has logged a step, since no round is quiet while a processor runs.
 pub some_moved : (count place : ℕ) (l : Log) → ((m : MachineLists) → IsMachine m → HasRunning m → AreQuiet m 0 (length (round m.config.k)) → ⊥) →
     IsMachine l.machine → AreQuiet l.machine place (length (round l.machine.config.k)) → HasMoved count place l → count < length l.steps
 some_moved count place l law is rest (inl more) = more

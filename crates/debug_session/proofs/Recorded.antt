@@ -45,7 +45,7 @@ shared_has_record : (n address value : ℕ) → 0x80000000 ≤ address → addre
     has_poke_record n (poke.Shared address value) ≡ true
 shared_has_record n address value least most byte = grind (arith, nat_tests)
 
--- a write that a machine of this size can take
+-- A poke that is lawful for a machine of this size has a record.
 poke_has_record : (c : Config) → c.shared_words ≤ 262144 → (q : Poke) → is_lawful_poke c q ≡ true → has_poke_record (2 ^ c.k) q ≡ true
 poke_has_record c few (poke.Register p register value) lawful =
     let word = and_parts (nat_lt value (2 ^ 32)) (nat_lt p (2 ^ c.k) && is_lawful_register register value) lawful in
@@ -114,7 +114,7 @@ have_records c code limits M [] moves = All-nil (HasRecord c.k)
 have_records c code limits M (s ∷ ss) moves =
     All-cons (HasRecord c.k) s ss (has_record c code M limits s moves.0) (have_records c code limits (after c code M s) ss moves.1)
 
--- the trace of a log has a spelling
+-- A trace file can spell the steps of a log.
 pub has_trace : (log : Log) → IsWellFormed log → IsTrace (trace_of log.machine.config log.steps)
 has_trace log kept =
     let opening = log.opening in

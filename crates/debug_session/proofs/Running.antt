@@ -1,4 +1,4 @@
--- A sweep that was drained is a run of steps of the machine's own.
+-- A sweep and its drain are steps without pokes.
 use Rattle.std.proofs.Common.{ℕ, Bool, List, ◌++◌, ap, ◌∙◌, subst, append_assoc}
 use Rattle.steps.specs.declared.step.Step.{Step}
 use Rattle.machine_steps.specs.Draining.{drain_steps}
@@ -11,7 +11,7 @@ use Rattle.debug_session.specs.Runs.{HasDriven}
 use Rattle.debug_session.specs.Sweeps.{HasContinued}
 use Rattle.schedules.proofs.Lemmas.{own_both}
 
--- A sweep, followed by its drain, has driven the log by steps of the machine's own.
+-- A sweep and its drain take the log on by steps without pokes, after which no reference is open.
 pub has_run : ReplaysAreCut → ((m : MachineLists) → AreOwn (drain_steps m)) → (breaks : List Bool) (budget : ℕ) (old new : Log) →
     HasContinued breaks budget old new → IsReplay old.opening old.steps old.machine →
     IsReplay new.opening new.steps new.machine → HasDriven old new

@@ -1,4 +1,4 @@
--- What a command that has no error names is there.
+-- If a command has no error, what it names exists.
 use Rattle.std.proofs.Common.{◌≡◌, ◌≢◌, ℕ, zero, suc, ◌<◌, ◌≤◌, ◌^◌, ◌%◌, ◌==◌, ◌&&◌, ◌||◌, not, Bool, true}
 use Rattle.std.proofs.Common.{false, List, [], ◌∷◌, length, Option, Some, None, Ok, Err, refl, subst, arith}
 use Rattle.std.specs.Prelude.{if◌then◌else◌}
@@ -22,7 +22,7 @@ use Rattle.debug_replies.specs.declared.error.Error.{Error}
 use Rattle.debug_replies.specs.declared.error.Error.TheVariants as error
 use Rattle.debug_replies.specs.Errors.{error_of, has_addresses, is_malformed, is_named_below, is_range, processor_of, register_of}
 
--- four tests in a row, each with its error: where there is none, all pass
+-- If none of four tests in a row gives its error, all of them pass.
 all_pass : (a b p r : Bool) →
     (if a then Some error.Form else if not b then Some error.Address else if not p then Some error.Processor else if not r then Some error.Register else
     None) ≡ None → (b ≡ true) × (p ≡ true) × (r ≡ true)
@@ -37,32 +37,32 @@ sound : (m : FlatState) (c : Command) → error_of m c ≡ None →
 unfolding error_of
 sound m c e = all_pass (is_malformed c) (has_addresses m c) (is_named_below (length m.processors) (processor_of c)) (is_named_below 33 (register_of c)) e
 
--- a machine has 64 processors at most, so the number of one is a byte
+-- The number of a processor is below 64.
 pub few : (m : MachineLists) (p : ℕ) → IsMachine m → length (flat_state m).processors ≡ 2 ^ m.config.k → p < length (flat_state m).processors → p < 64
 few m p is count there = let most : 2 ^ m.config.k ≤ 2 ^ 6 = pow_mono is.limits.stages in omega (arith, most, count, there)
 
--- the processor that is named
+-- If a command `set` has no error, the processor that it names exists.
 pub set_processor : (m : FlatState) (p r value : ℕ) → error_of m (Set p r value) ≡ None → p < length m.processors
 set_processor m p r value e = ltb-true p (length m.processors) (sound m (Set p r value) e).1
 
--- If a command that writes bytes has no error, the processor that it names is there.
+-- If a command `write` has no error, the processor that it names exists.
 pub write_processor : (m : FlatState) (p address : ℕ) (bytes : List ℕ) → error_of m (Write p address bytes) ≡ None → p < length m.processors
 write_processor m p address bytes e = ltb-true p (length m.processors) (sound m (Write p address bytes) e).1
 
--- If a command `step` has no error, the processor that it names is there.
+-- If a command `step` has no error, the processor that it names exists.
 pub step_processor : (m : FlatState) (p : ℕ) → error_of m (Step p) ≡ None → p < length m.processors
 step_processor m p e = ltb-true p (length m.processors) (sound m (Step p) e).1
 
--- the register
+-- If a command `set` has no error, its register is one of the 32, or the pc, which is 32.
 pub set_register : (m : FlatState) (p r value : ℕ) → error_of m (Set p r value) ≡ None → r < 33
 set_register m p r value e = ltb-true r 33 (sound m (Set p r value) e).2
 
--- and its value
+-- If a command `set` has no error and writes the pc, its value is a multiple of 4.
 set_value : (m : FlatState) (p r value : ℕ) → error_of m (Set p r value) ≡ None → (not (r == 32) || value % 4 == 0) ≡ true
 unfolding has_addresses
 set_value m p r value e = (sound m (Set p r value) e).0
 
--- the addresses of bytes
+-- If a command `write` has no error, its addresses are a range that can be written.
 pub write_range : (m : FlatState) (p address : ℕ) (bytes : List ℕ) → error_of m (Write p address bytes) ≡ None →
     is_range m true address (length bytes) ≡ true
 unfolding has_addresses
@@ -76,7 +76,7 @@ only : (P : Poke → Type 0) (q : Poke) → P q → All P (q ∷ [])
 only P q is zero d below = is
 only P q is (suc k) d below = absurd (omega arith)
 
--- the write of a register
+-- If a command `set` has no error, its poke is lawful.
 pub set_is_lawful : (m : MachineLists) (p r value : ℕ) → length (flat_state m).processors ≡ 2 ^ m.config.k → error_of (flat_state m) (Set p r value) ≡ None →
     r ≢ 0 → value < 2 ^ 32 → AreLawful m.config (poke.Register p r value ∷ [])
 set_is_lawful m p r value count e some small =
@@ -90,7 +90,7 @@ no_error : (run : RunSpec) (e : Option Error) (old new : Session) (c : Command) 
 no_error run None old new c done acts = refl
 no_error run (Some e) old new c done acts = let refused : Ok done ≡ Err e = acts.0 in cc
 
--- the processor of a step is a byte
+-- If a command `step` is executed, the number of its processor is a byte.
 pub step_is_small : (run : RunSpec) (old new : Session) (c : Command) (done : Unit {0}) (p : ℕ) → IsMachine old.log.machine →
     length (flat_state old.log.machine).processors ≡ 2 ^ old.log.machine.config.k →
     ActsUnless run (error_of (flat_state old.log.machine) c) old c (Ok done) new → c ≡ Step p → p < 256

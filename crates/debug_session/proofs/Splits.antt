@@ -1,9 +1,9 @@
--- A list with one more at its end, split at a place.
+-- A list with one more step at its end, split at a place.
 use Rattle.std.proofs.Common.{◌≡◌, ◌⊎◌, inl, inr, List, [], ◌∷◌, ◌++◌, length, refl, ap, arith}
 use Rattle.std.proofs.lemmas.List.{length-append}
 use Rattle.steps.specs.declared.step.Step.{Step}
 
--- The place is the last, or it is one of the list.
+-- The place is the last, or it is in the list.
 pub split_last : (done before rest : List Step) (s x : Step) → done ++ s ∷ [] ≡ before ++ x ∷ rest →
     ((rest ≡ []) × (done ≡ before) × (s ≡ x)) ⊎ ((rest' : List Step) × (done ≡ before ++ x ∷ rest'))
 split_last [] [] rest s x e =

@@ -1,4 +1,4 @@
--- The machine that a log has, and the one that its steps leave, stand alike.
+-- The machine of a log, and the one that its steps leave, are in the same state.
 use Rattle.std.proofs.Common.{◌≡◌, ℕ, ◌^◌, ◌<◌, Bool, List, [], sym, ap, ◌∙◌, subst}
 use Rattle.flat_machine.specs.declared.config.Config.{Config}
 use Rattle.flat_machine.specs.State.{Processor}

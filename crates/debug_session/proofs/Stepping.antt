@@ -1,4 +1,4 @@
--- A sweep from step to step.
+-- A sweep, step by step.
 use Rattle.std.proofs.Common.{◌≡◌, ℕ, ◌^◌, ◌<◌, ◌≤◌, ◌⊎◌, inl, inr, ◌↔◌, Bool, true, false, List, []}
 use Rattle.std.proofs.Common.{◌∷◌, ◌++◌, length, refl, sym, ap, ◌∙◌, subst, append_assoc, arith}
 use Rattle.std.proofs.lemmas.Bool.{true≢false}
@@ -20,7 +20,7 @@ use Rattle.debug_session.proofs.Noting.{retired_either, retired_more, retired_no
 use Rattle.debug_session.proofs.Splits.{split_last}
 use Rattle.debug_session.proofs.Standing.{at_break, has_running, stands_there}
 
--- A step is entered, or it has stalled.
+-- A step was logged, or it stalled.
 pub entered_either : (steps : List Step) (s : Step) (o : Outcome) →
     ((o ≡ outcome.Stalled) × (entered steps s o ≡ steps)) ⊎ (entered steps s o ≡ steps ++ s ∷ [])
 entered_either steps s outcome.Stalled = inl (refl, refl)
@@ -71,7 +71,7 @@ module _ (breaks : List Bool) (limit : ℕ) (old l new : Log) (flags : List Bool
       by (inl (stalled, same)) = inl (stalled, taken.steps ∙ same)
       by (inr more) = inr (taken.steps ∙ more)
 
-  -- what it has more
+  -- The log has more steps than the old one, and none of these is a poke.
   abbrev More : Type 0
   More = (more : List Step) × (new.steps ≡ old.steps ++ more) × AreOwn more
 
@@ -86,13 +86,13 @@ module _ (breaks : List Bool) (limit : ℕ) (old l new : Log) (flags : List Bool
         own_both u.more (s ∷ []) u.own (own, tt),
       )
 
-  -- the step is no turn at a break
+  -- The step is no turn of a processor at a break.
   clear_now : (p : ℕ) → s ≡ step.Turn p → StandsAtBreak m breaks start l.steps p → ⊥
   clear_now p is stands =
       clear (subst (MeetsBreak l.machine breaks flags) (sym is)
       (at_break m l.machine l.steps (subst (λ n. IsReplay n l.steps l.machine) u.opening u.replay) breaks flags start u.noted p stands))
 
-  -- What stands among its steps is the new one, at the end, or stood there before.
+  -- A step of the new log is the last one, or was in the log before.
   abbrev Placed : List Step → List Step → Step → Type 0
   Placed before rest t = ((rest ≡ []) × (l.steps ≡ before) × (s ≡ t)) ⊎ ((rest' : List Step) × (l.steps ≡ before ++ t ∷ rest'))
 
@@ -110,7 +110,7 @@ module _ (breaks : List Bool) (limit : ℕ) (old l new : Log) (flags : List Bool
       by (inl (none, alike, last)) = clear_now p last (subst (λ xs. StandsAtBreak m breaks start xs p) (sym alike) stands)
       by (inr (rest', there)) = u.breaks_are_met before rest' p there from stands
 
-  -- a step that is no fault
+  -- After a step that is no fault, the sweep is still under way.
   pub goes_on : (flags' : List Bool) → ((p : ℕ) → p < 2 ^ m.config.k → (is_noted flags' p ≡ true) ↔ ((is_noted flags p ≡ true) ⊎ Retires s o p)) →
       (IsFault o → ⊥) → IsUnderWay breaks limit old flags' new
   goes_on flags' marks plain = record {
@@ -165,7 +165,7 @@ module _ (breaks : List Bool) (limit : ℕ) (old l new : Log) (flags : List Bool
             λ h. fact l.steps (back (retired_either m start l.steps s p (subst (λ xs. HasRetired m start xs p) one h))),
           )
 
-  -- a step that is a fault
+  -- After a step that is a fault, the sweep has ended.
   pub ends_by_fault : IsFault o → HasSwept breaks limit old new
   ends_by_fault fault = record {
     opening = opens;
@@ -190,7 +190,7 @@ module _ (breaks : List Bool) (limit : ℕ) (old l new : Log) (flags : List Bool
       ends (inl (stalled, same)) = absurd (subst IsFault stalled fault)
       ends (inr one) = record { before = l.steps; last = s; is = one; behind = behind; fault = subst IsFault answer_is fault }
 
--- Where a sweep that is under way may end, it has swept.
+-- If a sweep under way has reason to end, it has ended.
 pub ends_here : (breaks : List Bool) (limit : ℕ) (old l : Log) (flags : List Bool) → IsUnderWay breaks limit old flags l →
     EndsHere old.opening breaks (length old.steps) limit l.steps → HasSwept breaks limit old l
 ends_here breaks limit old l flags u ends = record {
@@ -229,7 +229,7 @@ module _ (breaks : List Bool) (limit : ℕ) (old l : Log) (flags : List Bool) (u
   ends_with_budget full =
       ends_here breaks limit old l flags u (inr (inr (inl (let few = u.few in let same : length l.steps ≡ limit = omega (arith, few, full) in same))))
 
--- It begins with no step of its own.
+-- A sweep begins with no step of its own.
 pub begins : (breaks : List Bool) (limit : ℕ) (old : Log) (flags : List Bool) → IsReplay old.opening old.steps old.machine → length old.steps ≤ limit →
     ((p : ℕ) → p < 2 ^ old.opening.config.k → is_noted flags p ≡ false) → IsUnderWay breaks limit old flags old
 begins breaks limit old flags replay few none = record {

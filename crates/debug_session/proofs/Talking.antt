@@ -69,7 +69,7 @@ end_of_stop ReadFailed events replies unread missing left p = absurd p
 end_of_stop Memory events replies unread missing left p = p
 end_of_stop TraceFull events replies unread missing left p = p
 
--- A fact that holds in any case holds if the session was begun, however it ended.
+-- A fact that holds in any case holds if the session began, however it ended.
 pub served : (end : SessionEnd) (A : Type 0) → A → IsServed end A (Unit {0})
 served Quit A a = a
 served EndOfInput A a = a
@@ -80,7 +80,7 @@ served TraceFull A a = tt
 
 -- ---- pieces
 
--- one more part of a piece is fed
+-- After a read within the rest of a piece, the piece is still what was fed and what is left.
 pub fed_more : (piece input rest : List ℕ) (n k : ℕ) → length rest ≤ k → piece ≡ input ++ rest → piece ≡ (input ++ take n rest) ++ take (k - n) (drop n rest)
 fed_more piece input rest n k h e = rw (between_to_end rest n k h, append_assoc, take-append-drop) e
 
@@ -91,11 +91,11 @@ fed_part piece input rest n e = rw (append_assoc, take-append-drop) e
 take_none : (n : ℕ) (xs : List ℕ) → n ≡ 0 → take n xs ≡ []
 take_none n xs e = rw e refl
 
--- a read that took nothing
+-- A read of no bytes takes nothing more from the reader.
 pub takes_nothing : (a b c : Option (List ℕ)) (xs buf : List ℕ) (n : ℕ) → n ≡ 0 → Consumes a b xs → Consumes b c (take n buf) → Consumes a c xs
 takes_nothing a b c xs buf n e p q = rw append-nil at (Consumes-trans a b c xs [] p (rw (take_none n buf e) at q))
 
--- a piece of which a part was read
+-- If a piece is taken from the reader and split in two, both parts are taken in a row.
 pub takes_part : (a b c : Option (List ℕ)) (xs ys zs piece : List ℕ) → Consumes a b xs → Consumes b c piece → piece ≡ ys ++ zs →
     Consumes a c ((xs ++ ys) ++ zs)
 takes_part a b c xs ys zs piece p q e = rw (append_assoc xs ys zs, ← e) (Consumes-trans a b c xs piece p q)
@@ -110,7 +110,7 @@ module _ (run : RunSpec) where
   dialogue_both old mid new [] fs (r ∷ rs) ss p q = absurd p
   dialogue_both old mid new (e ∷ es) fs [] ss p q = absurd p
 
-  -- A dialogue goes on over no bytes, and leaves all as it was.
+  -- A dialogue over no bytes leaves all as it was.
   pub goes_none : (h : Held) (s : Session) (w : Option (List ℕ)) → Goes run h s w [] h s w
   goes_none h s w = record {
     events = [];
@@ -121,7 +121,7 @@ module _ (run : RunSpec) where
     none = tt;
   }
 
-  -- A dialogue that goes on over some bytes, and then over others, goes on over both in a row.
+  -- If a dialogue goes on over some bytes, and then over others, it goes on over both in a row.
   pub goes_both : (h0 h1 h2 : Held) (s0 s1 s2 : Session) (w0 w1 w2 : Option (List ℕ)) (xs ys : List ℕ) → Goes run h0 s0 w0 xs h1 s1 w1 →
       Goes run h1 s1 w1 ys h2 s2 w2 → Goes run h0 s0 w0 (xs ++ ys) h2 s2 w2
   goes_both h0 h1 h2 s0 s1 s2 w0 w1 w2 xs ys p q = record {
@@ -135,7 +135,7 @@ module _ (run : RunSpec) where
     none = none_both p.events q.events p.none q.none;
   }
 
-  -- bytes in which no event ends
+  -- If no event ends in the bytes, the dialogue goes on with no event.
   pub goes_quietly : (h k : Held) (s : Session) (w : Option (List ℕ)) (xs : List ℕ) → Reads h xs [] k → Goes run h s w xs k s w
   goes_quietly h k s w xs r = record {
     events = [];
@@ -146,7 +146,7 @@ module _ (run : RunSpec) where
     none = tt;
   }
 
-  -- an event that was answered
+  -- If one event ends in the bytes, is answered whole and is not `quit`, the dialogue goes on.
   pub goes_one : (h k : Held) (s t : Session) (w v : Option (List ℕ)) (xs : List ℕ) (e : Event) (reply : List ℕ) → Reads h xs (e ∷ []) k →
       Answers run s (asked e) reply t → is_quit e ≡ false → Appends w v (reply ++ 10 ∷ []) → Goes run h s w xs k t v
   goes_one h k s t w v xs e reply r p n a = record {
@@ -191,7 +191,7 @@ module _ (run : RunSpec) where
     );
   }
 
-  -- A dialogue that goes on over some bytes, and then stops within others, stops within both in a row.
+  -- If a dialogue goes on over some bytes, and then stops within others, it stops within both in a row.
   pub goes_and_stops : (h0 h1 h2 : Held) (s0 s1 s2 : Session) (w0 w1 w2 : Option (List ℕ)) (xs ys : List ℕ) (end : SessionEnd) →
       Goes run h0 s0 w0 xs h1 s1 w1 → Stops run h1 s1 w1 ys h2 s2 w2 end → Stops run h0 s0 w0 (xs ++ ys) h2 s2 w2 end
   goes_and_stops h0 h1 h2 s0 s1 s2 w0 w1 w2 xs ys end p q = record {
@@ -206,7 +206,7 @@ module _ (run : RunSpec) where
     stop = stop_behind end p.events q.events p.replies q.replies q.missing p.none q.stop;
   }
 
-  -- it ends at its reader
+  -- If the reader ends or fails after a dialogue that goes on, the dialogue is a conversation with that end.
   pub ends_at_reader : (h k : Held) (s t : Session) (r0 r1 w0 w1 : Option (List ℕ)) (input : List ℕ) (end : SessionEnd) → IsAfter [] [] h →
       Consumes r0 r1 input → Goes run h s w0 input k t w1 →
       ((events : List Event) (replies : List (List ℕ)) → NoneQuits events → IsEnd end events replies [] [] r1) → Conversation run r0 r1 w0 w1 s t end
@@ -226,7 +226,7 @@ module _ (run : RunSpec) where
     ending = e p.events p.replies p.none;
   }
 
-  -- it ends at an event
+  -- If a dialogue stops at an event, it is a conversation with that end.
   pub ends_at_event : (h k : Held) (s t : Session) (r0 r1 w0 w1 : Option (List ℕ)) (input unread : List ℕ) (end : SessionEnd) → IsAfter [] [] h →
       Consumes r0 r1 (input ++ unread) → Stops run h s w0 input k t w1 end → Conversation run r0 r1 w0 w1 s t end
   ends_at_event h k s t r0 r1 w0 w1 input unread end a c p = record {
@@ -245,7 +245,7 @@ module _ (run : RunSpec) where
     ending = end_of_stop end p.events p.replies unread p.missing r1 p.stop;
   }
 
-  -- A conversation that begins after a drain, with no break, and leaves no reference open, is a session served.
+  -- A conversation that begins after a drain, with no break, and leaves no reference open is a whole session.
   pub has_served : (r0 r1 w0 w1 : Option (List ℕ)) (old drained new : Log) (breaks kept : List Bool) (end : SessionEnd) → HasDrained old drained →
       ((a : ℕ) → is_break breaks a ≡ false) →
       Conversation run r0 r1 w0 w1 (session drained breaks) (session new kept) end → IsIdle new.machine →

@@ -26,14 +26,14 @@ one_more p address (x ∷ bytes) b =
     let same : address + 1 + length bytes ≡ address + suc (length bytes) = omega arith in
     ap (λ rest. poke_of p address x ∷ rest) (one_more p (address + 1) bytes b ∙ ap (λ a. pokes_of p (address + 1) bytes ++ poke_of p a b ∷ []) same)
 
--- The array has the writes of the first this many bytes.
+-- The array has the writes of the first i bytes.
 pub record AreWritten (p address i : ℕ) (bytes : List ℕ) (pokes : List Poke) : Type 0 where
   pub room : length pokes ≡ 512
   pub so_far : take i pokes ≡ pokes_of p address (take i bytes)
-  -- each of these values is a byte
+  -- Each of these values is a byte.
   pub small : (k : ℕ) → k < i → slice_index bytes k < 256
 
--- one byte more
+-- After one more write, the array has the writes of one more byte.
 pub written_more : (p address i : ℕ) (bytes : List ℕ) (pokes : List Poke) (q : Poke) → AreWritten p address i bytes pokes → i < length bytes →
     length bytes ≤ 512 → q ≡ poke_of p (address + i) (slice_index bytes i) → ((k : ℕ) → slice_index bytes k < 256) →
     AreWritten p address (i + 1) bytes (slice_set pokes i q)
@@ -91,7 +91,7 @@ reached_of : (m : FlatState) (writes : Bool) (address n : ℕ) → is_range m wr
 unfolding is_range
 reached_of m writes address n e = (both (nat_le (address + n) (2 ^ 32)) (are_reached m writes address n) e).1
 
--- A range ends at 2^32 or before.
+-- A range of addresses ends at or before 2^32.
 pub range_end : (m : FlatState) (writes : Bool) (address n : ℕ) → is_range m writes address n ≡ true → address + n ≤ 2 ^ 32
 unfolding is_range
 range_end m writes address n e = leb-true (address + n) (2 ^ 32) (both (nat_le (address + n) (2 ^ 32)) (are_reached m writes address n) e).0
@@ -104,7 +104,7 @@ all_lawful c m p address bytes count there small range = λ k d below.
     (lawful c m p (address + k) (slice_index bytes k) count there (small k within)
     (reached_at m true address (length bytes) k (reached_of m true address (length bytes) range) within))
 
--- the array, once all bytes are written
+-- After the last byte, the array has the writes of all bytes.
 all_written : (p address i : ℕ) (bytes : List ℕ) (pokes : List Poke) → AreWritten p address i bytes pokes → i ≡ length bytes →
     take (length bytes) pokes ≡ pokes_of p address bytes
 all_written p address i bytes pokes w all =

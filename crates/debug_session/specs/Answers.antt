@@ -1,4 +1,4 @@
--- What a command does to a log and to the breaks of a session, and what is answered to it.
+-- What a command does to a session's log and breaks, and the reply to it.
 use Rattle.std.specs.Prelude.{◌≡◌, ◌≤◌, ◌+◌, ◌*◌, ℕ, zero, suc, Bool, true, false, nat_le, ◌^◌, List, []}
 use Rattle.std.specs.Prelude.{◌∷◌, ◌++◌, length, Option, Some, None, Result, Ok, Err, if◌then◌else◌}
 use Rattle.flat_machine.specs.declared.poke.Poke.{Poke}
@@ -22,7 +22,7 @@ use Rattle.debug_replies.specs.Stops.{is_faulted_at, is_running_at, named_stop, 
 use Rattle.debug_replies.specs.Texts.{shown_text}
 use Rattle.debug_session.specs.Runs.{HasDriven, RunSpec}
 
--- What a session stands in: the log with its machine, and the breaks.
+-- The state of a session: the log with its machine, and the breaks.
 pub record Session : Type 0 where
   pub log : Log
   pub breaks : List Bool
@@ -30,11 +30,11 @@ pub record Session : Type 0 where
 abbrev pub session : Log → (breaks : List Bool) → Session
 session log breaks = record { log = log; breaks = breaks }
 
--- how a command ended: it was carried out, or refused with an error
+-- how a command ended: it was executed, or refused with an error
 abbrev pub Ending : Type 0
 Ending = Result (Unit {0}) Error
 
--- how a command ended that a log has answered
+-- how a command ended, from the result of the log
 abbrev pub ending_of : {T : Type 0} → Result T LockRefusal → Ending
 ending_of (Ok answer) = Ok tt
 ending_of (Err refusal.Memory) = Err error.Memory
@@ -44,12 +44,12 @@ ending_of (Err refusal.NotFree) = Err error.Processor
 
 -- ---- commands that take steps
 
--- the log has room for this many steps more
+-- The log has room for this many more steps.
 abbrev pub HasRoom : Log → (count : ℕ) → Type 0
 HasRoom l count = length l.steps + count ≤ 4194304
 
--- A command asks for room for this many steps before the first. For want of room it is refused exactly if the log has
--- none for them; it may be refused if out of memory too; else it is done. A refusal changes nothing.
+-- A command asks for room for this many steps before it takes one. It is refused for lack of room exactly if the log
+-- has no room for them. It may also be refused if out of memory; else it is done. A refusal changes nothing.
 abbrev pub IsTried : (count : ℕ) → (done : Type 0) → (old new : Log) → Ending → Type 0
 IsTried count done old new (Ok nothing) = HasRoom old count × done
 IsTried count done old new (Err error.Room) = (HasRoom old count → ⊥) × (new ≡ old)
@@ -59,12 +59,12 @@ IsTried count done old new (Err error.Address) = ⊥
 IsTried count done old new (Err error.Processor) = ⊥
 IsTried count done old new (Err error.Register) = ⊥
 
--- `set`: one write from outside. Register 0 is never written.
+-- `set`: one poke. Register 0 is never written.
 abbrev pub Sets : (old : Log) → (p register value : ℕ) → Ending → (new : Log) → Type 0
 Sets old p zero value ending new = (ending ≡ Ok tt) × (new ≡ old)
 Sets old p (suc r) value ending new = IsTried 1 (HasPoked old (poke.Register p (suc r) value ∷ []) new) old new ending
 
--- the write of a byte, as processor p sees it: from 2^31 on that of a shared one
+-- the write of a byte at an address of processor p; from 2^31 on, the byte is in shared memory
 abbrev pub poke_of : (p address byte : ℕ) → Poke
 poke_of p address byte = if nat_le (2 ^ 31) address then poke.Shared address byte else poke.Local p address byte
 
@@ -73,12 +73,12 @@ abbrev pub pokes_of : (p address : ℕ) → (bytes : List ℕ) → List Poke
 pokes_of p address [] = []
 pokes_of p address (byte ∷ bytes) = poke_of p address byte ∷ pokes_of p (address + 1) bytes
 
--- `write`: a write from outside for each byte
+-- `write`: a poke for each byte
 abbrev pub Writes : (old : Log) → (p address : ℕ) → (bytes : List ℕ) → Ending → (new : Log) → Type 0
 Writes old p address bytes ending new =
     IsTried (length bytes) (HasPoked old (pokes_of p address bytes) new) old new ending
 
--- One whole instruction of processor p: a step of the flat machine. Its steps stand after those of the log.
+-- Processor p takes one whole instruction, and the log appends its steps.
 pub record HasStepped (old : Log) (p : ℕ) (new : Log) : Type 0 where
   pub opening : new.opening ≡ old.opening
   pub steps : new.steps ≡ old.steps ++ one_steps old.machine p
@@ -89,17 +89,17 @@ abbrev pub StepsWhere : (runs : Bool) → (old : Log) → (p : ℕ) → Ending �
 StepsWhere false old p ending new = (ending ≡ Ok tt) × (new ≡ old)
 StepsWhere true old p ending new = IsTried (2 * old.machine.config.k + 3) (HasStepped old p new) old new ending
 
--- `step`: one whole instruction where the processor runs; else nothing, and no room is asked for.
+-- `step`: one whole instruction if the processor runs; else nothing, and no room is asked for.
 abbrev pub StepsOnce : (old : Log) → (p : ℕ) → Ending → (new : Log) → Type 0
 StepsOnce old p ending new = StepsWhere (is_running_at (flat_state old.machine) p) old p ending new
 
--- The runner has taken steps, and the flat machine after them is that of their serial order.
+-- The runner has taken steps, and the flat machine has taken the serial order of these steps.
 pub record HasGoneOn (old new : Log) : Type 0 where
   pub run : HasDriven old new
   pub flat : flat_state new.machine ≡ flat_run (flat_state old.machine) (passed old.machine run.more).order
 
--- `cont`: what the runner does with the session's breaks. For want of room it is refused exactly if the log lacks it;
--- it may be refused if out of memory too. A refusal changes nothing.
+-- `cont`: what the runner does with the session's breaks. It is refused for lack of room exactly if the log lacks room
+-- for it. It may also be refused if out of memory. A refusal changes nothing.
 abbrev pub Continues : RunSpec → (breaks : List Bool) → (old : Log) → Ending → (new : Log) → Type 0
 Continues run breaks old (Ok nothing) new = (run.lacks_room old → ⊥) × run.runs breaks old new × HasGoneOn old new
 Continues run breaks old (Err error.Room) new = run.lacks_room old × (new ≡ old)
@@ -111,11 +111,11 @@ Continues run breaks old (Err error.Register) new = ⊥
 
 -- ---- all commands
 
--- nothing is changed
+-- Nothing changes.
 abbrev pub IsShown : (old : Session) → Ending → (new : Session) → Type 0
 IsShown old ending new = (ending ≡ Ok tt) × (new ≡ old)
 
--- what a command does that has no error on the machine, where the runner of `cont` does this
+-- What a command does that has no error on the machine, given what the runner of `cont` does.
 abbrev pub Acts : RunSpec → (old : Session) → Command → Ending → (new : Session) → Type 0
 Acts run old (State p) ending new = IsShown old ending new
 Acts run old (Registers p) ending new = IsShown old ending new
@@ -137,8 +137,7 @@ abbrev pub ActsUnless : RunSpec → Option Error → (old : Session) → Command
 ActsUnless run None old c ending new = Acts run old c ending new
 ActsUnless run (Some e) old c ending new = (ending ≡ Err e) × (new ≡ old)
 
--- The reply to a command that was carried out, by the flat machine after it, and by which processors faults had
--- stopped before.
+-- the reply to an executed command, from the flat machine after it and the processors that faults had stopped before
 abbrev pub done_text : (faulted : ℕ → Bool) → FlatState → (breaks : List Bool) → Command → List ℕ
 done_text faulted m breaks (Step p) = stop_text m (Some p)
 done_text faulted m breaks Continue = stop_text m (named_stop faulted m breaks)
@@ -150,8 +149,8 @@ reply_text old new c (Ok nothing) =
     done_text (is_faulted_at (flat_state old.log.machine)) (flat_state new.log.machine) new.breaks c
 reply_text old new c (Err e) = error_text e
 
--- A command does this, and this is answered. An error that it has on the machine comes before all others, and changes
--- nothing.
+-- The command leaves the new session, and this is the reply. An error of the command on the machine comes before all
+-- others, and changes nothing.
 pub record Answers (run : RunSpec) (old : Session) (c : Command) (text : List ℕ) (new : Session) : Type 0 where
   pub ending : Ending
   pub acts : ActsUnless run (error_of (flat_state old.log.machine) c) old c ending new

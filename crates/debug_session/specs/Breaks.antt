@@ -1,4 +1,4 @@
--- Processors that stand at a break.
+-- Processors at a break.
 use Rattle.std.specs.Prelude.{◌≡◌, ℕ, ◌^◌, ◌<◌, ◌≤◌, Bool, true, false, List, ◌∷◌, ◌++◌, length, slice_index_or, ◌↔◌}
 use Rattle.flat_machine.specs.declared.event.Status.TheVariants.{Running}
 use Rattle.flat_machine.specs.State.{Processor}
@@ -16,12 +16,12 @@ use Rattle.debug_replies.specs.Breaking.{is_break}
 abbrev pub processor_after : (opening : MachineLists) → (done : List Step) → (p : ℕ) → Processor
 processor_after m done p = ((machine_after m done).core p).state
 
--- in the step an instruction was retired
+-- An instruction retired in the step.
 abbrev pub IsRetirement : Outcome → Type 0
 IsRetirement (outcome.Retired retired) = Unit {0}
 IsRetirement _ = ⊥
 
--- In one of the steps after the first this many processor p has retired an instruction.
+-- Processor p has retired an instruction after the first `start` steps.
 pub record HasRetired (opening : MachineLists) (start : ℕ) (done : List Step) (p : ℕ) : Type 0 where
   pub before : List Step
   pub rest : List Step
@@ -29,8 +29,8 @@ pub record HasRetired (opening : MachineLists) (start : ℕ) (done : List Step) 
   pub behind : start ≤ length before
   pub retired : IsRetirement (answer_after opening before (step.Turn p))
 
--- Processor p stands at a break: it runs, has no reference open, has retired an instruction after the first this many
--- steps, and the next one is at a break.
+-- Processor p is at a break: it runs, has no reference open, has retired an instruction after the first `start` steps,
+-- and its pc is a break.
 pub record StandsAtBreak (opening : MachineLists) (breaks : List Bool) (start : ℕ) (done : List Step)
     (p : ℕ) : Type 0 where
   pub there : p < 2 ^ opening.config.k
@@ -44,7 +44,7 @@ pub record StandsAtBreak (opening : MachineLists) (breaks : List Bool) (start : 
 abbrev pub is_noted : (flags : List Bool) → (p : ℕ) → Bool
 is_noted flags p = slice_index_or flags p false
 
--- the step retires an instruction of processor p
+-- The step retires an instruction of processor p.
 abbrev pub Retires : Step → Outcome → (p : ℕ) → Type 0
 Retires (step.Turn q) o p = (q ≡ p) × IsRetirement o
 Retires (step.Up s w) o p = ⊥
@@ -52,11 +52,11 @@ Retires (step.Serve m) o p = ⊥
 Retires (step.Down s w) o p = ⊥
 Retires (step.Poke q) o p = ⊥
 
--- the flags say which processors have retired an instruction after the first this many steps
+-- The flags say which processors have retired an instruction after the first `start` steps.
 abbrev pub AreFlagged : (opening : MachineLists) → (start : ℕ) → (flags : List Bool) → (done : List Step) → Type 0
 AreFlagged m start flags done = (p : ℕ) → p < 2 ^ m.config.k → (is_noted flags p ≡ true) ↔ HasRetired m start done p
 
--- on a machine of which the flags say, processor p stands at a break
+-- Processor p is at a break of this machine, if the flags say which processors have retired an instruction.
 pub record IsAtBreak (m : MachineLists) (breaks flags : List Bool) (p : ℕ) : Type 0 where
   pub there : p < 2 ^ m.config.k
   pub running : (processor_of m p).status ≡ Running
@@ -64,7 +64,7 @@ pub record IsAtBreak (m : MachineLists) (breaks flags : List Bool) (p : ℕ) : T
   pub retired : is_noted flags p ≡ true
   pub at_break : is_break breaks (processor_of m p).pc ≡ true
 
--- the step is a turn of such a processor
+-- The step is a turn of such a processor.
 abbrev pub MeetsBreak : (m : MachineLists) → (breaks flags : List Bool) → Step → Type 0
 MeetsBreak m breaks flags (step.Turn p) = IsAtBreak m breaks flags p
 MeetsBreak m breaks flags (step.Up s w) = ⊥

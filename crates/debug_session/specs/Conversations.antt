@@ -1,4 +1,4 @@
--- A whole session, between its reader, its writer and its log.
+-- A whole session: its reader, its writer and its log.
 use Rattle.std.specs.Prelude.{◌≡◌, ℕ, ◌<◌, Bool, true, false, List, [], ◌∷◌, ◌++◌, length, Option}
 use Rattle.std.specs.Io.KnownBytes.{Appends, Consumes, IsAtEnd}
 use Rattle.link.specs.Transfer.{AppendsPart}
@@ -15,7 +15,7 @@ use Rattle.debug_session.specs.declared.session_end.SessionEnd.{SessionEnd}
 use Rattle.debug_session.specs.declared.session_end.SessionEnd.TheVariants.{Quit, EndOfInput, ReadFailed, WriteFailed}
 use Rattle.debug_session.specs.declared.session_end.SessionEnd.TheVariants.{Memory, TraceFull}
 
--- The events are these and a last one, and none but the last ends the session.
+-- The events have a last one with this property, and none before it ends the session.
 pub record EndsWith (events : List Event) (ends : Event → Type 0) : Type 0 where
   pub before : List Event
   pub last : Event
@@ -23,7 +23,7 @@ pub record EndsWith (events : List Event) (ends : Event → Type 0) : Type 0 whe
   pub none : NoneQuits before
   pub end : ends last
 
--- What is missing is the end of the last reply's line, and not empty.
+-- The missing bytes are the end of the last reply's line, and not empty.
 pub record IsCutShort (replies : List (List ℕ)) (missing : List ℕ) : Type 0 where
   pub before : List (List ℕ)
   pub last : List ℕ
@@ -32,8 +32,8 @@ pub record IsCutShort (replies : List (List ℕ)) (missing : List ℕ) : Type 0 
   pub cut : last ++ 10 ∷ [] ≡ part ++ missing
   pub some : 0 < length missing
 
--- What the ways to end say of the events and their replies, of the bytes that were taken and not read, of the text
--- that was not written, and of what the reader has left.
+-- What each end of a session says about the events and replies, the bytes taken but not read, the bytes not written,
+-- and what is left in the reader.
 abbrev pub IsEnd : SessionEnd → List Event → (replies : List (List ℕ)) → (unread missing : List ℕ) →
     (left : Option (List ℕ)) → Type 0
 IsEnd Quit events replies unread missing left = (missing ≡ []) × EndsWith events (λ event. is_quit event ≡ true)
@@ -43,18 +43,18 @@ IsEnd WriteFailed events replies unread missing left = IsCutShort replies missin
 IsEnd Memory events replies unread missing left = ⊥
 IsEnd TraceFull events replies unread missing left = ⊥
 
--- What a session takes from its reader, writes and leaves, begun with no byte held.
+-- What a session that begins with no byte held takes from its reader, writes and leaves.
 pub record Conversation (run : RunSpec) (reader reader' writer writer' : Option (List ℕ)) (old new : Session)
     (end : SessionEnd) : Type 0 where
-  -- the bytes that were read, and those of the last piece that were not
+  -- The bytes read, and those of the last piece that were not read.
   pub input : List ℕ
   pub unread : List ℕ
   pub took : Consumes reader reader' (input ++ unread)
-  -- the events that they stand for, and what is kept of their rest
+  -- The events of the bytes read, and the incomplete line that is held after them.
   pub events : List Event
   pub held : Held
   pub lines : IsAfter input events held
-  -- the replies, each with its line feed, and how much of them was written
+  -- The replies, each with its line feed, and how much of them was written.
   pub replies : List (List ℕ)
   pub dialogue : Dialogue run old events replies new
   pub written : List ℕ
@@ -70,7 +70,8 @@ pub record HasDrained (old new : Log) : Type 0 where
   pub count : ℕ
   pub drained : IsDrained old.machine count new.machine
 
--- A session drains its machine, and then holds a conversation, begun with no break. No reference is open after it.
+-- The session drains its machine, and then holds a conversation that begins with no break. No reference is open after
+-- it.
 pub record HasServed (run : RunSpec) (reader reader' writer writer' : Option (List ℕ)) (old new : Log)
     (end : SessionEnd) : Type 0 where
   pub drained : Log
@@ -84,27 +85,27 @@ pub record HasServed (run : RunSpec) (reader reader' writer writer' : Option (Li
 
 -- ---- on the way
 
--- what a reader of lines was given
+-- A reader of lines that holds this part of a line reads the input, which ends these events, and then holds this part.
 abbrev pub Reads : (held : Held) → (input : List ℕ) → List Event → (kept : Held) → Type 0
 Reads held input events kept =
     (bytes : List ℕ) (before : List Event) → IsAfter bytes before held →
     IsAfter (bytes ++ input) (before ++ events) kept
 
--- The command of an event is carried out, and the reply to it is written with its line feed.
+-- The command of an event is executed, and its reply is written with its line feed.
 pub record AnswersEvent (run : RunSpec) (old : Session) (writer : Option (List ℕ)) (event : Event)
     (new : Session) (writer' : Option (List ℕ)) : Type 0 where
   pub reply : List ℕ
   pub answers : Answers run old (asked event) reply new
   pub wrote : Appends writer writer' (reply ++ 10 ∷ [])
 
--- The command of an event is carried out, and the reply to it is written but for its end.
+-- The command of an event is executed, and a beginning of its reply's line, and not all of it, is written.
 pub record AnswersEventInPart (run : RunSpec) (old : Session) (writer : Option (List ℕ)) (event : Event)
     (new : Session) (writer' : Option (List ℕ)) : Type 0 where
   pub reply : List ℕ
   pub answers : Answers run old (asked event) reply new
   pub wrote : AppendsPart writer writer' (reply ++ 10 ∷ [])
 
--- Some events were read, none of which ends the session, and answered whole.
+-- The input ends events, none of which ends the session, and each reply is written whole.
 pub record Goes (run : RunSpec) (held : Held) (old : Session) (writer : Option (List ℕ)) (input : List ℕ)
     (kept : Held) (new : Session) (writer' : Option (List ℕ)) : Type 0 where
   pub events : List Event
@@ -114,7 +115,7 @@ pub record Goes (run : RunSpec) (held : Held) (old : Session) (writer : Option (
   pub wrote : Appends writer writer' (joined replies)
   pub none : NoneQuits events
 
--- how a session may end while it answers
+-- How a session may end while it answers events.
 abbrev pub IsStop : SessionEnd → List Event → (replies : List (List ℕ)) → (missing : List ℕ) → Type 0
 IsStop Quit events replies missing = (missing ≡ []) × EndsWith events (λ event. is_quit event ≡ true)
 IsStop WriteFailed events replies missing = IsCutShort replies missing × EndsWith events (λ _. Unit {0})
@@ -123,7 +124,7 @@ IsStop ReadFailed events replies missing = ⊥
 IsStop Memory events replies missing = ⊥
 IsStop TraceFull events replies missing = ⊥
 
--- The same, up to an event that ended the session, or whose reply could not be written.
+-- The same, up to an event that ends the session, or whose reply cannot be written whole.
 pub record Stops (run : RunSpec) (held : Held) (old : Session) (writer : Option (List ℕ)) (input : List ℕ)
     (kept : Held) (new : Session) (writer' : Option (List ℕ)) (end : SessionEnd) : Type 0 where
   pub events : List Event
@@ -136,7 +137,7 @@ pub record Stops (run : RunSpec) (held : Held) (old : Session) (writer : Option 
   pub wrote : Appends writer writer' written
   pub stop : IsStop end events replies missing
 
--- It stops so after some bytes of a piece; those after them are not read.
+-- The session stops in this way after some bytes of a piece; those after them are not read.
 pub record StopsWithin (run : RunSpec) (held : Held) (old : Session) (writer : Option (List ℕ)) (piece : List ℕ)
     (kept : Held) (new : Session) (writer' : Option (List ℕ)) (end : SessionEnd) : Type 0 where
   pub input : List ℕ
@@ -144,7 +145,7 @@ pub record StopsWithin (run : RunSpec) (held : Held) (old : Session) (writer : O
   pub all : piece ≡ input ++ unread
   pub stops : Stops run held old writer input kept new writer' end
 
--- whether the session was begun: the second fact is for the refusals of the first drain
+-- The first fact holds if the session began, and the second if its first drain was refused.
 abbrev pub IsServed : SessionEnd → (served refused : Type 0) → Type 0
 IsServed Quit served refused = served
 IsServed EndOfInput served refused = served
@@ -153,10 +154,10 @@ IsServed WriteFailed served refused = served
 IsServed Memory served refused = refused
 IsServed TraceFull served refused = refused
 
--- the fact holds if the session was begun
+-- The fact holds if the session began.
 abbrev pub IfBegun : SessionEnd → (fact : Type 0) → Type 0
 IfBegun end fact = IsServed end fact (Unit {0})
 
--- the fact holds if the first drain was refused
+-- The fact holds if the first drain was refused.
 abbrev pub IfRefused : SessionEnd → (fact : Type 0) → Type 0
 IfRefused end fact = IsServed end (Unit {0}) fact

@@ -1,4 +1,4 @@
--- The dialogue of a session: all events of a stream with their replies.
+-- The dialogue of a session: the events of a stream, with their replies.
 use Rattle.std.specs.Prelude.{◌≡◌, ℕ, Bool, true, false, List, [], ◌∷◌, ◌++◌}
 use Rattle.debug_lines.specs.declared.command.Command.{Command}
 use Rattle.debug_lines.specs.declared.command.Command.TheVariants.{State, Registers, Register, Set, Memory, Write}
@@ -9,12 +9,13 @@ use Rattle.debug_lines.specs.Commands.{command_of}
 use Rattle.debug_session.specs.Answers.{Session, Answers}
 use Rattle.debug_session.specs.Runs.{RunSpec}
 
--- the command that an event asks for: a line that is too long is none
+-- the command that an event asks for; a line that is too long is malformed
 abbrev pub asked : Event → Command
 asked (Line line) = command_of line
 asked TooLong = Malformed
 
--- From the old session on, each of the events has one of these replies, in turn, and the last leaves the new session.
+-- From the old session on, each event in turn is answered by the reply at its place, and the last leaves the new
+-- session.
 abbrev pub Dialogue : RunSpec → (old : Session) → List Event → (replies : List (List ℕ)) → (new : Session) → Type 0
 Dialogue run old [] [] new = new ≡ old
 Dialogue run old (event ∷ events) (reply ∷ replies) new =
@@ -40,7 +41,7 @@ is_quit_command Malformed = false
 abbrev pub is_quit : Event → Bool
 is_quit event = is_quit_command (asked event)
 
--- no event ends the session
+-- No event ends the session.
 abbrev pub NoneQuits : List Event → Type 0
 NoneQuits [] = Unit {0}
 NoneQuits (event ∷ events) = (is_quit event ≡ false) × NoneQuits events

@@ -6,8 +6,8 @@ use Rattle.machine_steps.specs.Runs.{IsReplay}
 use Rattle.machine_log.specs.Logs.{Log}
 use Rattle.schedules.specs.Own.{AreOwn}
 
--- After the steps that it had the log has more, none of which writes from outside. Its machine is the replay of the
--- one that it was over just these, and no reference is open.
+-- The log has its old steps and more, none of which is a poke. Its old machine has taken just these, each of which did
+-- something, and no reference is open.
 pub record HasDriven (old new : Log) : Type 0 where
   pub opening : new.opening ≡ old.opening
   pub more : List Step
@@ -18,7 +18,7 @@ pub record HasDriven (old new : Log) : Type 0 where
 
 -- What a runner does with its budget.
 pub record RunSpec : Type 1 where
-  -- the log has no room for the steps that it may take
+  -- The log has no room for the steps that the runner may take.
   pub lacks_room : Log → Type 0
-  -- with these breaks it has gone on so far
+  -- With these breaks, the runner has taken the log from the old state to the new.
   pub runs : (breaks : List Bool) → (old new : Log) → Type 0

@@ -1,4 +1,4 @@
-//! What commands do that take steps. None of them has an error that a look at the machine shows.
+//! The commands that take steps, after a check has found no error of the command on the machine.
 
 ghost use Rattle.std.specs.Prelude.{◌≡◌, None};
 ghost use Rattle.debug_replies.specs.Errors.{error_of};
@@ -12,10 +12,10 @@ use debug_replies::{Breaks, Error, is_running};
 use flat_machine::{Poke, SHARED_START};
 use machine_log::{LockRefusal, Logged};
 
-/// The most bytes that a line writes.
+/// The maximum number of bytes that a line writes.
 const MOST_BYTES: usize = 512;
 
-/// Writes a register: none for register 0.
+/// Writes a register. Register 0 is never written.
 pub(crate) fn set(log: &mut Logged, processor: u32, register: u32, value: u32) -> Result<(), Error>
     requires idle { IsIdle log.old.machine }
     requires sound { error_of (flat_state log.old.machine) (Command.Set processor register value) ≡ None }
@@ -59,8 +59,7 @@ pub(crate) fn write(
     map_refusal(log.pokes(&pokes[..values.len()]))
 }
 
-/// The write of one byte: an address from 2^31 on is one of shared memory, each other one of the
-/// processor's own.
+/// The write of one byte. An address from 2^31 on is in shared memory, any other in the processor's local memory.
 fn poke_of(processor: u8, address: u32, value: u8) -> Poke
     ensures { result ≡ poke_of processor address value }
 {
@@ -75,7 +74,7 @@ fn poke_of(processor: u8, address: u32, value: u8) -> Poke
     }
 }
 
-/// Takes one whole instruction of a processor: none where it is stopped.
+/// Takes one whole instruction of a processor, or none if it has stopped.
 pub(crate) fn step(log: &mut Logged, processor: u32) -> Result<(), Error>
     requires idle { IsIdle log.old.machine }
     requires sound { error_of (flat_state log.old.machine) (Command.Step processor) ≡ None }
@@ -93,7 +92,7 @@ pub(crate) fn step(log: &mut Logged, processor: u32) -> Result<(), Error>
     }
 }
 
-/// Goes on by a runner.
+/// Lets the runner go on.
 pub(crate) fn go_on<C: Runner>(
     log: &mut Logged,
     breaks: &Breaks,
@@ -111,7 +110,7 @@ pub(crate) fn go_on<C: Runner>(
     map_refusal(ran)
 }
 
-/// How a log's answer is map_refusal.
+/// The error for a refusal of the log.
 fn map_refusal(answer: Result<(), LockRefusal>) -> Result<(), Error>
     ensures { result ≡ ending_of answer }
 {

@@ -1,4 +1,4 @@
-//! What is answered to a command, once it is carried out.
+//! Executes commands, and makes their replies.
 
 ghost use Rattle.std.specs.Prelude.{◌≡◌, ◌<◌, ℕ};
 ghost use Rattle.debug_replies.specs.Errors.{error_of, error_text};
@@ -15,7 +15,7 @@ use debug_replies::{Breaks, Error, Faults, error_of, named_stop, show, show_stop
 use machine_log::Logged;
 use machine_steps::laws;
 
-/// Carries a command out, and puts the reply to it into the text, in place of what it had.
+/// Executes a command, and replaces the text with the reply to it.
 pub(crate) fn answer<C: Runner>(
     command: &Command,
     log: &mut Logged,
@@ -37,12 +37,12 @@ pub(crate) fn answer<C: Runner>(
     }
 }
 
-/// Carries a command out.
+/// Executes a command.
 ///
 /// # Errors
 ///
-/// That which the command has on the machine ([`error_of`]); else [`Error::Room`] and [`Error::Memory`], where the log
-/// has no room for the steps of the command, or there is no memory for them. Each leaves all as it was.
+/// The error of the command on this machine ([`error_of`]); else [`Error::Room`] if the log has no room for the steps
+/// of the command, or [`Error::Memory`] if there is no memory for them. An error leaves all as it was.
 fn carry_out<C: Runner>(
     command: &Command,
     log: &mut Logged,
@@ -83,7 +83,7 @@ fn carry_out<C: Runner>(
     }
 }
 
-/// Puts the reply to a command that was carried out into the text.
+/// Replaces the text with the reply to an executed command.
 fn reply(
     command: &Command,
     log: &Logged,
@@ -102,7 +102,7 @@ fn reply(
     }
 }
 
-/// Puts the reply to a command that was refused into the text.
+/// Replaces the text with the reply to a refused command.
 fn refuse(error: Error, text: &mut ArrayVec<u8, 1024>)
     ensures { text.new.items ≡ error_text error }
 {

@@ -1,4 +1,4 @@
-//! What a run is on the flat machine, and that a log has a trace.
+//! What a run does on the flat machine, and that each log has a trace.
 
 ghost use Rattle.std.specs.Prelude.{◌≡◌};
 ghost use Rattle.trace_file.specs.Traces.{IsTrace, trace_of};
@@ -10,8 +10,8 @@ ghost use Rattle.debug_session.specs.Runs.{HasDriven};
 
 use machine_log::Logged;
 
-/// Whatever steps a runner takes, after them the machine is the flat machine after the serial order of just
-/// these steps, from where it stood before.
+/// Whatever steps a runner takes, the machine after them is the flat machine that was there before and has taken the
+/// serial order of these steps.
 pub fn runs_are_in_order()
     ensures { (old new : Log) → IsWellFormed old → IsWellFormed new → IsIdle old.machine → (run : HasDriven old new) →
         flat_state new.machine ≡ flat_run (flat_state old.machine) (passed old.machine run.more).order }
@@ -19,7 +19,7 @@ pub fn runs_are_in_order()
     machine_steps::laws::runs_are_serialized();
 }
 
-/// Each log has a trace: whatever its steps did, there is a record of each, also of those that wrote from outside.
+/// Each log has a trace: each of its steps has a record, pokes included.
 pub(crate) fn log_has_trace(log: &Logged)
     ensures { IsTrace (trace_of log.now.machine.config log.now.steps) }
 {

@@ -1,16 +1,16 @@
-//! A debugger's session: lines of commands from a link, carried out on a machine, and a reply line to each.
+//! A debugger's session: it reads lines of commands from a link, executes them on a machine, and replies to each with a
+//! line.
 //!
-//! `specs/Answers.antt` says what each command does, and what is answered to it, by the flat machine that the
-//! session's machine is. `specs/Dialogues.antt` says it of all events of a stream, and `specs/Conversations.antt` what
-//! a session takes from its reader and writes. [`serve`] is such a session.
+//! `specs/Answers.antt` says what each command does and which reply it gets, on the flat machine that the session's
+//! machine is. `specs/Dialogues.antt` says the same of all events of a stream, and `specs/Conversations.antt` says what
+//! a session reads and writes. [`serve`] is such a session.
 //!
-//! A [`Runner`] carries out the command to go on: steps of the machine's own, and no reference open after them.
-//! [`Sweep`] follows the sweep (`schedules`), and ends before an instruction at a break.
+//! A [`Runner`] executes the command to go on: it takes steps of the machine, none of them a poke, after which no
+//! reference is open. [`Sweep`] follows the sweep (`schedules`), and ends before an instruction at a break.
 //!
-//! [`debug_command`] is `ultra debug`, over any link: it reads the image, makes the machine that opens on it, and asks
-//! for a link only then ([`Connect`], which may listen at a port of this machine, [`loopback`], and say so,
-//! [`announce`]). Once the session is over it writes the trace of its steps, where one is asked for. [`debug_end`]
-//! says how a session ended.
+//! [`debug_command`] is `ultra debug`, over any link: it reads the image, opens the machine on it, and only then asks
+//! for a link ([`Connect`], which may listen at a port of this host, [`loopback`], and report that, [`announce`]).
+//! After the session it writes the trace of the steps, if one is asked for. [`debug_end`] reports how a session ended.
 #![tactic(auto)]
 
 mod acting;

@@ -1,4 +1,4 @@
-//! What a runner of a machine is.
+//! Runners of a machine.
 
 ghost use Rattle.std.specs.Prelude.{◌≡◌, ◌↔◌, ℕ, Err, OnErr, OnOk};
 ghost use Rattle.machine_steps.specs.Machines.{IsIdle};
@@ -7,19 +7,19 @@ ghost use Rattle.debug_session.specs.Runs.{HasDriven, RunSpec};
 use debug_replies::Breaks;
 use machine_log::{LockRefusal, Logged};
 
-/// What carries out a debugger's command to go on.
+/// Executes a debugger's command to go on.
 pub trait Runner {
-    /// What the runner does with a budget: for which logs it lacks room, and how far it goes on with which breaks.
+    /// What the runner does with a budget: which logs lack room for it, and how far it goes with which breaks.
     ghost spec: { (budget : ℕ) → RunSpec };
 
-    /// Takes steps of a machine in which no reference is open, up to a break, or as many as the budget has,
-    /// and then those that leave none open. Which steps these are, and where they end, is the runner's: none
-    /// of them writes from outside, and they are entered after those that the log has.
+    /// Takes steps of a machine in which no reference is open, up to a break or as many as the budget allows, and then
+    /// steps until no reference is open again. The runner chooses the steps and where they end. None of them is a poke,
+    /// and the log appends them to its own.
     ///
     /// # Errors
     ///
-    /// [`LockRefusal::Full`] exactly if the log has no room for the steps, else [`LockRefusal::Memory`] where there
-    /// is no memory for them. Each leaves all as it was.
+    /// [`LockRefusal::Full`] exactly if the log has no room for the steps, else [`LockRefusal::Memory`] if there is no
+    /// memory for them. Either leaves the log unchanged.
     fn run(&mut self, log: &mut Logged, breaks: &Breaks, budget: u32) -> Result<(), LockRefusal>
         requires idle { IsIdle log.old.machine }
         ensures ran { OnOk result (HasDriven log.old log.new) }

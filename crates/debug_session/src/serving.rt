@@ -1,4 +1,4 @@
-//! A session's own loops.
+//! The loops of a session.
 
 ghost use Rattle.std.specs.Prelude.{◌≡◌, ◌↔◌, ◌<◌, ◌+◌, true, false, length, is_err, IfNone, IfOk, IfSome, OnErr, OnOk};
 ghost use Rattle.machine_steps.specs.Draining.{drain_bound};
@@ -18,16 +18,16 @@ use link::{Failed, LinkRead, LinkWrite, write_whole};
 use machine_log::{LockRefusal, Logged};
 use std::sync::Wait;
 
-/// The most bytes that are read at once.
+/// The maximum number of bytes read at once.
 const PIECE_BYTES: usize = 256;
 
-/// Serves a session. It takes steps until no reference is open; then it reads lines, at most 256 bytes at once. A line
-/// that is whole is carried out, and then its reply is written. It ends at `quit`, at the end of the input, or where
-/// the reader or the writer fails.
+/// Serves a session. Takes steps until no reference is open, and then reads lines, at most 256 bytes at once. Executes
+/// each complete line, and then writes its reply. The session ends at `quit`, at the end of the input, or if the reader
+/// or the writer fails.
 ///
-/// So at each end but those of the first steps, the machine stands after the commands that were read, the last of them
-/// possibly unanswered. Bytes after the last line feed do nothing. A session waits for its reader, so nothing is said
-/// of whether it returns.
+/// So unless the first steps were refused, the machine has executed all commands that were read, the last of them
+/// possibly unanswered. Bytes after the last line feed do nothing. A session waits for its reader, so no contract says
+/// that it returns.
 pub fn serve<R: LinkRead, W: LinkWrite, C: Runner>(
     rt: &impl Wait,
     reader: &mut R,
@@ -39,18 +39,18 @@ pub fn serve<R: LinkRead, W: LinkWrite, C: Runner>(
     requires reads { R.has_failed reader.old ≡ false }
     requires writes { W.has_failed writer.old ≡ false }
 
-    // The link's faults are answered exactly if the link failed.
+    // The session ends with a failure of the link exactly if the link failed.
     ensures read_failed { (result ≡ SessionEnd.ReadFailed) ↔ (R.has_failed reader.new ≡ true) }
     ensures write_failed { (result ≡ SessionEnd.WriteFailed) ↔ (W.has_failed writer.new ≡ true) }
 
-    // The refusals of the first steps.
+    // The session refuses its first steps.
     ensures full { (result ≡ SessionEnd.TraceFull)
         ↔ (4194304 < length log.old.steps + drain_bound log.old.machine.config) }
     ensures unread { IfRefused result (reader.new ≡ reader.old) }
     ensures unwritten { IfRefused result (writer.new ≡ writer.old) }
     ensures refused { IfRefused result (log.new ≡ log.old) }
 
-    // All else is the dialogue of the events that were read.
+    // Otherwise, the session is the dialogue of the events read.
     ensures served { IfBegun result (HasServed (C.spec budget) (R.remaining reader.old) (R.remaining reader.new)
         (W.contents writer.old) (W.contents writer.new) log.old log.new result) }
 {
@@ -83,7 +83,7 @@ pub fn serve<R: LinkRead, W: LinkWrite, C: Runner>(
     unreachable!()
 }
 
-/// Answers the events that end in a piece.
+/// Answers the events that end in a piece of the input.
 fn serve_piece<W: LinkWrite, C: Runner>(
     piece: &[u8],
     lines: &mut LineReader,
@@ -117,7 +117,7 @@ fn serve_piece<W: LinkWrite, C: Runner>(
     None
 }
 
-/// Carries an event out, and then writes the reply to it. Says whether it ends the session.
+/// Executes the command of an event, and then writes the reply. Returns whether the event ends the session.
 fn serve_event<W: LinkWrite, C: Runner>(
     event: &Event,
     writer: &mut W,
@@ -145,7 +145,7 @@ fn serve_event<W: LinkWrite, C: Runner>(
     Ok(matches!(command, Command::Quit))
 }
 
-/// The command that an event asks for: a line that is too long is none.
+/// The command that an event asks for. A line that is too long is malformed.
 fn asked(event: &Event) -> Command
     ensures { result ≡ asked event.now }
 {

@@ -3,17 +3,16 @@
 /// How a session ended.
 #[derive(Clone, Copy, Debug, PartialEq, Eq, Drop)]
 pub enum SessionEnd {
-    /// The line `quit` was read, and answered.
+    /// The session read the line `quit`, and answered it.
     Quit,
-    /// The reader has no byte more.
+    /// The reader has no more bytes.
     EndOfInput,
     /// The reader failed.
     ReadFailed,
-    /// The writer failed, at the reply to the last event that was read.
+    /// The writer failed at the reply to the last event read.
     WriteFailed,
-    /// There was no memory for the steps of the drain with which a session begins. Nothing was read, and nothing is
-    /// changed.
+    /// There was no memory for the steps of the drain with which a session begins. Nothing was read or changed.
     Memory,
-    /// The log has no room for these. Nothing was read, and nothing is changed.
+    /// The log had no room for these steps. Nothing was read or changed.
     TraceFull,
 }

@@ -18,26 +18,26 @@ use machine_steps::{Machine, any_runs};
 use schedules::Round;
 use steps::{Outcome, Step};
 
-/// The most processors that a machine has.
+/// The maximum number of processors of a machine.
 const MOST_PROCESSORS: usize = 64;
 
-/// The runner that follows the sweep, from the beginning of a round: each processor has its turns, and each
-/// message is moved. It ends before a turn of a processor that runs, has no reference open, has retired an
-/// instruction since the sweep began, and stands at a break; so one that begins at a break gets past it.
+/// The runner that follows the sweep, from the beginning of a round: each processor has its turns, and each message
+/// moves. It ends before a turn of a processor that runs, has no reference open, has retired an instruction since the
+/// sweep began, and is at a break. So a processor that begins at a break gets past it.
 #[derive(Clone, Copy, Debug, Drop)]
 pub struct Sweep;
 
 impl Runner for Sweep {
     ghost spec = { sweep_spec };
 
-    /// Follows the sweep until a fault stops a processor, a processor stands at a break, no processor runs,
-    /// or as many steps are entered as the budget has. Then takes steps until no reference is open. For all
-    /// these steps it makes room first.
+    /// Follows the sweep until a fault stops a processor, a processor is at a break, no processor runs, or the sweep
+    /// has taken as many steps as the budget. Then takes steps until no reference is open. Makes room for all these
+    /// steps first.
     ///
     /// # Errors
     ///
-    /// [`LockRefusal::Full`] where the log would pass [`steps::MAX_STEPS`] steps with as many, else
-    /// [`LockRefusal::Memory`] where there is no memory for them. Each leaves all as it was.
+    /// [`LockRefusal::Full`] if the log could then pass [`steps::MAX_STEPS`] steps, else [`LockRefusal::Memory`] if
+    /// there is no memory for them. Either leaves the log unchanged.
     fn run(&mut self, log: &mut Logged, breaks: &Breaks, budget: u32) -> Result<(), LockRefusal>
         requires idle { IsIdle log.old.machine }
         ensures ran { OnOk result (HasDriven log.old log.new) }
@@ -54,7 +54,7 @@ impl Runner for Sweep {
     }
 }
 
-/// Follows the sweep for this many steps at most, and then drains the machine. There is room for the steps.
+/// Follows the sweep for at most this many steps, and then drains the machine. The log has room for the steps.
 fn sweep_and_drain(log: &mut ReservedLog, breaks: &Breaks, budget: u32)
     requires room { budget + drain_bound log.old.log.machine.config ≤ log.old.capacity_left }
     ensures ran { HasDriven log.old.log log.new.log }
@@ -79,7 +79,7 @@ fn follow(log: &mut ReservedLog, breaks: &Breaks, limit: usize)
 {
     machine_log::laws::reserved_log_is_well_formed(log);
     let mut retired = none_retired();
-    // While a processor runs, a round enters a step, or ends the sweep.
+    // While a processor runs, a round takes a step that does something, or ends the sweep.
     while log.steps().len() < limit {
         if !any_runs(log.machine()) {
             return;
@@ -90,15 +90,15 @@ fn follow(log: &mut ReservedLog, breaks: &Breaks, limit: usize)
     }
 }
 
-/// No processor has retired an instruction.
+/// The flags before the first step: no processor has retired an instruction.
 fn none_retired() -> [bool; MOST_PROCESSORS]
     ensures { (p : ℕ) → is_noted result p ≡ false }
 {
     [false; MOST_PROCESSORS]
 }
 
-/// Takes a round of the sweep, up to where the sweep ends, or the step after which the log has this many.
-/// Answers whether the sweep ends there.
+/// Takes a round of the sweep, up to the end of the sweep, or until the log has `limit` steps. Returns whether the
+/// sweep ends there.
 fn take_round(
     log: &mut ReservedLog,
     breaks: &Breaks,
@@ -136,7 +136,7 @@ fn take_round(
     false
 }
 
-/// Whether the step is a turn of a processor that stands at a break.
+/// Whether the step is a turn of a processor that is at a break.
 fn meets_break(
     step: &Step,
     machine: &Machine,
@@ -151,7 +151,7 @@ fn meets_break(
     }
 }
 
-/// Whether a processor stands at a break, where these have retired an instruction.
+/// Whether a processor is at a break, given which processors have retired an instruction.
 fn is_at_break(p: u8, machine: &Machine, breaks: &Breaks, retired: &[bool; MOST_PROCESSORS]) -> bool
     ensures { IsTrue result ↔ IsAtBreak machine.now breaks.now retired.now p }
 {
@@ -168,7 +168,7 @@ fn is_at_break(p: u8, machine: &Machine, breaks: &Breaks, retired: &[bool; MOST_
     true
 }
 
-/// Notes whose instruction the step has retired.
+/// Marks the processor whose instruction the step has retired, if any.
 fn mark_retired(retired: &mut [bool; MOST_PROCESSORS], step: &Step, outcome: &Outcome)
     ensures { (p : ℕ) → p < 64 → (is_noted retired.new p ≡ true)
         ↔ ((is_noted retired.old p ≡ true) ⊎ Retires step.now outcome.now p) }
@@ -181,7 +181,7 @@ fn mark_retired(retired: &mut [bool; MOST_PROCESSORS], step: &Step, outcome: &Ou
     }
 }
 
-/// Whether a fault stopped a processor in the step that answered this.
+/// Whether a fault stopped a processor in the step with this outcome.
 fn is_fault(outcome: &Outcome) -> bool
     ensures { IsTrue result ↔ IsFault outcome.now }
 {

@@ -7,7 +7,7 @@ use Rattle.debug_session.specs.Answers.{session}
 use Rattle.debug_session.specs.Conversations.{Goes, HasDrained}
 use Rattle.debug_session.proofs.serving.serve.Given as goal
 
--- all that was taken was read, and answered whole
+-- All bytes taken were read, and all their events were answered whole.
 abbrev pub invariant-loop : goal.invariant-loop
 invariant-loop g l =
     (g.R.Link.has_failed l.reader ≡ false) × (g.W.Link.has_failed l.writer ≡ false) × (length l.piece ≡ 256) × IsIdle l.log.machine

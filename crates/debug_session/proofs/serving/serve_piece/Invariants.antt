@@ -4,7 +4,7 @@ use Rattle.debug_session.specs.Answers.{session}
 use Rattle.debug_session.specs.Conversations.{Goes}
 use Rattle.debug_session.proofs.serving.serve_piece.Given as goal
 
--- what was fed was answered whole
+-- All events in the bytes fed so far were answered whole.
 abbrev pub invariant-loop-rest : goal.invariant-loop-rest
 invariant-loop-rest g l =
     (g.W.Link.has_failed l.writer ≡ false) × IsIdle l.log.machine
