@@ -84,7 +84,7 @@ set_is_lawful m p r value count e some small =
     (lawful m.config p r value (let there = set_processor (flat_state m) p r value e in omega (arith, there, count))
     (set_register (flat_state m) p r value e) some small (set_value (flat_state m) p r value e))
 
--- ---- a command that was carried out
+-- ---- an executed command
 
 no_error : (run : RunSpec) (e : Option Error) (old new : Session) (c : Command) (done : Unit {0}) → ActsUnless run e old c (Ok done) new → e ≡ None
 no_error run None old new c done acts = refl

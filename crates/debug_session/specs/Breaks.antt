@@ -39,7 +39,7 @@ pub record StandsAtBreak (opening : MachineLists) (breaks : List Bool) (start : 
   pub retired : HasRetired opening start done p
   pub at_break : is_break breaks (processor_after opening done p).pc ≡ true
 
--- ---- with flags that say who has retired
+-- ---- flags for the processors that have retired an instruction
 
 abbrev pub is_noted : (flags : List Bool) → (p : ℕ) → Bool
 is_noted flags p = slice_index_or flags p false

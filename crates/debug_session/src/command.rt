@@ -17,14 +17,15 @@ use std::alloc::Global;
 use std::io::{Read, Write};
 use std::sync::Wait;
 
-/// Reads an image, and serves a session on a machine of this size that opens on it. Asks for a link only after the
-/// machine has opened. `cont` follows the sweep, for at most as many steps as the budget. If a trace is asked for, that
-/// of the session is written after its end, however it ended: its steps lead the machine from its opening to its last
-/// state. Nothing is written if the session could not begin.
+/// Serves a session on a machine of this size that opens on the image that a file is. A link is asked for once the
+/// machine is there. `cont` follows the sweep, for as many steps as the budget has at most. Where a trace is asked for,
+/// that of the session is written once it is over, however it ended: its steps lead the machine from where it opens to
+/// where it stands. Of a session that could not begin nothing is written.
 ///
-/// Returns the exit status of the session's end ([`crate::debug_end`]). If there is no session, or its trace cannot be
-/// written, returns that of the fault reported on standard error. Faults are checked in this order: of the image, of
-/// the machine's size, of the link, of the trace, which is reported instead of the session's end.
+/// Answers the exit status, that of the session's end ([`crate::debug_end`]). Where there is no session, or its trace
+/// could not be written, it is that of the fault that is reported on standard error, in this order: of the image, of
+/// the machine's size, of the link that is asked for, of the trace, which is reported in place of how the session
+/// ended.
 pub fn debug_command<F: Read + Drop, C: Connect, T: LinkWrite, E: Write>(
     rt: &impl Wait,
     alloc: Global,
@@ -46,7 +47,7 @@ pub fn debug_command<F: Read + Drop, C: Connect, T: LinkWrite, E: Write>(
     }
 }
 
-/// Runs a session, and returns its end and the log that it leaves.
+/// The end of a session, and the log that it leaves.
 fn session<F: Read + Drop, C: Connect>(
     rt: &impl Wait,
     alloc: Global,

@@ -43,7 +43,7 @@ reported_on : {E : Type 0} (contents : E → Option (List ℕ)) (old between new
 reported_on contents old between new [] gs same more = subst (λ e. AreReported gs (errors_to contents e new)) same more
 reported_on contents old between new (f ∷ fs) gs h more = (h.0, h.1, reported_on contents h.0 between new fs gs h.2 more)
 
--- ---- one size more
+-- ---- one more size
 
 module _ (p : Problem) where
   -- The reports of the first sizes and of the next one are the reports of the first sizes with one more.

@@ -31,7 +31,7 @@ use Rattle.exploration.specs.local_reduction.Results.{FinalResult, ProcessorResu
 use Rattle.exploration.specs.Results.{AreOfTheMachine, IsOfTheMachine, NoneRuns, machine_result, printed_by, stands_after}
 use Rattle.explore_command.specs.Witnesses.{AreTaken, IsEnd, IsStuck, IsWitness, LeadTo, LeadToResult, left_by, processor_left, target}
 
--- ---- what is counted of a processor is what it has printed
+-- ---- the console bytes that are counted are those of the events
 
 printed_once : (s : ShownBy) (shown : Event) → printed_after s.console shown ≡ (with_event s shown).console
 printed_once s (event.Retired retired) = go retired.out

@@ -39,7 +39,7 @@ lines_are words =
     let all : 0 + length words ≡ length words = omega arith in
     lines_from words 0 words (λ i. let on : 0 + i ≡ i = omega arith in ap (slice_index words) on) ∙ ap (shared_lines words) all
 
--- ---- a loop over such words
+-- ---- a loop over the nonzero words
 
 -- If the text and the lines from a word on make the whole, then after the line of the word is appended, the text and
 -- the lines after it do.

@@ -226,7 +226,7 @@ FailsSizes p out err fault.Link = BeginsSizes p out err
 FailsSizes p out err fault.Memory = StopsAtSizes p out err
 FailsSizes p out err other = ⊥
 
--- ---- of the image that a file means
+-- ---- the image in a file
 
 -- The lines of every size are printed for the image in the file.
 pub record PrintsEverySize {E : Type 0} (e : Exploration) (out : Output) (err : ErrorOutput E)

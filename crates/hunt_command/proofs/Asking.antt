@@ -82,7 +82,7 @@ budget_used plan limit old l rest i used = record {
     by (inl full) = inl (let few = i.few in let same : length l.steps ≡ limit = omega (arith, few, full) in same)
     by (inr none) = inr none
 
--- ---- a step more
+-- ---- one more step
 
 module _ (plan : List Step) (limit : ℕ) (old l new : Log) (s : Step) (rest : List Step) (o : Outcome) (i : IsAsking plan limit old l (s ∷ rest))
     (room : length l.steps < limit) (taken : HasTaken l s o new) (replayed : IsReplay new.opening new.steps new.machine) where

@@ -103,7 +103,7 @@ module _ {K V : Type 0} (text : K → List ℕ) (runs first : V → ℕ) where
         ∙ ap (λ p. slice_set (Found es) p (once_more (One k v))) (sym place)
         ∙ sym (noted_there (Found es) t number (One k v) (ap (slice_get (Found es)) place ∙ entry_in es i k v there))
 
--- ---- the entries of what is found
+-- ---- the entries of the results
 
 abbrev pub text_in : String Global → List ℕ
 text_in s = string_bytes s
@@ -140,7 +140,7 @@ lines_step fs i f there =
 pub lines_whole : (fs : List FindingState) (i : ℕ) → length fs ≤ i → findings_lines (take i fs) ≡ findings_lines fs
 lines_whole fs i past = ap findings_lines (take_all i fs past)
 
--- ---- a result more
+-- ---- one more result
 
 abbrev pub NoneOver : ℕ → List FindingState → Type 0
 NoneOver n fs = All (λ (f : FindingState). f.runs ≤ n) fs

@@ -16,7 +16,7 @@ use Rattle.hunt_command.specs.Schedules.{schedule}
 use Rattle.hunt_command.proofs.Plans.{own_schedule}
 use Rattle.hunt_command.proofs.Recorded.{own_first}
 
--- ---- of two beginnings of one list one goes on where the other stops
+-- ---- of two prefixes of one list, one continues the other
 
 either_goes_on : (xs r ys s : List Step) → xs ++ r ≡ ys ++ s → GoesOnFrom xs ys ⊎ GoesOnFrom ys xs
 either_goes_on [] r ys s e = inl (ys, refl)

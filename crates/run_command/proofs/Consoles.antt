@@ -33,7 +33,7 @@ use Rattle.command_io.specs.Tallies.{ShownBy, nothing_shown, with_byte}
 use Rattle.trace_commands.specs.CountedReplays.{AreConsoles, events_in}
 use Rattle.run_command.specs.ThreadRuns.{EndInStop, HasEnded}
 
--- ---- what events give the console
+-- ---- the console bytes of events
 
 one_byte : (console : List ℕ) (out : Option ℕ) → with_byte console out ≡ console ++ held_of out
 one_byte console None = sym (append-nil console)

@@ -22,7 +22,7 @@ use Rattle.machine_steps.specs.Whole.{IsOne, IsPoked, event_of, one_steps}
 use Rattle.machine_steps.proofs.Lemmas.{run_home}
 use Rattle.trace_commands.specs.Taking.{HasTaken, answer_of}
 
--- ---- answers and events
+-- ---- outcomes and events
 
 -- An event is read back from its outcome.
 event_is_kept : (e : Option Event) → event_of (answer_of e) ≡ e

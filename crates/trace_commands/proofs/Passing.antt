@@ -24,7 +24,7 @@ use Rattle.run_counts.specs.declared.longest.Longest.{Longest}
 use Rattle.trace_commands.specs.Longest.{AreLongest, IsMet, IsMost, count_of, longest_after, most_of, net_behind}
 use Rattle.trace_commands.proofs.Growing.{Grows, grows_there}
 
--- ---- the most of numbers
+-- ---- the maximum of numbers
 
 most_kept : (f : ℕ → ℕ) (wires before : ℕ) → before ≤ most_of f wires before
 most_kept f zero before = omega arith
@@ -49,7 +49,7 @@ most_met f (suc n) before = by (cases_lt (most_of f n before) (f n)) (most_met f
     by (inr less) (inl is) = inl (omega (arith, less, is))
     by (inr less) (inr (w, small, is)) = inr (w, omega (arith, small), omega (arith, less, is))
 
--- ---- one step more
+-- ---- one more step
 
 -- The network after the steps that a machine has taken is the machine's.
 stands : (opening mid : MachineLists) (done : List Step) → IsRun opening done mid → net_behind opening done ≡ net_of mid.network

@@ -39,7 +39,7 @@ pub record IsMost (opening : MachineLists) (steps : List Step) (held : Held) (st
 abbrev pub AreLongest : (opening : MachineLists) → (steps : List Step) → Longest → Type 0
 AreLongest m steps t = (held : Held) (s : ℕ) → s < m.config.k → IsMost m steps held s (at_stage t held s)
 
--- ---- looked at a stage
+-- ---- the longest queues, step by step
 
 -- the maximum of a number and of the counts at the first wires
 abbrev pub most_of : (number : ℕ → ℕ) → (wires before : ℕ) → ℕ
@@ -51,8 +51,8 @@ abbrev pub raised : (k : ℕ) → Net → Held → (stage : ℕ) → Longest →
 raised k net held s t = if nat_lt s k
     then with_longest t held s (most_of (count_of held net s) (2 ^ k) (at_stage t held s)) else t
 
--- The longest queues after a step, with the network after it. A request's move can add requests or records at its
--- stage, and a reply's move can add replies.
+-- the longest queues after a step, given the network after it: a request's move can add requests or records at its
+-- stage, and a reply's move can add replies
 abbrev pub longest_after : (k : ℕ) → Net → Step → Longest → Longest
 longest_after k net (step.Up s w) t = raised k net Records s (raised k net Requests s t)
 longest_after k net (step.Down s w) t = raised k net Replies s t

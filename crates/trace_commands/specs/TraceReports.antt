@@ -54,7 +54,7 @@ pub record IsDrainedReport (c : Config) (image : ImageContents) (steps : List St
   pub stands : StandsAfter c image steps before
   pub report : IsReportOf c image (steps ++ drain_steps before) text status
 
--- ---- what is said of a trace
+-- ---- what is printed for a trace
 
 -- What a command prints for steps: which text and exit status, on the machine of this size that opens on the image.
 abbrev pub ReportRelation : Type 1
