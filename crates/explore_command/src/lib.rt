@@ -3,8 +3,8 @@
 //! The crate `exploration` finds the results. This crate makes the lines of all of them ([`results_text`]), and then
 //! prints them. [`explore_every_size`] prints a line for each size of a machine.
 //!
-//! If a trace is asked for, that of a witness is written before the lines. [`witness_of`] takes the path that the
-//! search has noted on a second machine, and compares what is left with the result before it returns the steps. So the
+//! If a trace is asked for, that of a witness is written before the lines. On a second machine, [`witness_of`] takes
+//! the path that the search has noted, and compares what is left with the result before it returns the steps. So the
 //! proof that the steps are a witness needs to know nothing about the path.
 #![tactic(auto)]
 

@@ -16,7 +16,7 @@ pub enum Refused {
     Fault(Fault),
     /// No result has the number, or the number is 0 and an end can be reached from each state found.
     Unknown,
-    /// The steps taken do not lead to the result.
+    /// The steps taken do not lead to what the number names.
     Missed,
 }
 
