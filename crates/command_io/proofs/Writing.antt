@@ -9,8 +9,9 @@ use Rattle.command_io.specs.FaultTexts.{AppendsOrPart, joined}
 
 -- All of the text but this rest is written.
 pub record IsBegun (old new : Option (List ℕ)) (text rest : List ℕ) : Type 0 where
+  -- what is written
   pub written : List ℕ
-  -- The text is what is written, and then the rest.
+  -- The text is that, and then the rest.
   pub whole : text ≡ written ++ rest
   pub appends : Appends old new written
 

@@ -50,7 +50,7 @@ impl Schedule {
             state: first_state(number, 0),
             favourite: 0,
             turns,
-            place: capacity_left(k),
+            place: choice_count(k),
         }
     }
 
@@ -60,7 +60,7 @@ impl Schedule {
         ensures over { result ≡ None → self.old ≡ [] }
     {
         let place = self.place;
-        if place < capacity_left(self.k) {
+        if place < choice_count(self.k) {
             self.place += 1;
             return Some(choice_at(self.k, place));
         }
@@ -76,7 +76,7 @@ impl Schedule {
 }
 
 /// The number of choices.
-fn capacity_left(k: u8) -> u32
+fn choice_count(k: u8) -> u32
     requires { k ≤ 6 }
     ensures count { result ≡ 2 * k * 2 ^ k + 2 ^ k }
     ensures all { result ≡ length (choices k) }

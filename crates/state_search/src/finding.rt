@@ -30,7 +30,7 @@ pub struct StateSpace<const N: usize> {
 }
 
 /// Finds all rows to which references lead from `first`, up to exchanges of processors of one class. It does not search
-/// beyond a row in which a processor spins. It reports the number of rows to `observer` as it finds them.
+/// beyond a row in which a processor spins. It reports the number of rows to `watch` as it finds them.
 ///
 /// # Errors
 ///
@@ -80,7 +80,7 @@ pub fn explore_states<const N: usize, G: SearchObserver>(
         classes,
         first,
         limit,
-        observer,
+        watch,
         &mut successors,
         &mut found,
     );

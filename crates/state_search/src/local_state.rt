@@ -146,7 +146,7 @@ impl LocalState {
                 return Ok(());
             }
         }
-        self.settle_watched(code, quietly)?;
+        self.run_watched(code, quietly)?;
         Ok(())
     }
 

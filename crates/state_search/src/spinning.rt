@@ -26,13 +26,13 @@ impl LocalState {
     /// # Errors
     ///
     /// Those of [`LocalState::run_to_reference`].
-    pub(crate) fn settle_watched(&mut self, code: &Code, quietly: bool) -> Result<(), MoveRefusal>
+    pub(crate) fn run_watched(&mut self, code: &Code, quietly: bool) -> Result<(), MoveRefusal>
         ensures gone { OnOk result (HasGone quietly code.now self.old self.new) }
         ensures still { OnOk result (IsStill code.now self.new) }
         ensures quiet { OnOk result (IsQuiet quietly code.now self.new) }
     {
         for turns in STRETCHES {
-            if self.observer(code, quietly, turns)? {
+            if self.watch(code, quietly, turns)? {
                 return Ok(());
             }
         }
@@ -41,7 +41,7 @@ impl LocalState {
 
     /// Takes up to `turns` turns. Returns whether the processor has stopped, is at a reference, or spins, since it came
     /// back to the local state in which it began.
-    fn observer(&mut self, code: &Code, quietly: bool, turns: u32) -> Result<bool, MoveRefusal>
+    fn watch(&mut self, code: &Code, quietly: bool, turns: u32) -> Result<bool, MoveRefusal>
         ensures gone { OnOk result (HasGone quietly code.now self.old self.new) }
         ensures still { IfOk result (λ settles. IsTrue settles → IsStill code.now self.new) }
         ensures quiet { IfOk result (λ settles. IsTrue settles → IsQuiet quietly code.now self.new) }

@@ -7,7 +7,7 @@ use Rattle.hunt_command.proofs.schedule.Schedule.new.Goals as goal
 pub returns : goal.returns
 unfolding schedule
 returns c =
-    let none : drop c.capacity_left.result (choices c.args.k) ≡ [] =
-    drop_all c.capacity_left.result (choices c.args.k) (let is = c.capacity_left.ensures.all in omega (arith, is)) in
+    let none : drop c.choice_count.result (choices c.args.k) ≡ [] =
+    drop_all c.choice_count.result (choices c.args.k) (let is = c.choice_count.ensures.all in omega (arith, is)) in
     ap (λ xs. xs ++ turns_from c.args.k c.args.number c.first_state.result 0 c.args.turns) none
     ∙ ap (λ x. turns_from c.args.k c.args.number x 0 c.args.turns) c.first_state.ensures

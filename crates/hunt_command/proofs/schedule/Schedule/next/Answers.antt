@@ -5,10 +5,10 @@ use Rattle.hunt_command.proofs.Plans.{drop_at, turn_next}
 use Rattle.hunt_command.proofs.schedule.Schedule.next.Goals as goal
 
 pub choice_at-requires-clause-place : goal.choice_at-requires-clause-place
-choice_at-requires-clause-place c = (let count = c.capacity_left.ensures.count in let inside = c.if-place-capacity_left.true in omega (arith, count, inside))
+choice_at-requires-clause-place c = (let count = c.choice_count.ensures.count in let inside = c.if-place-choice_count.true in omega (arith, count, inside))
 
-pub returns-then-place-capacity_left-clause-next : goal.returns-then-place-capacity_left-clause-next
-returns-then-place-capacity_left-clause-next c =
+pub returns-then-place-choice_count-clause-next : goal.returns-then-place-choice_count-clause-next
+returns-then-place-choice_count-clause-next c =
     let i = c.self.inside in
     sym c.self.view_is
     ∙ ap (λ xs. xs ++ turns_from i.k i.number i.state i.favourite i.turns) (drop_at (choices i.k) i.place c.choice_at.result c.choice_at.ensures)
@@ -16,8 +16,8 @@ returns-then-place-capacity_left-clause-next c =
 pub returns-clause-next : goal.returns-clause-next
 returns-clause-next c =
     let i = c.self.inside in
-    let all = c.capacity_left.ensures.all in
-    let past = c.if-place-capacity_left.false in
+    let all = c.choice_count.ensures.all in
+    let past = c.if-place-choice_count.false in
     let some = c.if-self-eq0.false in
     sym c.self.view_is
     ∙ turn_next i.k i.number i.state i.favourite i.turns i.place c.next_state-self-inside.result c.favoured_processor-self-inside.result

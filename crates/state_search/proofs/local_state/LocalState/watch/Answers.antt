@@ -1,7 +1,7 @@
 use Rattle.std.proofs.Common.{refl, subst}
 use Rattle.state_search.specs.Placed.{IsEqual}
 use Rattle.state_search.proofs.Still.{gone_on, standing_quiet, none_gone_on, gone_on_more, back_still, back_quiet}
-use Rattle.state_search.proofs.local_state.LocalState.observer.Goals as goal
+use Rattle.state_search.proofs.local_state.LocalState.watch.Goals as goal
 
 pub loop-turn-init : goal.loop-turn-init
 loop-turn-init c = none_gone_on _ _ _
