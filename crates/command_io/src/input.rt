@@ -9,10 +9,9 @@ ghost use Rattle.command_io.specs.Files.{IsFaultOfImage, IsFaultOfSize};
 use crate::fault::Fault;
 use elf_image::{Image, ImageError, read_image};
 use flat_machine::Config;
-use link::{LinkRead, Meter};
+use link::LinkRead;
 use machine_steps::{Machine, NewError};
 use std::alloc::Global;
-use std::io::Read;
 
 /// Reads the image in a file, for machines of this size.
 ///
@@ -27,18 +26,6 @@ pub fn image_of<R: LinkRead>(alloc: Global, file: &mut R, config: &Config) -> Re
     ensures link { IsErrOf result (Fault.Image ImageError.Link) ↔ (R.has_failed file.new ≡ true) }
 {
     Ok(read_image(alloc, file, config)?)
-}
-
-/// Reads the image in a file that nobody reads afterwards, for machines of this size.
-///
-/// # Errors
-///
-/// [`Fault::Image`] if the file is refused or cannot be read, and [`Fault::Memory`].
-pub fn image_in<R: Read + Drop>(alloc: Global, file: R, config: &Config) -> Result<Image, Fault>
-    ensures image { IfOk result (IsImageOf config.now.shared_words (R.remaining file)) }
-    ensures refused { IfErr result (IsFaultOfImage config.now.shared_words (R.remaining file)) }
-{
-    image_of(alloc, &mut Meter::new(file), config)
 }
 
 /// The machine of this size that opens on an image. The image was read for that number of shared words.

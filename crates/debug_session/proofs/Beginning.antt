@@ -1,19 +1,18 @@
 -- A session that was begun, and one that was not.
-use Rattle.std.proofs.Common.{◌≡◌, ◌∙◌, ℕ, List, Option, ap, subst}
+use Rattle.std.proofs.Common.{◌≡◌, ◌∙◌, ℕ, Bool, List, Option, ap, subst}
 use Rattle.flat_machine.specs.declared.config.Config.{Config}
-use Rattle.machine_steps.specs.elf_image.Files.{IsImageOf}
-use Rattle.machine_steps.specs.elf_image.Images.{ImageContents}
+use Rattle.elf_image.specs.Files.{IsImageOf}
+use Rattle.elf_image.specs.Images.{ImageContents}
 use Rattle.machine_steps.specs.Machines.{MachineLists}
 use Rattle.machine_steps.specs.Runs.{IsOpening, IsReplay}
 use Rattle.machine_log.specs.Logs.{Log}
 use Rattle.command_io.specs.declared.fault.Fault.{Fault}
 use Rattle.command_io.specs.declared.fault.Fault.TheVariants as fault
-use Rattle.command_io.specs.Files.{IsFaultOfImage}
 use Rattle.command_io.specs.Files.{IsFaultOfSize}
 use Rattle.debug_session.specs.Conversations.{HasServed, IsServed}
 use Rattle.debug_session.specs.declared.session_end.SessionEnd.{SessionEnd}
 use Rattle.debug_session.specs.declared.session_end.SessionEnd.TheVariants.{Quit, EndOfInput, ReadFailed, WriteFailed, Memory, TraceFull}
-use Rattle.debug_session.specs.Sessions.{IsNoSession, IsSession, opened}
+use Rattle.debug_session.specs.Sessions.{AskedSession, IsNoSession, IsSession, asked_session, link_spec, opened}
 use Rattle.debug_session.specs.Sweeps.{sweep_spec}
 use Rattle.debug_session.proofs.Opened.{opens_alike}
 
@@ -35,8 +34,8 @@ whoever TraceFull A B C a b f g = g b
 
 -- a session on a log that was just begun
 module _ {R W : Type 0} (gives : R × W → Type 0) (remaining : R → Option (List ℕ)) (contents : W → Option (List ℕ)) (c : Config)
-    (budget : ℕ) (known : Option (List ℕ)) (image : ImageContents) (opening : MachineLists) (old new : Log) (link : R × W) (reader : R) (writer : W)
-    (end : SessionEnd) where
+    (budget : ℕ) (known : Option (List ℕ)) (failed : Bool) (image : ImageContents) (opening : MachineLists) (old new : Log) (link : R × W)
+    (reader : R) (writer : W) (end : SessionEnd) where
   abbrev Served : Log → Type 0
   Served old = HasServed (sweep_spec budget) (remaining link.0) (remaining reader) (contents link.1) (contents writer) old new end
 
@@ -46,7 +45,7 @@ module _ {R W : Type 0} (gives : R × W → Type 0) (remaining : R → Option (L
   -- A session on a log that was just opened, begun or refused, is a session of the command.
   pub session : IsImageOf c.shared_words known image → IsOpening c image opening → old ≡ opened opening → gives link →
       IsServed end (Served old) (Unit {0}) → IsServed end (Unit {0}) Refused → IsReplay new.opening new.steps new.machine →
-      IsSession gives remaining contents c budget known end new
+      IsSession (link_spec gives remaining contents) (asked_session c budget (record { bytes = known; has_failed = failed })) end new
   session meant opens begun given served refused replay = record {
     image = image;
     meant = meant;
@@ -70,39 +69,21 @@ module _ {R W : Type 0} (gives : R × W → Type 0) (remaining : R → Option (L
           (λ same. ap (λ (l : Log). l.opening) same)
           ∙ ap (λ (l : Log). l.opening) begun
 
--- the image is refused
-pub no_image : (c : Config) (known : Option (List ℕ)) (f : Fault) → IsFaultOfImage c.shared_words known f → IsNoSession c known f
-no_image c known (fault.Image e) p = p
-no_image c known fault.Memory p = tt
-no_image c known (fault.Line n) p = absurd p
-no_image c known (fault.Text e) p = absurd p
-no_image c known fault.NotUtf8 p = absurd p
-no_image c known (fault.Trace e) p = absurd p
-no_image c known fault.Size p = absurd p
-no_image c known (fault.Stalled n) p = absurd p
-no_image c known fault.Budget p = absurd p
-no_image c known fault.Full p = absurd p
-no_image c known fault.Loan p = absurd p
-no_image c known fault.Start p = absurd p
-no_image c known fault.States p = absurd p
-no_image c known fault.Alone p = absurd p
-no_image c known fault.Link p = absurd p
-
 -- the size is out of its limits
-pub no_machine : (c : Config) (known : Option (List ℕ)) (image : ImageContents) (f : Fault) → IsImageOf c.shared_words known image → IsFaultOfSize c f →
-    IsNoSession c known f
-no_machine c known image fault.Size meant p = ((image, meant), p)
-no_machine c known image fault.Memory meant p = tt
-no_machine c known image (fault.Image e) meant p = absurd p
-no_machine c known image (fault.Line n) meant p = absurd p
-no_machine c known image (fault.Text e) meant p = absurd p
-no_machine c known image fault.NotUtf8 meant p = absurd p
-no_machine c known image (fault.Trace e) meant p = absurd p
-no_machine c known image (fault.Stalled n) meant p = absurd p
-no_machine c known image fault.Budget meant p = absurd p
-no_machine c known image fault.Full meant p = absurd p
-no_machine c known image fault.Loan meant p = absurd p
-no_machine c known image fault.Start meant p = absurd p
-no_machine c known image fault.States meant p = absurd p
-no_machine c known image fault.Alone meant p = absurd p
-no_machine c known image fault.Link meant p = absurd p
+pub no_machine : (d : AskedSession) (image : ImageContents) (f : Fault) → IsImageOf d.config.shared_words d.file.bytes image →
+    IsFaultOfSize d.config f → IsNoSession d f
+no_machine d image fault.Size meant p = ((image, meant), p)
+no_machine d image fault.Memory meant p = tt
+no_machine d image (fault.Image e) meant p = absurd p
+no_machine d image (fault.Line n) meant p = absurd p
+no_machine d image (fault.Text e) meant p = absurd p
+no_machine d image fault.NotUtf8 meant p = absurd p
+no_machine d image (fault.Trace e) meant p = absurd p
+no_machine d image (fault.Stalled n) meant p = absurd p
+no_machine d image fault.Budget meant p = absurd p
+no_machine d image fault.Full meant p = absurd p
+no_machine d image fault.Loan meant p = absurd p
+no_machine d image fault.Start meant p = absurd p
+no_machine d image fault.States meant p = absurd p
+no_machine d image fault.Alone meant p = absurd p
+no_machine d image fault.Link meant p = absurd p

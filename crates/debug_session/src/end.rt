@@ -1,5 +1,6 @@
 //! How a session's end is reported.
 
+ghost use Rattle.command_io.specs.ErrorOutputs.{errors_to};
 ghost use Rattle.debug_session.specs.Sessions.{IsEndReported, IsStatusOf};
 
 use crate::session_end::SessionEnd;
@@ -12,7 +13,7 @@ use trace_commands::exit_status;
 /// after `quit` and at the end of the input 1 where a processor of the machine is faulted, else 0.
 pub fn debug_end<E: Write>(end: SessionEnd, machine: &Machine, err: &mut E) -> u8
     ensures status { IsStatusOf end machine.now result }
-    ensures reported { IsEndReported end err.old err.new (E.contents err.old) (E.contents err.new) }
+    ensures reported { IsEndReported end (errors_to E.contents err.old err.new) }
 {
     match end {
         SessionEnd::Quit | SessionEnd::EndOfInput => exit_status(machine),

@@ -1,13 +1,14 @@
 //! Where a debugger is awaited, and how that is said.
 
-ghost use Rattle.std.specs.Prelude.{◌≡◌, ◌∷◌, ◌++◌, [], codes, OnOk};
-ghost use Rattle.std.specs.Fmt.{decimal};
+ghost use Rattle.std.specs.Prelude.{◌≡◌, ◌∷◌, [], false, is_err, OnErr, OnOk};
 ghost use Rattle.std.specs.Io.KnownBytes.{Appends};
 ghost use Rattle.std.specs.Net.Socket.{socket_ip, socket_port};
-ghost use Rattle.debug_session.specs.Listening.{octets_of};
+ghost use Rattle.link.specs.Transfer.{AppendsPart};
+ghost use Rattle.debug_session.specs.Listening.{listening_line, octets_of};
 
-use std::io;
-use std::io::Write;
+use arrayvec::ArrayString;
+use itoa::Buffer;
+use link::{Failed, LinkWrite, write_whole};
 use std::net::{IpAddr, Ipv4Addr, SocketAddr};
 
 /// The address of a port of 127.0.0.1: no other machine reaches it.
@@ -22,10 +23,24 @@ pub fn loopback(port: u16) -> SocketAddr
 ///
 /// # Errors
 ///
-/// That of the writer.
-pub fn announce<W: Write>(port: u16, out: &mut W) -> io::Result<()>
-    ensures { OnOk result (Appends (W.contents out.old) (W.contents out.new)
-        (codes "listening " ++ decimal port ++ 10 ∷ [])) }
+/// [`Failed`] exactly if the writer failed in this call. A beginning of the line, and not all of it, is written then.
+pub fn announce<W: LinkWrite>(port: u16, out: &mut W) -> Result<(), Failed>
+    requires works { W.has_failed out.old ≡ false }
+    ensures failed { W.has_failed out.new ≡ is_err result }
+    ensures announced { OnOk result (Appends (W.contents out.old) (W.contents out.new) (listening_line port)) }
+    ensures begun { OnErr result (AppendsPart (W.contents out.old) (W.contents out.new) (listening_line port)) }
 {
-    writeln!(out, "listening {port}")
+    write_whole(out, listening_line(port).as_bytes())
+}
+
+/// The line that says at which port a debugger can connect.
+#[tactic(auto, unfolding(crate::specs::Listening::listening_line))]
+fn listening_line(port: u16) -> ArrayString<16>
+    ensures { result.bytes ≡ listening_line port }
+{
+    let mut line = ArrayString::new();
+    line.push_str("listening ");
+    line.push_str(Buffer::new().format(port));
+    line.push_str("\n");
+    line
 }

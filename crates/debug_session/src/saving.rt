@@ -3,10 +3,11 @@
 ghost use Rattle.std.specs.Prelude.{◌≡◌, false, is_err, IfErr, OnErr, OnOk};
 ghost use Rattle.std.specs.Io.KnownBytes.{Appends};
 ghost use Rattle.link.specs.Transfer.{AppendsPart};
+ghost use Rattle.command_io.specs.ErrorOutputs.{errors_to};
 ghost use Rattle.trace_file.specs.Traces.{trace_bytes, trace_of};
 ghost use Rattle.trace_commands.specs.TraceReports.{IsPartSaved, IsSaved, IsWorking};
 ghost use Rattle.debug_session.specs.Conversations.{IsServed};
-ghost use Rattle.debug_session.specs.Sessions.{IsBroken, IsEnding};
+ghost use Rattle.debug_session.specs.Sessions.{IsBroken, IsEnding, session_result, trace_link};
 
 use crate::end::debug_end;
 use crate::laws::log_has_trace;
@@ -26,7 +27,8 @@ pub(crate) fn finish<T: LinkWrite, E: Write>(
     err: &mut E,
 ) -> u8
     requires works { IsWorking T.has_failed trace.old }
-    ensures { IsEnding T.has_failed T.contents log.now.machine.config end log.now trace.old trace.new result }
+    ensures { IsEnding (session_result log.now.machine.config end log.now)
+        (trace_link T.has_failed T.contents trace.old trace.new) (errors_to E.contents err.old err.new) result }
 {
     match save_session(end, log, trace) {
         Ok(()) => debug_end(end, log.machine(), err),

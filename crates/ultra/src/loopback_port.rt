@@ -6,7 +6,7 @@ use crate::reports::Reason;
 use debug_session::{Connect, announce, loopback};
 use link::{Failed, Meter};
 use std::io;
-use std::io::Write;
+use std::io::{ErrorKind, Write};
 use std::net::{Net, OpenListener, OpenStream, TcpListener};
 
 /// A port of 127.0.0.1 that waits for one connection, and the writer that reports when the connection can be made.
@@ -45,7 +45,9 @@ impl<R: Net, W: Write> LoopbackPort<'_, R, W> {
     /// The two sides of the one connection.
     fn streams(&mut self) -> io::Result<(R::Stream, R::Stream)> {
         let listener = TcpListener::bind(self.net, loopback(self.port))?;
-        announce(self.port, self.out)?;
+        let Ok(()) = announce(self.port, &mut Meter::new(&mut *self.out)) else {
+            return Err(ErrorKind::Other.into());
+        };
         self.out.flush()?;
         let (stream, _) = listener.accept()?;
         // A reply is one line, and the debugger waits for it.

@@ -449,7 +449,7 @@ fn debug_file<'a, R: Files + Net + Wait + AllocGlobal, W: Write, E: Write>(
     out: &mut W,
     err: &mut E,
 ) -> Result<u8, Refusal<'a>> {
-    let file = open_beside(rt, session.file, session.trace, reason)?;
+    let mut file = Meter::new(open_beside(rt, session.file, session.trace, reason)?);
     let config = config_of(&session.sizes);
     let mut trace = trace_to(rt, session.trace, reason);
     let mut loopback_port = LoopbackPort {
@@ -462,7 +462,7 @@ fn debug_file<'a, R: Files + Net + Wait + AllocGlobal, W: Write, E: Write>(
     Ok(debug_command(
         rt,
         rt.alloc(),
-        file,
+        &mut file,
         config,
         budget,
         &mut loopback_port,

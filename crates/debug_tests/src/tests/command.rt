@@ -68,7 +68,7 @@ fn ends<F: Read + Drop>(
     let ended = debug_command(
         rt,
         rt.alloc(),
-        file,
+        &mut Meter::new(file),
         config,
         1000,
         door,

@@ -46,7 +46,7 @@ fn saved(
     let status = debug_command(
         rt,
         rt.alloc(),
-        image,
+        &mut Meter::new(image),
         size(2),
         1000,
         door,
