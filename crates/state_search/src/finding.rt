@@ -80,7 +80,7 @@ pub fn explore_states<const N: usize, G: SearchObserver>(
         classes,
         first,
         limit,
-        watch,
+        observer,
         &mut successors,
         &mut found,
     );

@@ -15,4 +15,4 @@ returns-then-branch-clause-quiet c =
     standing_quiet c.args.quietly c.args.code.now c.step.new.self (c.in_ok-step.ensures.stands c.if-branch.true)
 
 pub returns-clause-gone : goal.returns-clause-gone
-returns-clause-gone c = gone_both _ _ _ _ _ c.loop-turn.invariant c.in_ok-settle_watched.ensures.gone
+returns-clause-gone c = gone_both _ _ _ _ _ c.loop-turn.invariant c.in_ok-run_watched.ensures.gone
