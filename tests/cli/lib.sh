@@ -50,13 +50,13 @@ failed=0
 run_check() {
     local name=$1
     shift
-    if "$@" >"$room/found" 2>&1 </dev/null; then
+    if "$@" >"$room/.printed" 2>&1 </dev/null; then
         passed=$((passed + 1))
         printf 'ok      %s\n' "$name"
     else
         failed=$((failed + 1))
         printf 'FAILED  %s\n' "$name"
-        sed 's/^/        /' "$room/found"
+        sed 's/^/        /' "$room/.printed"
         return 1
     fi
 }
