@@ -45,7 +45,7 @@ impl<R: Net, W: Write> LoopbackPort<'_, R, W> {
     /// The two sides of the one connection.
     fn streams(&mut self) -> io::Result<(R::Stream, R::Stream)> {
         let listener = TcpListener::bind(self.net, loopback(self.port))?;
-        let Ok(()) = announce(self.port, &mut Meter::new(&mut *self.out)) else {
+        let Ok(()) = announce_on(self.out, self.port) else {
             return Err(ErrorKind::Other.into());
         };
         self.out.flush()?;
@@ -54,4 +54,9 @@ impl<R: Net, W: Write> LoopbackPort<'_, R, W> {
         stream.set_nodelay(true)?;
         Ok((stream.try_clone()?, stream))
     }
+}
+
+/// Reports on a writer that the debugger can connect at a port.
+fn announce_on<W: Write>(out: &mut W, port: u16) -> Result<(), Failed> {
+    announce(port, &mut Meter::new(out))
 }
