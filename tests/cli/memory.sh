@@ -349,7 +349,12 @@ stops_without_a_thread() {
             { echo "thread $number" && cat "$room/out" && return 1; }
     done
 }
-if compgen -G 'crates/*/out/*_tests' >/dev/null; then
+# Whether each crate of tests has its program.
+has_programs_of_tests() {
+    local crate
+    for crate in crates/*_tests; do [ -x "$crate/out/${crate##*/}_tests" ] || return 1; done
+}
+if has_programs_of_tests; then
     check 'calls without memory for one request report that they are out of memory, or give their answers' refuses_memory_of_calls
     check 'the other threads of a run without end stop at once if one cannot start' stops_without_a_thread
 else
