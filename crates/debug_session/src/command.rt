@@ -1,4 +1,4 @@
-//! `ultra debug`: from the bytes of an image to the end of a session.
+//! `ultra debug`: loads an image, serves a session on it, and saves the session's trace.
 
 ghost use Rattle.std.specs.Prelude.{◌≡◌, ◌↔◌, true, false, IfOk, IfErr, IsErrOf, OnOk};
 ghost use Rattle.command_io.specs.ErrorOutputs.{errors_to};
@@ -21,15 +21,15 @@ use std::alloc::Global;
 use std::io::Write;
 use std::sync::Wait;
 
-/// Serves a session on a machine of this size that opens on the image that a file is. A link is asked for once the
-/// machine is there. `cont` follows the sweep, for as many steps as the budget has at most. Where a trace is asked for,
-/// that of the session is written once it is over, however it ended: its steps lead the machine from where it opens to
-/// where it stands. Of a session that could not begin nothing is written.
+/// Reads an image, opens a machine of this size on it, and then asks `door` for a link and serves a session over it.
+/// `cont` takes the steps of the sweep, at most `budget` of them.
 ///
-/// Answers the exit status, that of the session's end ([`crate::debug_end`]). Where there is no session, or its trace
-/// could not be written, it is that of the fault that is reported on standard error, in this order: of the image, of
-/// the machine's size, of the link that is asked for, of the trace, which is reported in place of how the session
-/// ended.
+/// If a trace is wanted, it is written after the session, however the session ended. Its steps lead from the machine
+/// as it opens to the machine as the session left it. Nothing is written if the session could not begin.
+///
+/// Returns the exit status. After a session that is [`crate::debug_end`]'s. If there was no session, or its trace could
+/// not be written, the status is that of the fault on standard error. Faults are looked for in this order: the image,
+/// the machine's size, the link, the trace. A fault of the trace is reported instead of the session's end.
 pub fn debug_command<F: LinkRead, C: Connect, T: LinkWrite, E: Write>(
     rt: &impl Wait,
     alloc: Global,
@@ -53,7 +53,12 @@ pub fn debug_command<F: LinkRead, C: Connect, T: LinkWrite, E: Write>(
     }
 }
 
-/// The end of a session, and the log that it leaves.
+/// Opens the machine, serves the session, and returns how it ended and its log.
+///
+/// # Errors
+///
+/// [`Fault::Image`], [`Fault::Size`] or [`Fault::Memory`] if the machine could not be opened, and [`Fault::Link`] if
+/// `door` gave no link.
 fn session<F: LinkRead, C: Connect>(
     rt: &impl Wait,
     alloc: Global,

@@ -9,8 +9,8 @@ use machine_steps::Machine;
 use std::io::Write;
 use trace_commands::exit_status;
 
-/// Reports on standard error why a session ended, where it did by a fault, and answers the exit status of `debug`:
-/// after `quit` and at the end of the input 1 where a processor of the machine is faulted, else 0.
+/// Reports on standard error the fault that ended a session, if one did, and returns the exit status of `debug`. After
+/// `quit` or the end of the input, that is 1 if a processor of the machine is faulted, and 0 if none is.
 pub fn debug_end<E: Write>(end: SessionEnd, machine: &Machine, err: &mut E) -> u8
     ensures status { IsStatusOf end machine.now result }
     ensures reported { IsEndReported end (errors_to E.contents err.old err.new) }

@@ -1,4 +1,4 @@
-//! Where a debugger is awaited, and how that is said.
+//! The address that `debug` listens at, and the line that says so.
 
 ghost use Rattle.std.specs.Prelude.{◌≡◌, ◌∷◌, [], false, is_err, OnErr, OnOk};
 ghost use Rattle.std.specs.Io.KnownBytes.{Appends};
@@ -11,7 +11,7 @@ use itoa::Buffer;
 use link::{Failed, LinkWrite, write_whole};
 use std::net::{IpAddr, Ipv4Addr, SocketAddr};
 
-/// The address of a port of 127.0.0.1: no other machine reaches it.
+/// The address of this port of 127.0.0.1, which no other machine reaches.
 pub fn loopback(port: u16) -> SocketAddr
     ensures host { octets_of (socket_ip result) ≡ 127 ∷ 0 ∷ 0 ∷ 1 ∷ [] }
     ensures port { socket_port result ≡ port }
@@ -19,11 +19,11 @@ pub fn loopback(port: u16) -> SocketAddr
     SocketAddr::new(IpAddr::V4(Ipv4Addr::new(127, 0, 0, 1)), port)
 }
 
-/// Says at which port a debugger can connect: `listening PORT`, the port in decimal, on a line.
+/// Writes the port that a debugger can connect to: the line `listening PORT`, with the port in decimal.
 ///
 /// # Errors
 ///
-/// [`Failed`] exactly if the writer failed in this call. A beginning of the line, and not all of it, is written then.
+/// [`Failed`] exactly if the writer failed in this call. Then a beginning of the line is written, and not all of it.
 pub fn announce<W: LinkWrite>(port: u16, out: &mut W) -> Result<(), Failed>
     requires works { W.has_failed out.old ≡ false }
     ensures failed { W.has_failed out.new ≡ is_err result }
@@ -33,7 +33,7 @@ pub fn announce<W: LinkWrite>(port: u16, out: &mut W) -> Result<(), Failed>
     write_whole(out, listening_line(port).as_bytes())
 }
 
-/// The line that says at which port a debugger can connect.
+/// The line `listening PORT`.
 #[tactic(auto, unfolding(crate::specs::Listening::listening_line))]
 fn listening_line(port: u16) -> ArrayString<16>
     ensures { result.bytes ≡ listening_line port }

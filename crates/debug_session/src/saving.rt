@@ -1,4 +1,4 @@
-//! The trace of a session, once it is over.
+//! Saves the trace of a session after its end.
 
 ghost use Rattle.std.specs.Prelude.{◌≡◌, false, is_err, IfErr, OnErr, OnOk};
 ghost use Rattle.std.specs.Io.KnownBytes.{Appends};
@@ -18,8 +18,8 @@ use machine_log::Logged;
 use std::io::Write;
 use trace_file::{TraceError, write_trace};
 
-/// Writes the trace of a session that has ended so, where one is asked for, and then says how it ended, or that the
-/// trace could not be written. Answers the exit status.
+/// Writes the trace of a session if one is wanted. Then reports how the session ended or, if the writer failed, that
+/// the trace could not be written. Returns the exit status.
 pub(crate) fn finish<T: LinkWrite, E: Write>(
     end: SessionEnd,
     log: &Logged,
@@ -36,11 +36,11 @@ pub(crate) fn finish<T: LinkWrite, E: Write>(
     }
 }
 
-/// Writes the trace of a session that has ended so, where one is asked for: the steps of its log, if it has begun.
+/// Writes the steps of a session's log as a trace, if one is wanted and the session began.
 ///
 /// # Errors
 ///
-/// [`Fault::Trace`] with [`TraceError::Link`] exactly if the writer fails: a beginning of the trace is written then.
+/// [`Fault::Trace`] with [`TraceError::Link`] exactly if the writer fails. Then a beginning of the trace is written.
 fn save_session<T: LinkWrite>(
     end: SessionEnd,
     log: &Logged,
@@ -60,12 +60,12 @@ fn save_session<T: LinkWrite>(
         | SessionEnd::EndOfInput
         | SessionEnd::ReadFailed
         | SessionEnd::WriteFailed => save(log, trace),
-        // Nothing was read, and the log is as it was.
+        // The drain that begins a session was refused. Nothing was read, and there is nothing to save.
         SessionEnd::Memory | SessionEnd::TraceFull => Ok(()),
     }
 }
 
-/// Writes the trace of a log, where one is asked for.
+/// Writes the trace of a log if one is wanted.
 fn save<T: LinkWrite>(log: &Logged, trace: &mut Option<T>) -> Result<(), Fault>
     requires works { IsWorking T.has_failed trace.old }
     ensures working { OnOk result (IsWorking T.has_failed trace.new) }
