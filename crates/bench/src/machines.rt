@@ -107,7 +107,7 @@ fn image(alloc: Global, config: &Config) -> anyhow::Result<Image> {
 }
 
 /// How many stages the machines have, and how many machines are run.
-fn asked(arguments: &[String]) -> anyhow::Result<(u8, u32)> {
+fn parse_arguments(arguments: &[String]) -> anyhow::Result<(u8, u32)> {
     match arguments {
         [] => Ok((2, 1)),
         [k, runs] => Ok((k.parse()?, runs.parse()?)),
@@ -171,7 +171,7 @@ fn measure(rt: &HostRuntime, config: Config, runs: u32) -> anyhow::Result<()> {
 
 /// Runs machines as these arguments ask, and prints the results.
 pub fn run(rt: &HostRuntime, arguments: &[String]) -> anyhow::Result<()> {
-    let (k, runs) = asked(arguments)?;
+    let (k, runs) = parse_arguments(arguments)?;
     let config = Config {
         k,
         c: 4,

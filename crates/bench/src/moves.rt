@@ -195,7 +195,7 @@ fn run_rounds(alloc: Global, clock: &impl Clock, kind: Kind, rounds: u32) -> any
 }
 
 /// Which kinds of rounds are measured, and how many rounds.
-fn asked(arguments: &[String]) -> anyhow::Result<(&'static [Kind], u32)> {
+fn parse_arguments(arguments: &[String]) -> anyhow::Result<(&'static [Kind], u32)> {
     match arguments {
         [] => Ok((&[Kind::One, Kind::Each], 10)),
         [kind, rounds] if kind.as_str() == "one" => Ok((&[Kind::One], rounds.parse()?)),
@@ -224,7 +224,7 @@ fn tell(rt: &HostRuntime, kind: Kind, rounds: u32, bench: &Bench) -> anyhow::Res
 
 /// Moves messages as these arguments ask, and prints what that did.
 pub fn run(rt: &HostRuntime, arguments: &[String]) -> anyhow::Result<()> {
-    let (kinds, rounds) = asked(arguments)?;
+    let (kinds, rounds) = parse_arguments(arguments)?;
     for kind in kinds {
         let bench = run_rounds(rt.alloc(), rt, *kind, rounds)?;
         tell(rt, *kind, rounds, &bench)?;

@@ -379,7 +379,7 @@ fn explain() -> CommandForm
 
 impl TraceCommand {
     /// The command of this name.
-    pub fn named(name: &str) -> Option<Self>
+    pub fn of_name(name: &str) -> Option<Self>
         ensures some { IfSome result (λ command. name.now ≡ trace_name command) }
         ensures none { result ≡ None → (command : TraceCommand) → name.now ≢ trace_name command }
     {

@@ -51,7 +51,7 @@ pub fn machine_of(alloc: Global, image: Image, config: Config) -> Result<Machine
 /// # Errors
 ///
 /// [`Fault::Size`] exactly if the size is out of limits, else [`Fault::Memory`].
-pub fn opened(alloc: Global, image: &Image, config: Config) -> Result<Machine, Fault>
+pub fn machine_of_copy(alloc: Global, image: &Image, config: Config) -> Result<Machine, Fault>
     requires words { image.now.shared_words ≡ config.shared_words }
     ensures opening { IfOk result (IsOpening config image.now) }
     ensures refused { IfErr result (IsFaultOfSize config) }

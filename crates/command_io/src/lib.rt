@@ -24,7 +24,7 @@ mod tally;
 pub use digits::{push_bytes, push_status, push_word};
 pub use exit::{DONE, LINK_FAILED, REFUSED, SPENT, STOPPED_BY_FAULT};
 pub use fault::{Fault, report_fault, report_outcome};
-pub use input::{image_of, machine_of, opened};
+pub use input::{image_of, machine_of, machine_of_copy};
 pub use lines::{push_console, push_processor, push_shared_word};
 pub use on_first_write::{CreateAt, OnFirstWrite, Open};
 pub use printing::{print, write_error, write_error_parts};

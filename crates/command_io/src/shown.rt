@@ -33,7 +33,7 @@ impl Shown {
     }
 
     /// How many instructions have retired.
-    pub fn retired(&self) -> u32
+    pub fn retired_count(&self) -> u32
         ensures { result ≡ self.now.retired }
     {
         self.retired

@@ -14,7 +14,7 @@ use Rattle.debug_replies.specs.Stops.{is_running_at}
 use Rattle.machine_steps.specs.Runs.{flat_state}
 use Rattle.debug_session.specs.Answers.{Acts, ActsUnless, Continues, Ending, HasStepped, IsTried, Session, Sets, StepsWhere, pokes_of, session}
 use Rattle.debug_session.specs.Conversations.{HasServed}
-use Rattle.debug_session.specs.Dialogues.{asked, Dialogue}
+use Rattle.debug_session.specs.Dialogues.{command_of_event, Dialogue}
 use Rattle.debug_session.specs.Runs.{RunSpec}
 use Rattle.debug_session.specs.declared.session_end.SessionEnd.{SessionEnd}
 
@@ -87,7 +87,7 @@ talked : (run : RunSpec) (old : Session) (events : List Event) (replies : List (
 talked run old [] [] new h = same_session old new h
 talked run old (event ∷ events) (reply ∷ replies) new h =
     talked run h.0 events replies new h.2
-    ∙ acted_unless run (error_of (flat_state old.log.machine) (asked event)) old (asked event) h.1.ending h.0 h.1.acts
+    ∙ acted_unless run (error_of (flat_state old.log.machine) (command_of_event event)) old (command_of_event event) h.1.ending h.0 h.1.acts
 talked run old [] (reply ∷ replies) new h = absurd h
 talked run old (event ∷ events) [] new h = absurd h
 

@@ -13,7 +13,7 @@ use Rattle.machine_steps.specs.Machines.{IsIdle}
 use Rattle.machine_log.specs.Logs.{Log}
 use Rattle.debug_session.specs.Answers.{Session, session, Answers}
 use Rattle.debug_session.specs.Runs.{RunSpec}
-use Rattle.debug_session.specs.Dialogues.{asked, Dialogue, NoneQuits, is_quit}
+use Rattle.debug_session.specs.Dialogues.{command_of_event, Dialogue, NoneQuits, is_quit}
 use Rattle.debug_session.specs.Conversations.{Conversation, EndsWith, Goes, HasDrained, HasServed, IsCutShort, IsEnd, IsServed, IsStop, Reads, Stops}
 use Rattle.debug_session.specs.declared.session_end.SessionEnd.{SessionEnd}
 use Rattle.debug_session.specs.declared.session_end.SessionEnd.TheVariants.{Quit, EndOfInput, ReadFailed, WriteFailed, Memory, TraceFull}
@@ -148,7 +148,7 @@ module _ (run : RunSpec) where
 
   -- If one event ends in the bytes, is answered whole and is not `quit`, the dialogue goes on.
   pub goes_one : (h k : Held) (s t : Session) (w v : Option (List ℕ)) (xs : List ℕ) (e : Event) (reply : List ℕ) → Reads h xs (e ∷ []) k →
-      Answers run s (asked e) reply t → is_quit e ≡ false → Appends w v (reply ++ 10 ∷ []) → Goes run h s w xs k t v
+      Answers run s (command_of_event e) reply t → is_quit e ≡ false → Appends w v (reply ++ 10 ∷ []) → Goes run h s w xs k t v
   goes_one h k s t w v xs e reply r p n a = record {
     events = e ∷ [];
     replies = reply ∷ [];
@@ -160,7 +160,7 @@ module _ (run : RunSpec) where
 
   -- If the one event that was read is answered whole and ends the session, the dialogue stops with `quit`.
   pub stops_at_quit : (h k : Held) (s t : Session) (w v : Option (List ℕ)) (xs : List ℕ) (e : Event) (reply : List ℕ) → Reads h xs (e ∷ []) k →
-      Answers run s (asked e) reply t → is_quit e ≡ true → Appends w v (reply ++ 10 ∷ []) → Stops run h s w xs k t v Quit
+      Answers run s (command_of_event e) reply t → is_quit e ≡ true → Appends w v (reply ++ 10 ∷ []) → Stops run h s w xs k t v Quit
   stops_at_quit h k s t w v xs e reply r p y a = record {
     events = e ∷ [];
     replies = reply ∷ [];
@@ -175,7 +175,7 @@ module _ (run : RunSpec) where
 
   -- If the answer to the one event that was read is written in part, the dialogue stops with a failed write.
   pub stops_at_write : (h k : Held) (s t : Session) (w v : Option (List ℕ)) (xs : List ℕ) (e : Event) (reply : List ℕ) → Reads h xs (e ∷ []) k →
-      Answers run s (asked e) reply t → AppendsPart w v (reply ++ 10 ∷ []) → Stops run h s w xs k t v WriteFailed
+      Answers run s (command_of_event e) reply t → AppendsPart w v (reply ++ 10 ∷ []) → Stops run h s w xs k t v WriteFailed
   stops_at_write h k s t w v xs e reply r p a = record {
     events = e ∷ [];
     replies = reply ∷ [];

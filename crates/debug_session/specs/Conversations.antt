@@ -9,7 +9,7 @@ use Rattle.machine_steps.specs.Draining.{drain_steps, IsDrained}
 use Rattle.machine_steps.specs.Machines.{IsIdle}
 use Rattle.machine_log.specs.Logs.{Log}
 use Rattle.debug_session.specs.Answers.{Answers, Session, session}
-use Rattle.debug_session.specs.Dialogues.{Dialogue, NoneQuits, asked, is_quit}
+use Rattle.debug_session.specs.Dialogues.{Dialogue, NoneQuits, command_of_event, is_quit}
 use Rattle.debug_session.specs.Runs.{RunSpec}
 use Rattle.debug_session.specs.declared.session_end.SessionEnd.{SessionEnd}
 use Rattle.debug_session.specs.declared.session_end.SessionEnd.TheVariants.{Quit, EndOfInput, ReadFailed, WriteFailed}
@@ -95,14 +95,14 @@ Reads held input events kept =
 pub record AnswersEvent (run : RunSpec) (old : Session) (writer : Option (List ℕ)) (event : Event)
     (new : Session) (writer' : Option (List ℕ)) : Type 0 where
   pub reply : List ℕ
-  pub answers : Answers run old (asked event) reply new
+  pub answers : Answers run old (command_of_event event) reply new
   pub wrote : Appends writer writer' (reply ++ 10 ∷ [])
 
 -- The command of an event is executed, and a beginning of its reply's line, and not all of it, is written.
 pub record AnswersEventInPart (run : RunSpec) (old : Session) (writer : Option (List ℕ)) (event : Event)
     (new : Session) (writer' : Option (List ℕ)) : Type 0 where
   pub reply : List ℕ
-  pub answers : Answers run old (asked event) reply new
+  pub answers : Answers run old (command_of_event event) reply new
   pub wrote : AppendsPart writer writer' (reply ++ 10 ∷ [])
 
 -- The input ends events, none of which ends the session, and each reply is written whole.

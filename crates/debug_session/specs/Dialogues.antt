@@ -10,16 +10,16 @@ use Rattle.debug_session.specs.Answers.{Session, Answers}
 use Rattle.debug_session.specs.Runs.{RunSpec}
 
 -- the command that an event asks for; a line that is too long is malformed
-abbrev pub asked : Event → Command
-asked (Line line) = command_of line
-asked TooLong = Malformed
+abbrev pub command_of_event : Event → Command
+command_of_event (Line line) = command_of line
+command_of_event TooLong = Malformed
 
 -- From the old session on, each event in turn is answered by the reply at its place, and the last leaves the new
 -- session.
 abbrev pub Dialogue : RunSpec → (old : Session) → List Event → (replies : List (List ℕ)) → (new : Session) → Type 0
 Dialogue run old [] [] new = new ≡ old
 Dialogue run old (event ∷ events) (reply ∷ replies) new =
-    (mid : Session) × Answers run old (asked event) reply mid × Dialogue run mid events replies new
+    (mid : Session) × Answers run old (command_of_event event) reply mid × Dialogue run mid events replies new
 Dialogue run old [] (reply ∷ replies) new = ⊥
 Dialogue run old (event ∷ events) [] new = ⊥
 
@@ -39,7 +39,7 @@ is_quit_command Malformed = false
 
 -- whether an event ends a session
 abbrev pub is_quit : Event → Bool
-is_quit event = is_quit_command (asked event)
+is_quit event = is_quit_command (command_of_event event)
 
 -- No event ends the session.
 abbrev pub NoneQuits : List Event → Type 0

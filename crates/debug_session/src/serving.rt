@@ -4,7 +4,7 @@ ghost use Rattle.std.specs.Prelude.{◌≡◌, ◌↔◌, ◌<◌, ◌+◌, true
 ghost use Rattle.machine_steps.specs.Draining.{drain_bound};
 ghost use Rattle.machine_steps.specs.Machines.{IsIdle};
 ghost use Rattle.debug_session.specs.Answers.{session};
-ghost use Rattle.debug_session.specs.Dialogues.{asked, is_quit};
+ghost use Rattle.debug_session.specs.Dialogues.{command_of_event, is_quit};
 ghost use Rattle.debug_session.specs.Conversations.{AnswersEvent, AnswersEventInPart, Goes, HasServed, IfBegun};
 ghost use Rattle.debug_session.specs.Conversations.{IfRefused, StopsWithin};
 
@@ -136,7 +136,7 @@ fn serve_event<W: LinkWrite, C: Runner>(
     ensures cut { OnErr result (AnswersEventInPart (C.spec budget) (session log.old breaks.old)
         (W.contents writer.old) event.now (session log.new breaks.new) (W.contents writer.new)) }
 {
-    let command = asked(event);
+    let command = command_of_event(event);
     let mut text = ArrayVec::new();
     answer(&command, log, breaks, runner, budget, &mut text);
     let mut packed = ArrayVec::new();
@@ -146,8 +146,8 @@ fn serve_event<W: LinkWrite, C: Runner>(
 }
 
 /// The command that an event asks for. A line that is too long is malformed.
-fn asked(event: &Event) -> Command
-    ensures { result ≡ asked event.now }
+fn command_of_event(event: &Event) -> Command
+    ensures { result ≡ command_of_event event.now }
 {
     match event {
         Event::Line(line) => Command::read(line.bytes()),

@@ -39,7 +39,7 @@ pub fn explain_command<W: LinkWrite, E: Write>(
 {
     let text = match word {
         None => list_text(alloc, topics),
-        Some(word) => match topics.named(word) {
+        Some(word) => match topics.topic_named(word) {
             Some(topic) => topic_text(alloc, topic),
             None => return refuse(word, err),
         },

@@ -31,7 +31,7 @@ pub struct Topics {
 
 impl Topics {
     /// The topic that a word names, in upper or lower case.
-    pub fn named(&self, word: &str) -> Option<&Topic>
+    pub fn topic_named(&self, word: &str) -> Option<&Topic>
         ensures { option_map (λ t. t.now) result ≡ topic_named self.now word.now }
     {
         if let Some(topic) = first_named(self.codes, word) {

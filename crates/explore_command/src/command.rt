@@ -9,7 +9,7 @@ ghost use Rattle.explore_command.specs.Explorations.{PrintsResults, exploration_
 ghost use Rattle.trace_commands.specs.TraceReports.{trace_output};
 
 use crate::refused::Refused;
-use crate::searching::explored;
+use crate::searching::explore_image;
 use arrayvec::ArrayString;
 use command_io::{Fault, REFUSED, SPENT, image_of, print, report_fault, write_error};
 use elf_image::ImageError;
@@ -132,7 +132,7 @@ fn execute<R: LinkRead, T: LinkWrite, G: SearchObserver, W: LinkWrite>(
     ensures silent { OnErr result (W.has_failed out.new ≡ false → out.new ≡ out.old) }
 {
     let image = image_of(alloc, file, &config)?;
-    let (text, status) = explored(alloc, image, config, asked, trace, observer)?;
+    let (text, status) = explore_image(alloc, image, config, asked, trace, observer)?;
     print(out, text.as_str())?;
     Ok(status)
 }

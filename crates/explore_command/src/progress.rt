@@ -43,7 +43,7 @@ impl<'a, C: Clock, E: Eprint> SearchProgress<'a, C, E> {
 }
 
 impl<C: Clock, E: Eprint> SearchObserver for SearchProgress<'_, C, E> {
-    fn found(&mut self, states: usize) {
+    fn progress(&mut self, states: usize) {
         let Some(now) = self.due() else {
             return;
         };

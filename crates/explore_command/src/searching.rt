@@ -31,7 +31,7 @@ use std::alloc::Global;
 use trace_commands::save;
 
 /// The lines of the results, and the exit status. Writes the trace of a witness, if one is asked for.
-pub(crate) fn explored<T: LinkWrite, G: SearchObserver>(
+pub(crate) fn explore_image<T: LinkWrite, G: SearchObserver>(
     alloc: Global,
     image: Image,
     config: Config,
@@ -49,14 +49,14 @@ pub(crate) fn explored<T: LinkWrite, G: SearchObserver>(
         (IsNotFound (problem_of config image asked) (trace_output T.contents trace.old trace.new)) }
 {
     let machine = machine_of(alloc, image, config)?;
-    explored_from(alloc, &machine, config, asked, trace, observer)
+    explore_machine(alloc, &machine, config, asked, trace, observer)
 }
 
 /// The lines of the results of a machine that has just opened, and the exit status. Writes the trace of a witness, if
 /// one is asked for.
 // A separate function, so that neither has many values to drop at each return.
 #[tactic(auto, using(crate::proofs::NotFound::not_searched, crate::proofs::NotFound::not_saved))]
-fn explored_from<T: LinkWrite, G: SearchObserver>(
+fn explore_machine<T: LinkWrite, G: SearchObserver>(
     alloc: Global,
     machine: &Machine,
     config: Config,
@@ -74,7 +74,7 @@ fn explored_from<T: LinkWrite, G: SearchObserver>(
         (IsNotFound (problem_of config machine.now.image asked) (trace_output T.contents trace.old trace.new)) }
 {
     let search = search_of(asked, trace.is_some());
-    let found = found(alloc, machine, search, observer)?;
+    let found = find_results(alloc, machine, search, observer)?;
     let results = found.results.as_slice();
     let classes = found.classes.as_slice();
     let text = results_text(alloc, results, classes, found.states, found.termination)?;
@@ -95,7 +95,7 @@ pub(crate) fn search_of(asked: Asked, is_wanted: bool) -> Search
 }
 
 /// The results of a machine that has just opened.
-pub(crate) fn found<G: SearchObserver>(
+pub(crate) fn find_results<G: SearchObserver>(
     alloc: Global,
     machine: &Machine,
     search: Search,

@@ -14,9 +14,9 @@ ghost use Rattle.explore_command.specs.Sizes.{size_line, size_text, sizes};
 use crate::command::Asked;
 use crate::greatest::greatest_status;
 use crate::lines::{push_count, push_schedules};
-use crate::searching::{found, search_of};
+use crate::searching::{find_results, search_of};
 use crate::status::exit_status;
-use command_io::{Fault, image_of, opened, print, push_status, report_fault};
+use command_io::{Fault, image_of, machine_of_copy, print, push_status, report_fault};
 use elf_image::{Image, ImageError};
 use exploration::{Explored, SearchObserver};
 use flat_machine::{Config, Status};
@@ -182,8 +182,8 @@ fn explore_size<G: SearchObserver>(
     ensures refused { IfErr result (IsSizeRefused (problem_of config image.now asked)) }
     ensures size { (IsWithinLimits config → ⊥) → IsErrOf result Fault.Size }
 {
-    let machine = opened(alloc, image, config)?;
-    found(alloc, &machine, search_of(asked, false), observer)
+    let machine = machine_of_copy(alloc, image, config)?;
+    find_results(alloc, &machine, search_of(asked, false), observer)
 }
 
 /// The line of a size that is explored.

@@ -5,7 +5,7 @@ ghost use Rattle.explore_command.specs.Refusals.{IsNotTaken};
 ghost use Rattle.explore_command.specs.Witnesses.{AreTaken};
 
 use crate::refused::Refused;
-use command_io::{Fault, Tally, opened};
+use command_io::{Fault, Tally, machine_of_copy};
 use elf_image::Image;
 use flat_machine::Config;
 use machine_steps::Machine;
@@ -15,7 +15,7 @@ use trace_commands::replay_counted;
 
 /// The machine that opened on a copy of the image and took these steps, and what its processors have shown in them.
 #[tactic(auto, using(crate::proofs::Refusing::size_refuses))]
-pub(crate) fn taken(
+pub(crate) fn machine_after(
     alloc: Global,
     image: &Image,
     config: Config,
@@ -26,7 +26,7 @@ pub(crate) fn taken(
     ensures taken { IfOk result (λ done. AreTaken config image.now steps.now done.0 done.1) }
     ensures refused { IfErr result (IsNotTaken config) }
 {
-    let mut machine = opened(alloc, image, config)?;
+    let mut machine = machine_of_copy(alloc, image, config)?;
     match replay_counted(alloc, &mut machine, steps) {
         Ok(tally) => Ok((machine, tally)),
         Err(Fault::Memory) => Err(Refused::Fault(Fault::Memory)),

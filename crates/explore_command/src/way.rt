@@ -5,7 +5,7 @@ ghost use Rattle.flat_machine.specs.Limits.{IsWithinLimits};
 ghost use Rattle.explore_command.specs.Refusals.{IsNotTaken, IsOfSteps};
 
 use crate::refused::Refused;
-use command_io::{Fault, opened};
+use command_io::{Fault, machine_of_copy};
 use elf_image::Image;
 use flat_machine::Config;
 use machine_log::Logged;
@@ -29,7 +29,7 @@ pub(crate) fn log_of(
     ensures refused { IfErr result (IsNotTaken config) }
     ensures size { (IsWithinLimits config → ⊥) → IsErrOf result (Refused.Fault Fault.Size) }
 {
-    let mut log = Logged::new(alloc, opened(alloc, image, config)?);
+    let mut log = Logged::new(alloc, machine_of_copy(alloc, image, config)?);
     for p in way {
         refer(&mut log, *p)?;
     }

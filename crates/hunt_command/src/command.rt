@@ -144,7 +144,7 @@ fn hunt_image<T: Traces, G: HuntObserver, W: LinkWrite>(
         (output W.contents W.has_failed out.old out.new) refused) }
     ensures silent { OnErr result (W.has_failed out.new ≡ false → out.new ≡ out.old) }
 {
-    let (findings, status) = watched(alloc, image, config, hunt, observer)?;
+    let (findings, status) = run_hunt(alloc, image, config, hunt, observer)?;
     let text = findings_text(alloc, &findings)?;
     save_all(alloc, image, config, hunt.budget, &findings, traces)?;
     print(out, text.as_str())?;
@@ -152,7 +152,7 @@ fn hunt_image<T: Traces, G: HuntObserver, W: LinkWrite>(
 }
 
 /// The results of the runs of a hunt, and the greatest of their exit statuses.
-fn watched<G: HuntObserver>(
+fn run_hunt<G: HuntObserver>(
     alloc: Global,
     image: &Image,
     config: Config,

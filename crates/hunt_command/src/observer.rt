@@ -8,7 +8,7 @@ const LEAST: u64 = 1000;
 /// Receives the progress of a hunt.
 pub trait HuntObserver {
     /// This many runs are over, and this many different results were found.
-    fn ran(&mut self, runs: u32, results: usize);
+    fn progress(&mut self, runs: u32, results: usize);
 
     /// All runs are over, or the hunt stops early.
     fn over(&mut self);
@@ -19,7 +19,7 @@ pub trait HuntObserver {
 pub struct NoHuntProgress;
 
 impl HuntObserver for NoHuntProgress {
-    fn ran(&mut self, _runs: u32, _results: usize) {}
+    fn progress(&mut self, _runs: u32, _results: usize) {}
 
     fn over(&mut self) {}
 }
@@ -60,7 +60,7 @@ impl<'a, C: Clock, E: Eprint> HuntProgress<'a, C, E> {
 }
 
 impl<C: Clock, E: Eprint> HuntObserver for HuntProgress<'_, C, E> {
-    fn ran(&mut self, runs: u32, results: usize) {
+    fn progress(&mut self, runs: u32, results: usize) {
         let Some(now) = self.due() else {
             return;
         };

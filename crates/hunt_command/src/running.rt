@@ -66,7 +66,7 @@ pub(crate) fn observed_run(
     let Ok(reserved) = log.room(most) else {
         return Err(Fault::Memory);
     };
-    match asked(reserved, number, most, tally) {
+    match ask_by_number(reserved, number, most, tally) {
         Ok(end) => Ok(end),
         Err(_) => Err(Fault::Memory),
     }
@@ -81,7 +81,7 @@ fn run(log: &mut ReservedLog, number: u32, most: u32) -> SweepEnd
         HaveRecords log.new.log.machine.config.k log.new.log.steps }
 {
     laws::reserved_log_is_well_formed(log);
-    let Ok(end) = asked(log, number, most, &mut NoObserver);
+    let Ok(end) = ask_by_number(log, number, most, &mut NoObserver);
     log.drain();
     laws::reserved_log_is_well_formed(log);
     end
@@ -93,7 +93,7 @@ fn run(log: &mut ReservedLog, number: u32, most: u32) -> SweepEnd
 /// # Errors
 ///
 /// The refusal of the observer.
-fn asked<N: StepObserver>(
+fn ask_by_number<N: StepObserver>(
     log: &mut ReservedLog,
     number: u32,
     most: u32,

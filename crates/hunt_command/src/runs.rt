@@ -12,14 +12,14 @@ use crate::findings::Findings;
 use crate::lines::result_text;
 use crate::observer::HuntObserver;
 use crate::running::{observed_run, random_run};
-use command_io::{Fault, Tally, opened};
+use command_io::{Fault, Tally, machine_of_copy};
 use elf_image::Image;
 use flat_machine::Config;
 use machine_log::{Logged, laws};
 use machine_steps::Machine;
 use schedules::SweepEnd;
 use std::alloc::Global;
-use trace_commands::{drained, exit_status};
+use trace_commands::{drain_counted, exit_status};
 
 /// The log of the run with this number, on a machine of this size that opens on a copy of the image, and how the run
 /// ended.
@@ -38,7 +38,7 @@ pub(crate) fn run_of(
     ensures ran { IfOk result (λ done. IsLogOf config image.now (most_of budget) number done.1 done.0) }
     ensures refused { IfErr result (IsFaultOfSize config) }
 {
-    let mut log = Logged::new(alloc, opened(alloc, image, config)?);
+    let mut log = Logged::new(alloc, machine_of_copy(alloc, image, config)?);
     let Ok(end) = random_run(&mut log, number, budget) else {
         // A new log has room for the longest run, so it refuses only if out of memory.
         return Err(Fault::Memory);
@@ -62,7 +62,7 @@ fn result_of(
     ensures low { IfOk result (λ done. done.1 ≤ 1) }
     ensures refused { IfErr result (IsFaultOfSize config) }
 {
-    let machine = opened(alloc, image, config)?;
+    let machine = machine_of_copy(alloc, image, config)?;
     let mut tally = Tally::new(alloc, machine.config().processors())?;
     let mut log = Logged::new(alloc, machine);
     let end = observed_run(&mut log, number, budget, &mut tally)?;
@@ -89,7 +89,7 @@ fn drained_result(
 {
     let mut machine = machine;
     let mut tally = tally;
-    drained(&mut machine, &mut tally)?;
+    drain_counted(&mut machine, &mut tally)?;
     let text = result_text(alloc, end, &machine, &tally)?;
     Ok((text, exit_status(&machine)))
 }
@@ -129,7 +129,7 @@ pub(crate) fn findings_of<G: HuntObserver>(
         let (text, of_run) = result_of(alloc, image, config, budget, number)?;
         findings.add(text, number)?;
         status = greater(of_run, status);
-        observer.ran(place + 1, findings.count());
+        observer.progress(place + 1, findings.count());
     }
     Ok((findings, status))
 }

@@ -62,7 +62,7 @@ impl<N: Run> Loan<N> {
     }
 
     /// What the core has retired since it was lent, in order.
-    pub fn retired(&self) -> &[Retired]
+    pub fn retirements(&self) -> &[Retired]
         ensures { result.now ≡ self.now.retired }
     {
         self.retired.as_slice()

@@ -17,7 +17,7 @@ pub trait Gate {
     /// Called with the rounds that a thread has taken, and the instructions that its processor has retired, since its
     /// last report. A thread reports after 1,024 rounds or more, and when its processor has stopped or its budget is
     /// used up.
-    fn gone(&self, _rounds: u64, _retired: u64) {}
+    fn progress(&self, _rounds: u64, _retired: u64) {}
 
     /// Called after the threads of all processors have ended. No other call follows.
     fn over(&self) {}

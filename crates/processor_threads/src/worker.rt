@@ -156,7 +156,7 @@ impl<N: Run, A: Arbiter + Drop> Worker<N, A> {
             None => 0,
         };
         let retired = (pass_events.len() as u64).saturating_sub(stops);
-        gate.gone(
+        gate.progress(
             gone.saturating_sub(reported.rounds),
             retired.saturating_sub(reported.retired),
         );

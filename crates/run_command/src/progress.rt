@@ -62,7 +62,7 @@ impl<C: Clock, E: Eprint> Gate for Progress<'_, C, E> {
         usize::MAX
     }
 
-    fn gone(&self, rounds: u64, retired: u64) {
+    fn progress(&self, rounds: u64, retired: u64) {
         self.rounds.fetch_add(rounds, Ordering::SeqCst);
         self.retired.fetch_add(retired, Ordering::SeqCst);
         if self.is_due() {

@@ -77,7 +77,7 @@ impl Counters {
     }
 
     /// How many steps were observed.
-    pub fn observed(&self) -> u64
+    pub fn step_count(&self) -> u64
         ensures { result ≡ self.now.observed }
     {
         self.observed

@@ -92,9 +92,9 @@ impl Counts {
     }
 
     /// How many steps were observed.
-    pub fn observed(&self) -> u64
+    pub fn step_count(&self) -> u64
         ensures { result ≡ self.now.observed }
     {
-        self.kinds.observed()
+        self.kinds.step_count()
     }
 }

@@ -40,7 +40,7 @@ pub fn counts_text(
 fn push_total(text: &mut String, counts: &Counts, rounds: usize) -> Result<(), AllocError>
     ensures { OnOk result (string_bytes text.new ≡ string_bytes text.old ++ total_line counts.now rounds) }
 {
-    let steps = counts.observed();
+    let steps = counts.step_count();
     let turns = counts.kinds.at(0);
     let up = counts.kinds.at(1);
     write!(text, "steps {steps} turns {turns} up {up}")?;

@@ -6,7 +6,7 @@ ghost use Rattle.settings.specs.Lines.{IsAsked};
 ghost use Rattle.settings.specs.Plain.{IsPlain, texts_of};
 
 use crate::choice::Settings;
-use crate::reads::chosen;
+use crate::reads::subcommand_settings;
 use clap::Error;
 use clap::error::ErrorKind;
 use command_forms::matches_of;
@@ -18,7 +18,7 @@ fn read<'a>(alloc: Global, words: &'a [&'a str]) -> Result<Settings<'a>, Error>
     ensures kinds { FailsBy (fault_of ultra_command (texts_of words.entry.now)) result }
 {
     let matches = matches_of(alloc, words)?;
-    Ok(chosen(&matches))
+    Ok(subcommand_settings(&matches))
 }
 
 /// Returns what the words ask for. The first word is the program's name. An `Err` is a mistake in the words, a request

@@ -273,12 +273,12 @@ fn hunt<'a>(matches: &ArgMatches<'a>) -> Hunt<'a>
 }
 
 /// The settings of the subcommand in the matches.
-pub(crate) fn chosen<'a>(matches: &ArgMatches<'a>) -> Settings<'a>
+pub(crate) fn subcommand_settings<'a>(matches: &ArgMatches<'a>) -> Settings<'a>
     requires { IsComplete (subcommand_rows_of matches.now) }
     ensures { IsChosen (subcommand_rows_of matches.now) result }
 {
     let (name, inner) = matches.subcommand().unwrap();
-    if let Some(command) = TraceCommand::named(name) {
+    if let Some(command) = TraceCommand::of_name(name) {
         return Settings::Trace(command, replay(inner));
     }
     match name {

@@ -138,7 +138,7 @@ fn breadth_first<const N: usize, G: SearchObserver>(
         let Some(row) = found.rows.get_index(at as usize).copied() else {
             return Ok(());
         };
-        observer.found(found.rows.len());
+        observer.progress(found.rows.len());
         expand(
             state_tables,
             transition_caches,

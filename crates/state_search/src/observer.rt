@@ -3,7 +3,7 @@
 /// An observer of a search's progress.
 pub trait SearchObserver {
     /// The search has found `states` states so far. It reports this before it looks at the moves of each state.
-    fn found(&mut self, states: usize);
+    fn progress(&mut self, states: usize);
 
     /// The search is over. Another may begin.
     fn over(&mut self);
@@ -15,7 +15,7 @@ pub struct NoProgress;
 
 impl SearchObserver for NoProgress {
     #[inline(always)]
-    fn found(&mut self, _states: usize) {}
+    fn progress(&mut self, _states: usize) {}
 
     fn over(&mut self) {}
 }

@@ -225,13 +225,13 @@ fn saved_processor(alloc: Global, core: &Core) -> Result<SavedProcessor, AllocEr
             };
             Ok(SavedProcessor::Running(saved))
         }
-        Status::Halted(byte) => Ok(stopped(core, Cause::Halt(byte))),
-        Status::Faulted(fault) => Ok(stopped(core, Cause::Fault(fault))),
+        Status::Halted(byte) => Ok(stopped_processor(core, Cause::Halt(byte))),
+        Status::Faulted(fault) => Ok(stopped_processor(core, Cause::Fault(fault))),
     }
 }
 
 /// What is stored of a core that has stopped for this cause.
-fn stopped(core: &Core, cause: Cause) -> SavedProcessor
+fn stopped_processor(core: &Core, cause: Cause) -> SavedProcessor
     ensures { result ≡ SavedProcessor.Stopped core.now.setting core.now.state.pc cause }
 {
     SavedProcessor::Stopped {

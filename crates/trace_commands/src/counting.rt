@@ -21,7 +21,7 @@ use steps::{Groups, Outcome, Step};
 /// # Errors
 ///
 /// [`AllocError`] if there is no memory for the counts.
-pub fn counted(
+pub fn count_steps(
     alloc: Global,
     machine: &mut Machine,
     steps: &[Step],

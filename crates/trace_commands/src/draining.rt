@@ -7,7 +7,7 @@ ghost use Rattle.machine_steps.specs.Runs.{IsReplay};
 ghost use Rattle.trace_commands.specs.Causes.{IsNotTaken};
 ghost use Rattle.trace_commands.specs.Explained.{IsDrainedWithSteps};
 
-use command_io::{Fault, opened};
+use command_io::{Fault, machine_of_copy};
 use elf_image::Image;
 use flat_machine::Config;
 use machine_log::replay;
@@ -32,7 +32,7 @@ pub fn drained_steps(
     ensures home { IfOk result (λ all. IsDrainedWithSteps config image.now steps.now all.items) }
     ensures refused { IfErr result (IsNotTaken config image.now steps.now) }
 {
-    let mut machine = opened(alloc, image, config)?;
+    let mut machine = machine_of_copy(alloc, image, config)?;
     laws::machine_is_well_formed(&machine);
     if let Err(stalled) = replay(&mut machine, steps) {
         return Err(Fault::Stalled(stalled.place));

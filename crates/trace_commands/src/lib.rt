@@ -12,7 +12,7 @@
 //! ([`drained_steps`]). For an order, a second machine gives the serial order of all these steps ([`entries_of`]). Two
 //! more machines execute it, one entry at a time: one of them has taken the entry and the other has not yet, so that
 //! its line can say what it changed ([`order_text`]). For story and stats, a second machine takes all steps again, and
-//! each step becomes a line ([`story_text`]), or its outcome is counted ([`counted`]). For a picture, the second
+//! each step becomes a line ([`story_text`]), or its outcome is counted ([`count_steps`]). For a picture, the second
 //! machine takes as many steps as are asked for, and its view is drawn ([`picture_text`]).
 #![tactic(auto)]
 
@@ -40,7 +40,7 @@ mod telling;
 mod trace_report;
 
 pub use choosing::order_command;
-pub use counting::counted;
+pub use counting::count_steps;
 pub use draining::drained_steps;
 pub use drawing::picture_text;
 pub use input::trace_of;
@@ -54,6 +54,6 @@ pub use reporting::push_words;
 pub use states::exit_status;
 pub use stats::Stats;
 pub use story::Story;
-pub use taking::{drained, replay_counted};
+pub use taking::{drain_counted, replay_counted};
 pub use telling::story_text;
 pub use trace_report::{TraceReport, trace_command};

@@ -12,7 +12,7 @@ use crate::draining::drained_steps;
 use crate::lines::order_text;
 use crate::states::exit_status;
 use crate::trace_report::TraceReport;
-use command_io::{Fault, opened};
+use command_io::{Fault, machine_of_copy};
 use elf_image::Image;
 use flat_machine::{Config, Entry};
 use std::alloc::Global;
@@ -64,7 +64,7 @@ pub fn entries_of(
         entries.items ≡ (passed opening steps.now).order) }
     ensures refused { IfErr result (IsFaultOfSize config) }
 {
-    let mut machine = opened(alloc, image, config)?;
+    let mut machine = machine_of_copy(alloc, image, config)?;
     let Ok(entries) = machine.order(alloc, steps) else {
         return Err(Fault::Memory);
     };
@@ -88,8 +88,8 @@ fn lines_of_entries(
     ensures low { IfOk result (λ done. done.1 ≤ 1) }
     ensures refused { IfErr result (IsFaultOfSize config) }
 {
-    let mut before = opened(alloc, image, config)?;
-    let mut after = opened(alloc, image, config)?;
+    let mut before = machine_of_copy(alloc, image, config)?;
+    let mut after = machine_of_copy(alloc, image, config)?;
     let text = order_text(alloc, &mut before, &mut after, entries, choice)?;
     Ok((text, exit_status(&before)))
 }

@@ -7,7 +7,7 @@ use crate::draining::drained_steps;
 use crate::drawing::picture_text;
 use crate::states::exit_status;
 use crate::trace_report::TraceReport;
-use command_io::{Fault, opened};
+use command_io::{Fault, machine_of_copy};
 use elf_image::Image;
 use flat_machine::Config;
 use machine_picture::Draw;
@@ -41,7 +41,7 @@ impl<D: Draw> TraceReport for Picture<D> {
         steps: &[Step],
     ) -> Result<(String, u8), Fault> {
         let all = drained_steps(alloc, image, config, steps)?;
-        let mut machine = opened(alloc, image, config)?;
+        let mut machine = machine_of_copy(alloc, image, config)?;
         let text = picture_text(
             alloc,
             &mut machine,

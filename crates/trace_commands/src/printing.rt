@@ -9,7 +9,7 @@ ghost use Rattle.trace_commands.specs.CountedReplays.{AreConsoles};
 use crate::output::save;
 use crate::reporting::report_with_status;
 use crate::taking::replay_counted;
-use command_io::{Fault, opened, print};
+use command_io::{Fault, machine_of_copy, print};
 use link::LinkWrite;
 use machine_log::Logged;
 use machine_steps::laws;
@@ -41,7 +41,7 @@ pub fn print_run<T: LinkWrite, W: LinkWrite>(
         (output W.contents W.has_failed out.old out.new)) }
     ensures silent { OnErr result (W.has_failed out.new ≡ false → out.new ≡ out.old) }
 {
-    let (text, status) = reported(alloc, log, consoles)?;
+    let (text, status) = log_report(alloc, log, consoles)?;
     save(trace, &log.machine().config(), log.steps())?;
     print(out, text.as_str())?;
     Ok(status)
@@ -49,7 +49,7 @@ pub fn print_run<T: LinkWrite, W: LinkWrite>(
 
 /// The report of a log, and its exit status. A second machine opens on a copy of the image and takes the steps again.
 /// None of them stalls, since the log's machine opened on the same image.
-fn reported(
+fn log_report(
     alloc: Global,
     log: &Logged,
     consoles: Option<&[Vec<u8>]>,
@@ -62,7 +62,7 @@ fn reported(
     ensures refused { IfErr result (λ fault. fault ≡ Fault.Memory) }
 {
     let machine = log.machine();
-    let mut again = opened(alloc, machine.image(), machine.config())?;
+    let mut again = machine_of_copy(alloc, machine.image(), machine.config())?;
     laws::machine_is_well_formed(&again);
     let tally = replay_counted(alloc, &mut again, log.steps())?;
     Ok(report_with_status(alloc, &again, &tally, consoles)?)

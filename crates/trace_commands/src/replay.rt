@@ -8,9 +8,9 @@ ghost use Rattle.trace_commands.specs.Causes.{TraceCommandFails};
 ghost use Rattle.trace_commands.specs.TraceReports.{IsDrainedReport, PrintsTraceReport, trace_input};
 
 use crate::reporting::report_with_status;
-use crate::taking::{drained, replay_counted};
+use crate::taking::{drain_counted, replay_counted};
 use crate::trace_report::{TraceReport, trace_command};
-use command_io::{Fault, opened};
+use command_io::{Fault, machine_of_copy};
 use elf_image::Image;
 use flat_machine::Config;
 use link::{LinkRead, LinkWrite};
@@ -73,10 +73,10 @@ impl TraceReport for Report {
         config: Config,
         steps: &[Step],
     ) -> Result<(String, u8), Fault> {
-        let mut machine = opened(alloc, image, config)?;
+        let mut machine = machine_of_copy(alloc, image, config)?;
         laws::machine_is_well_formed(&machine);
         let mut tally = replay_counted(alloc, &mut machine, steps)?;
-        drained(&mut machine, &mut tally)?;
+        drain_counted(&mut machine, &mut tally)?;
         Ok(report_with_status(alloc, &machine, &tally, None)?)
     }
 }

@@ -118,7 +118,7 @@ fn push_line(
         unreachable!()
     };
     let console = console_of(shown, consoles, p);
-    push_processor(alloc, text, p, pc, status, shown.retired(), console)
+    push_processor(alloc, text, p, pc, status, shown.retired_count(), console)
 }
 
 /// The bytes that a processor wrote to the console: as they were received, or else as the tally has them.

@@ -1,10 +1,10 @@
 //! What `ultra stats` prints: counts of what the steps of a trace did.
 
-use crate::counting::counted;
+use crate::counting::count_steps;
 use crate::draining::drained_steps;
 use crate::states::exit_status;
 use crate::trace_report::TraceReport;
-use command_io::{Fault, opened};
+use command_io::{Fault, machine_of_copy};
 use elf_image::Image;
 use flat_machine::Config;
 use run_counts::{counts_text, rounds_of};
@@ -30,8 +30,8 @@ impl TraceReport for Stats {
         steps: &[Step],
     ) -> Result<(String, u8), Fault> {
         let all = drained_steps(alloc, image, config, steps)?;
-        let mut machine = opened(alloc, image, config)?;
-        let (counts, longest) = counted(alloc, &mut machine, all.as_slice())?;
+        let mut machine = machine_of_copy(alloc, image, config)?;
+        let (counts, longest) = count_steps(alloc, &mut machine, all.as_slice())?;
         let k = machine.config().k;
         let rounds = rounds_of(all.as_slice());
         let text = counts_text(alloc, &counts, &longest, rounds, k)?;

@@ -4,7 +4,7 @@ use crate::draining::drained_steps;
 use crate::states::exit_status;
 use crate::telling::story_text;
 use crate::trace_report::TraceReport;
-use command_io::{Fault, opened};
+use command_io::{Fault, machine_of_copy};
 use elf_image::Image;
 use flat_machine::Config;
 use std::alloc::Global;
@@ -29,7 +29,7 @@ impl TraceReport for Story {
         steps: &[Step],
     ) -> Result<(String, u8), Fault> {
         let all = drained_steps(alloc, image, config, steps)?;
-        let mut machine = opened(alloc, image, config)?;
+        let mut machine = machine_of_copy(alloc, image, config)?;
         let text = story_text(alloc, &mut machine, all.as_slice())?;
         Ok((text, exit_status(&machine)))
     }

@@ -38,7 +38,7 @@ pub fn replay_counted(alloc: Global, machine: &mut Machine, steps: &[Step]) -> R
 /// # Errors
 ///
 /// [`AllocError`] if there is no memory for a byte of the console.
-pub fn drained(machine: &mut Machine, tally: &mut Tally) -> Result<(), AllocError>
+pub fn drain_counted(machine: &mut Machine, tally: &mut Tally) -> Result<(), AllocError>
     requires { tally.old.observed ≤ 4194304 }
     ensures idle { OnOk result (IsIdle machine.new) }
     ensures taken { OnOk result ((opening : MachineLists) (steps : List Step) →

@@ -78,7 +78,7 @@ struct Heard {
 }
 
 impl HuntObserver for Heard {
-    fn ran(&mut self, runs: u32, results: usize) {
+    fn progress(&mut self, runs: u32, results: usize) {
         self.runs = runs;
         self.results = results;
     }

@@ -34,7 +34,7 @@ fn note_all(rt: &impl Abort, counts: &mut Counts) {
         (Step::Serve(1), Outcome::Served { leader: 1 }, 1),
         (Step::Down { stage: 0, wire: 1 }, Outcome::Moved, 0),
     ] {
-        assert!(rt; counts.observed() < 8);
+        assert!(rt; counts.step_count() < 8);
         counts.observe(&step, &outcome, size);
     }
 }

@@ -40,7 +40,7 @@ fn counts_retirements(rt: HostRuntime) -> Result<(), Fail> {
     lend(tally, |tally| {
         for (p, retired, console) in [(0, 2, b"A\n".as_slice()), (1, 1, b"".as_slice())] {
             let shown = tally.of(p).ok_or("a processor")?;
-            assert_same!(rt; shown.retired(), retired, p);
+            assert_same!(rt; shown.retired_count(), retired, p);
             assert_same!(rt; shown.console(), console, p);
         }
         assert!(rt; tally.of(2).is_none());

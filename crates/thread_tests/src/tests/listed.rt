@@ -127,7 +127,7 @@ impl Gate for Sums {
         self.at_once
     }
 
-    fn gone(&self, rounds: u64, retired: u64) {
+    fn progress(&self, rounds: u64, retired: u64) {
         self.rounds.fetch_add(rounds, Ordering::SeqCst);
         self.retired.fetch_add(retired, Ordering::SeqCst);
     }

@@ -38,7 +38,7 @@ fn run_once<N: Run, R: Wait + Abort>(
         Err(refusal) => return Err(Fail::from(refusal)),
     };
     let end = loan.run_local();
-    let retired = loan.retired().len();
+    let retired = loan.retirements().len();
     assert!(rt; shared.give_back(rt, pass, loan).is_ok());
     Ok((end, retired))
 }
@@ -78,7 +78,7 @@ fn run_both<N: Run, R: Wait + Abort>(
     assert!(rt; one.is_lent());
     assert!(rt; turn_is(rt, shared, one, Outcome::Stalled));
     let end = loan.run_local();
-    let retired = loan.retired().len();
+    let retired = loan.retirements().len();
     assert!(rt; shared.give_back(rt, one, loan).is_ok());
     Ok([(end, retired), second?])
 }
@@ -154,7 +154,7 @@ fn run_in_the_last_places<N: Run, R: Wait + Abort>(
     refuses_to_lend(rt, alloc, shared, other, 1, LockRefusal::Full);
     assert!(rt; turn_is(rt, shared, one, Outcome::Stalled));
     let end = loan.run_local();
-    let retired = loan.retired().len();
+    let retired = loan.retirements().len();
     assert!(rt; shared.give_back(rt, one, loan).is_ok());
     Ok((end, retired))
 }

@@ -13,7 +13,7 @@ returns-in_err-text-clause-fault g c =
     let p = err_from_is_err_and c.from_residual-in_err-text.result c.from_residual-in_err-text.ensures.1 in
     rw (p.1, p.2)
     (not_found (exploration_of c.args.config c.args.asked (input g.R.Read.remaining g.R.Link.has_failed c.args.file.now c.image_of.new.file))
-    (trace_output g.T.Write.contents c.args.trace.now c.explored.new.trace)
+    (trace_output g.T.Write.contents c.args.trace.now c.explore_image.new.trace)
     (output g.W.Write.contents g.W.Link.has_failed c.args.out.now c.args.out.now) c.in_ok-image.image c.in_ok-image.ensures.image
     c.in_err-text.field-0.0 c.in_err-text.ensures.refused)
 

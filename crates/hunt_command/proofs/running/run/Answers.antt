@@ -10,7 +10,7 @@ returns c =
     let asked = c.in-Ok.ensures.asked in
     let ran : HasRunAtRandom c.args.number c.args.most old c.in-Ok.end new =
     record {
-      middle = c.asked.new.log.log;
+      middle = c.ask_by_number.new.log.log;
       asked = asked;
       opening = c.drain.ensures.opening ∙ asked.opening;
       steps = c.drain.ensures.entered;

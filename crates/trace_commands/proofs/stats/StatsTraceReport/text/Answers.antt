@@ -20,7 +20,7 @@ unfolding machine_of_parts
 returns-clause-fault c =
     let opening = c.in_ok-machine.machine in
     let opens = c.in_ok-machine.ensures.opening in
-    let new = c.counted.new.machine in
+    let new = c.count_steps.new.machine in
     let k = c.config-k.result.k in
     let run : IsRun opening c.in_ok-all.all.items new =
     subst (λ (steps : List Step). IsRun opening steps new) c.as_slice.ensures.value c.in_ok-counts.ensures.run in

@@ -13,7 +13,7 @@ use Rattle.trace_commands.specs.CountedReplays.{AreConsoles}
 use Rattle.trace_commands.proofs.FlatReports.{idle_alike}
 use Rattle.trace_commands.proofs.Hearing.{consoles_alike, heard_in}
 use Rattle.trace_commands.proofs.Logging.{not_stalled}
-use Rattle.trace_commands.proofs.printing.reported.Goals as goal
+use Rattle.trace_commands.proofs.printing.log_report.Goals as goal
 
 pub returns-in_err-tally-clause-refused : goal.returns-in_err-tally-clause-refused
 returns-in_err-tally-clause-refused c =

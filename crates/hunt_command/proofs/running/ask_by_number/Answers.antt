@@ -7,7 +7,7 @@ use Rattle.schedules.specs.Own.{AreOwn}
 use Rattle.hunt_command.specs.Runs.{WasAsked}
 use Rattle.hunt_command.specs.Schedules.{schedule}
 use Rattle.hunt_command.proofs.Plans.{own_schedule}
-use Rattle.hunt_command.proofs.running.asked.Goals as goal
+use Rattle.hunt_command.proofs.running.ask_by_number.Goals as goal
 
 pub ask-requires-clause-own : goal.ask-requires-clause-own
 ask-requires-clause-own g c =

@@ -3,7 +3,7 @@ use Rattle.std.proofs.lemmas.List.{take_more}
 use Rattle.steps.specs.declared.step.Step.{Step}
 use Rattle.steps.specs.declared.step.Step.TheVariants as step
 use Rattle.trace_commands.proofs.StatsSteps.{AreCounted, none_counted, one_counted}
-use Rattle.trace_commands.proofs.counting.counted.Goals as goal
+use Rattle.trace_commands.proofs.counting.count_steps.Goals as goal
 
 pub loop-step-init : goal.loop-step-init
 loop-step-init c =

@@ -5,7 +5,7 @@ use Rattle.exploration.specs.local_reduction.Results.{FinalResult}
 use Rattle.explore_command.specs.Explorations.{IsExitOf, IsWitnessed, problem_of}
 use Rattle.trace_commands.specs.TraceReports.{trace_output}
 use Rattle.explore_command.specs.Lines.{results_lines}
-use Rattle.explore_command.proofs.searching.explored_from.Goals as goal
+use Rattle.explore_command.proofs.searching.explore_machine.Goals as goal
 
 pub returns-clause-lines : goal.returns-clause-lines
 returns-clause-lines g c =

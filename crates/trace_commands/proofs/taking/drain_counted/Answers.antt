@@ -1,6 +1,6 @@
 use Rattle.machine_steps.specs.Draining.{drain_steps}
 use Rattle.trace_commands.proofs.TakenAgain.{drain_replayed}
-use Rattle.trace_commands.proofs.taking.drained.Goals as goal
+use Rattle.trace_commands.proofs.taking.drain_counted.Goals as goal
 
 pub returns-clause-taken : goal.returns-clause-taken
 returns-clause-taken c opening steps r =
