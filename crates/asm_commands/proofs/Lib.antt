@@ -1,3 +1,3 @@
-pub mod ObservedCore
+pub mod FaultLines
 pub mod Found
 pub mod Present

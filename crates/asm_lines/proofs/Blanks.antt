@@ -11,7 +11,8 @@ use Rattle.asm_lines.specs.Statements.{Said, is_name, bracket_parts, rest_of_lin
 use Rattle.asm_lines.specs.Alike.{AreBracketedAlike, AreReadAlike, Pairwise, none, more, AreBlanks, IsQuiet, IsMark, IsFirstWord, IsLead, statement_line}
 use Rattle.asm_lines.proofs.PlainWords.{weaker, joined_all, cut_at_none, cut_at_mid, split_mid, split_none}
 use Rattle.asm_lines.proofs.Comments.{Cut, uncut, cut, cut_of, is_mark}
-use Rattle.asm_lines.proofs.Trims.{lacks, lacks_both, no_such, is_comma, blanks_uncut, trimmed_behind, trimmed_before, operands_behind, operands_before}
+use Rattle.asm_lines.proofs.Trims.{lacks, lacks_both, no_such, is_comma, blanks_uncut}
+use Rattle.asm_lines.proofs.Trims.{trimmed_after_gap, trimmed_before_gap, operands_after_gap, operands_before_gap}
 use Rattle.asm_lines.proofs.WithBracket.{bracket}
 use Rattle.asm_lines.proofs.Gaps.{gap_alike}
 use Rattle.asm_lines.proofs.StatementLines.{name_without, labelled, lines_alike}
@@ -44,7 +45,7 @@ unfolding operands_of
 comma_gap front gap gap' back h h' =
     ap split_trimmed (sym (append_assoc front gap (44 ∷ (gap' ++ back))))
     ∙ comma_after [] (front ++ gap) (gap' ++ back) refl
-    ∙ ap₂ (λ xs ys. xs ++ ys) (operands_before front gap h) (operands_behind gap' back h')
+    ∙ ap₂ (λ xs ys. xs ++ ys) (operands_before_gap front gap h) (operands_after_gap gap' back h')
     ∙ sym (comma_after [] front back refl)
 
 -- ---- brackets
@@ -163,7 +164,7 @@ unfolding rest_of_line
 by_trim one other e = rw e refl
 
 rest_ends : (before text after : List ℕ) → AreBlanks before → AreBlanks after → rest_of_line (before ++ (text ++ after)) ≡ rest_of_line text
-rest_ends before text after b a = by_trim _ _ (trimmed_behind before (text ++ after) b ∙ trimmed_before text after a)
+rest_ends before text after b a = by_trim _ _ (trimmed_after_gap before (text ++ after) b ∙ trimmed_before_gap text after a)
 
 abbrev is_colon : ℕ → Bool
 is_colon b = eqb b 58
@@ -194,7 +195,7 @@ said_ends before text after b a = go (cut_of is_colon text)
         = ap (cut_at is_colon) whole ∙ cut_at_mid is_colon (before ++ front) c (behind ++ after) (lacks_both 58 before front
         (no_such is_blank 58 refl before b) h) e in
         let other : cut_at is_colon text ≡ Some (front, behind) = ap (cut_at is_colon) is ∙ cut_at_mid is_colon front c behind h e in
-        rw (one, other, trimmed_behind before front b) (label_or (is_name (trimmed front)) (trimmed front) behind)
+        rw (one, other, trimmed_after_gap before front b) (label_or (is_name (trimmed front)) (trimmed front) behind)
 
 -- the line before its comment
 abbrev kept : List ℕ → List ℕ
@@ -248,5 +249,5 @@ colon_changes_nothing name gap gap' rest n h h' =
       labelled name gap (gap' ++ kept rest) n h,
       labelled name [] (kept rest) n refl,
       by_trim (gap' ++ kept rest) (kept rest)
-          (trimmed_behind gap' (kept rest) h'),
+          (trimmed_after_gap gap' (kept rest) h'),
     ) refl

@@ -9,7 +9,8 @@ use Rattle.asm_lines.specs.Text.{is_blank, front_trimmed, trimmed}
 use Rattle.asm_lines.specs.Statements.{is_name, register_in, bracket_parts}
 use Rattle.asm_lines.specs.Alike.{AreBlanks, AreReadAlike}
 use Rattle.asm_lines.proofs.PlainWords.{joined_all, cut_last_mid}
-use Rattle.asm_lines.proofs.Trims.{lacks, lacks_both, no_such, Ends, blank, solid, ends_of, trimmed_behind, trimmed_before, front_before, Kept, kept_of}
+use Rattle.asm_lines.proofs.Trims.{lacks, lacks_both, no_such, Ends, blank, solid, ends_of}
+use Rattle.asm_lines.proofs.Trims.{trimmed_after_gap, trimmed_before_gap, front_before_solid, Kept, kept_of}
 use Rattle.asm_lines.proofs.Cuts.{parts_trimmed, LastCut, without, last, last_cut, cut_last_none, Parts}
 use Rattle.asm_lines.proofs.Cuts.{cut_trimmed, bracketed_snoc, SameCut, same_cut, from_cuts}
 use Rattle.asm_lines.proofs.WithBracket.{IsBracket, unlike, register_fails, no_name}
@@ -28,12 +29,12 @@ back_solid xs c n =
 trimmed_marked : (A : List ℕ) (m : ℕ) (Q : List ℕ) → is_blank m ≡ false → EndsSolid Q → trimmed (A ++ m ∷ Q) ≡ front_trimmed A ++ m ∷ Q
 unfolding trimmed
 trimmed_marked A m Q n (inl e) =
-    ap (λ l. reverse (front_trimmed (reverse l))) (front_before A m Q n)
+    ap (λ l. reverse (front_trimmed (reverse l))) (front_before_solid A m Q n)
     ∙ ap (λ q. reverse (front_trimmed (reverse (front_trimmed A ++ m ∷ q)))) e ∙ back_solid (front_trimmed A) m n ∙ ap (λ q. front_trimmed A ++ m ∷ q) (sym e)
 trimmed_marked A m Q n (inr (front, c, e, s)) =
     let apart : front_trimmed A ++ m ∷ Q ≡ (front_trimmed A ++ m ∷ front) ++ c ∷ []
     = ap (λ q. front_trimmed A ++ m ∷ q) e ∙ sym (append_assoc (front_trimmed A) (m ∷ front) (c ∷ [])) in
-    ap (λ l. reverse (front_trimmed (reverse l))) (front_before A m Q n ∙ apart) ∙ back_solid (front_trimmed A ++ m ∷ front) c s ∙ sym apart
+    ap (λ l. reverse (front_trimmed (reverse l))) (front_before_solid A m Q n ∙ apart) ∙ back_solid (front_trimmed A ++ m ∷ front) c s ∙ sym apart
 
 -- Both texts after trimming, with the blanks that are left on either side of the byte.
 record Normal (m : ℕ) (A gap gap' B : List ℕ) : Type 0 where
@@ -60,9 +61,9 @@ normal m A gap gap' B n h h' = go (kept_of A gap h) (ends_of B)
       Q = [];
       g = k.gap_left;
       g' = [];
-      one = ap trimmed (sym (append_assoc A (m ∷ []) B)) ∙ trimmed_before (A ++ m ∷ []) B e ∙ trimmed_marked A m [] n (inl refl);
+      one = ap trimmed (sym (append_assoc A (m ∷ []) B)) ∙ trimmed_before_gap (A ++ m ∷ []) B e ∙ trimmed_marked A m [] n (inl refl);
       other = ap trimmed (apart (gap' ++ B) ∙ sym (append_assoc (A ++ gap) (m ∷ []) (gap' ++ B)))
-          ∙ trimmed_before ((A ++ gap) ++ m ∷ []) (gap' ++ B) (joined_all is_blank gap' B h' e) ∙ trimmed_marked (A ++ gap) m [] n (inl refl)
+          ∙ trimmed_before_gap ((A ++ gap) ++ m ∷ []) (gap' ++ B) (joined_all is_blank gap' B h' e) ∙ trimmed_marked (A ++ gap) m [] n (inl refl)
           ∙ ap (λ l. l ++ m ∷ []) k.is ∙ append_assoc (front_trimmed A) k.gap_left (m ∷ []);
       blanks = k.blanks;
       blanks' = refl;
@@ -79,11 +80,11 @@ normal m A gap gap' B n h h' = go (kept_of A gap h) (ends_of B)
           g = k.gap_left;
           g' = gap';
           one = ap (λ l. trimmed (A ++ m ∷ l)) is ∙ ap trimmed (sym (append_assoc A (m ∷ (front ++ c ∷ [])) e))
-              ∙ trimmed_before (A ++ m ∷ (front ++ c ∷ [])) e b
+              ∙ trimmed_before_gap (A ++ m ∷ (front ++ c ∷ [])) e b
               ∙ trimmed_marked A m (front ++ c ∷ []) n (inr (front, c, refl, s));
           other = ap trimmed (apart (gap' ++ B)) ∙ ap (λ l. trimmed ((A ++ gap) ++ m ∷ l)) behind
               ∙ ap trimmed (sym (append_assoc (A ++ gap) (m ∷ (gap' ++ (front ++ c ∷ []))) e))
-              ∙ trimmed_before ((A ++ gap) ++ m ∷ (gap' ++ (front ++ c ∷ []))) e b
+              ∙ trimmed_before_gap ((A ++ gap) ++ m ∷ (gap' ++ (front ++ c ∷ []))) e b
               ∙ trimmed_marked (A ++ gap) m (gap' ++ (front ++ c ∷ [])) n (inr (gap' ++ front, c, ends, s))
               ∙ ap (λ l. l ++ m ∷ (gap' ++ (front ++ c ∷ []))) k.is ∙ append_assoc (front_trimmed A) k.gap_left (m ∷ (gap' ++ (front ++ c ∷ [])));
           blanks = k.blanks;
@@ -142,7 +143,7 @@ module _ (m : ℕ) (is : IsBracket m) where
         ap (λ b. cut_trimmed (P ++ (g ++ b ∷ (g' ++ inside)))) e
         ∙ ap cut_trimmed (sym (append_assoc P g (40 ∷ (g' ++ inside))))
         ∙ ap parts_trimmed (cut_last_mid (P ++ g) (g' ++ inside) wide)
-        ∙ ap₂ (λ x y. Some (x, y)) (trimmed_before P g blanks) (trimmed_behind g' inside blanks')
+        ∙ ap₂ (λ x y. Some (x, y)) (trimmed_before_gap P g blanks) (trimmed_after_gap g' inside blanks')
         ∙ ap parts_trimmed (sym (cut_last_mid P inside h))
         ∙ ap (λ b. cut_trimmed (P ++ b ∷ inside)) (sym e))
 
@@ -211,7 +212,7 @@ module _ (m : ℕ) (is : IsBracket m) where
         go (last front inside e h) = same_cut _ _ (
             ap (λ l. cut_trimmed (l ++ g)) e ∙ ap cut_trimmed (append_assoc front (40 ∷ inside) g)
             ∙ ap parts_trimmed (cut_last_mid front (inside ++ g) (lacks_both 40 inside g h free))
-            ∙ ap (λ y. Some (trimmed front, y)) (trimmed_before inside g blanks)
+            ∙ ap (λ y. Some (trimmed front, y)) (trimmed_before_gap inside g blanks)
             ∙ ap parts_trimmed (sym (cut_last_mid front inside h))
             ∙ ap cut_trimmed (sym e))
 

@@ -13,7 +13,8 @@ use Rattle.asm_lines.specs.Statements.{Stmt, Said, is_letter, is_name_byte, is_n
 use Rattle.asm_lines.specs.Alike.{AreReadAlike, Pairwise, AreBlanks, IsQuiet, IsFirstWord, IsLead, statement_line}
 use Rattle.asm_lines.proofs.PlainWords.{weaker, all_at, cut_at_none, cut_at_mid}
 use Rattle.asm_lines.proofs.Readers.{chosen_alike}
-use Rattle.asm_lines.proofs.Trims.{lacks, lacks_both, no_such, trimmed_before, trimmed_word, trimmed_solid, Ends, blank, solid, ends_of, operands_before}
+use Rattle.asm_lines.proofs.Trims.{lacks, lacks_both, no_such}
+use Rattle.asm_lines.proofs.Trims.{trimmed_before_gap, trimmed_word, trimmed_solid, Ends, blank, solid, ends_of, operands_before_gap}
 
 -- ---- names and quiet texts
 
@@ -61,7 +62,7 @@ pub labelled : (name gap rest : List ℕ) → is_name name ≡ true → AreBlank
 unfolding label_in
 labelled name gap rest e h =
     let quiet = lacks_both 58 name gap (name_without 58 refl name e) (no_such is_blank 58 refl gap h) in
-    rw (cut_at_mid (λ b. eqb b 58) (name ++ gap) 58 rest quiet refl, trimmed_before name gap h, name_trimmed name e, e) refl
+    rw (cut_at_mid (λ b. eqb b 58) (name ++ gap) 58 rest quiet refl, trimmed_before_gap name gap h, name_trimmed name e, e) refl
 
 unlabelled : (text : List ℕ) → lacks 58 text ≡ true → label_in text ≡ (None, text)
 unfolding label_in
@@ -85,8 +86,8 @@ module _ (word : List ℕ) (is : IsFirstWord word) where
   unfolding rest_of_line
   read_blank rest h =
       let whole : trimmed (word ++ 32 ∷ rest) ≡ word
-      = trimmed_before word (32 ∷ rest) (and_from (is_blank 32) _ refl h) ∙ trimmed_word word is.nonempty is.no_blank in
-      rw (whole, not_empty word is.nonempty, cut_at_none is_blank word is.no_blank, same_operands word [] rest (sym (operands_before [] rest h))) refl
+      = trimmed_before_gap word (32 ∷ rest) (and_from (is_blank 32) _ refl h) ∙ trimmed_word word is.nonempty is.no_blank in
+      rw (whole, not_empty word is.nonempty, cut_at_none is_blank word is.no_blank, same_operands word [] rest (sym (operands_before_gap [] rest h))) refl
 
   read_solid : (front : List ℕ) (c : ℕ) (gap : List ℕ) → is_blank c ≡ false → AreBlanks gap
       → rest_of_line (word ++ 32 ∷ ((front ++ c ∷ []) ++ gap)) ≡ some_statement (statement_in word ((front ++ c ∷ []) ++ gap))
@@ -100,14 +101,14 @@ module _ (word : List ℕ) (is : IsFirstWord word) where
       = ap (λ l. is_blank (get_or l 0 32)) together ∙ ap is_blank (get_or_append_left word (32 ∷ (front ++ c ∷ [])) 32 0 is.nonempty)
       ∙ not-true _ (all_at (λ b. not (is_blank b)) word 0 32 is.nonempty is.no_blank) in
       let whole : trimmed (word ++ 32 ∷ ((front ++ c ∷ []) ++ gap)) ≡ word ++ 32 ∷ (front ++ c ∷ [])
-      = ap trimmed apart ∙ trimmed_before ((word ++ 32 ∷ front) ++ c ∷ []) gap h ∙ trimmed_solid (word ++ 32 ∷ front) c first n ∙ together in
+      = ap trimmed apart ∙ trimmed_before_gap ((word ++ 32 ∷ front) ++ c ∷ []) gap h ∙ trimmed_solid (word ++ 32 ∷ front) c first n ∙ together in
       let some : eqb (length (word ++ 32 ∷ (front ++ c ∷ []))) 0 ≡ false = not_empty (word ++ 32 ∷ (front ++ c ∷ [])) (simp length-append (omega arith)) in
       rw (
         whole,
         some,
         cut_at_mid is_blank word 32 (front ++ c ∷ []) is.no_blank refl,
         same_operands word (front ++ c ∷ []) ((front ++ c ∷ []) ++ gap)
-            (sym (operands_before (front ++ c ∷ []) gap h)),
+            (sym (operands_before_gap (front ++ c ∷ []) gap h)),
       ) refl
 
   pub statement_read : (rest : List ℕ) → rest_of_line (word ++ 32 ∷ rest) ≡ some_statement (statement_in word rest)

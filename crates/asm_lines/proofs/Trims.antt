@@ -38,18 +38,18 @@ all_reversed q (x ∷ xs) h =
     let a = and_parts (q x) (list_all q xs) h in
     ap (list_all q) (reverse_cons x xs) ∙ joined_all q (reverse xs) (x ∷ []) (all_reversed q xs a.1) (and_from (q x) true a.0 refl)
 
-front_behind : (gap xs : List ℕ) → AreBlanks gap → front_trimmed (gap ++ xs) ≡ front_trimmed xs
-front_behind [] xs h = refl
-front_behind (g ∷ gap) xs h = let a = and_parts (is_blank g) (list_all is_blank gap) h in rw a.0 (front_behind gap xs a.1)
+front_after_gap : (gap xs : List ℕ) → AreBlanks gap → front_trimmed (gap ++ xs) ≡ front_trimmed xs
+front_after_gap [] xs h = refl
+front_after_gap (g ∷ gap) xs h = let a = and_parts (is_blank g) (list_all is_blank gap) h in rw a.0 (front_after_gap gap xs a.1)
 
 front_blank : (gap : List ℕ) → AreBlanks gap → front_trimmed gap ≡ []
 front_blank [] h = refl
 front_blank (g ∷ gap) h = let a = and_parts (is_blank g) (list_all is_blank gap) h in rw a.0 (front_blank gap a.1)
 
 -- Trimming the front of a text keeps a byte that is not a blank, and all after it.
-pub front_before : (xs : List ℕ) (c : ℕ) (ys : List ℕ) → is_blank c ≡ false → front_trimmed (xs ++ c ∷ ys) ≡ front_trimmed xs ++ c ∷ ys
-front_before [] c ys h = rw h refl
-front_before (x ∷ xs) c ys h = go (is_blank x) (front_before xs c ys h)
+pub front_before_solid : (xs : List ℕ) (c : ℕ) (ys : List ℕ) → is_blank c ≡ false → front_trimmed (xs ++ c ∷ ys) ≡ front_trimmed xs ++ c ∷ ys
+front_before_solid [] c ys h = rw h refl
+front_before_solid (x ∷ xs) c ys h = go (is_blank x) (front_before_solid xs c ys h)
   where
     go : (t : Bool) → front_trimmed (xs ++ c ∷ ys) ≡ front_trimmed xs ++ c ∷ ys
         → cond t (front_trimmed (xs ++ c ∷ ys)) (x ∷ (xs ++ c ∷ ys)) ≡ cond t (front_trimmed xs) (x ∷ xs) ++ c ∷ ys
@@ -57,12 +57,12 @@ front_before (x ∷ xs) c ys h = go (is_blank x) (front_before xs c ys h)
     go false more = refl
 
 -- Blanks before a text are trimmed away.
-pub trimmed_behind : (gap xs : List ℕ) → AreBlanks gap → trimmed (gap ++ xs) ≡ trimmed xs
+pub trimmed_after_gap : (gap xs : List ℕ) → AreBlanks gap → trimmed (gap ++ xs) ≡ trimmed xs
 unfolding trimmed
-trimmed_behind gap xs h = ap (λ (l : List ℕ). reverse (front_trimmed (reverse l))) (front_behind gap xs h)
+trimmed_after_gap gap xs h = ap (λ (l : List ℕ). reverse (front_trimmed (reverse l))) (front_after_gap gap xs h)
 
-back_before : (xs gap : List ℕ) → AreBlanks gap → front_trimmed (reverse (xs ++ gap)) ≡ front_trimmed (reverse xs)
-back_before xs gap h = ap front_trimmed (reverse-append xs gap) ∙ front_behind (reverse gap) (reverse xs) (all_reversed is_blank gap h)
+back_before_gap : (xs gap : List ℕ) → AreBlanks gap → front_trimmed (reverse (xs ++ gap)) ≡ front_trimmed (reverse xs)
+back_before_gap xs gap h = ap front_trimmed (reverse-append xs gap) ∙ front_after_gap (reverse gap) (reverse xs) (all_reversed is_blank gap h)
 
 -- what is left of the blanks after a text if the text is trimmed in front
 pub record Kept (xs gap : List ℕ) : Type 0 where
@@ -92,21 +92,21 @@ kept_of xs gap h = go (cut_of (λ b. not (is_blank b)) xs)
     }
     go (cut front c behind is e n) =
         let none : is_blank c ≡ false = not-true (is_blank c) n in
-        let one : front_trimmed xs ≡ front_trimmed front ++ c ∷ behind = ap front_trimmed is ∙ front_before front c behind none in
+        let one : front_trimmed xs ≡ front_trimmed front ++ c ∷ behind = ap front_trimmed is ∙ front_before_solid front c behind none in
         let whole : xs ++ gap ≡ front ++ c ∷ (behind ++ gap) = ap (λ l. l ++ gap) is ∙ append_assoc front (c ∷ behind) gap in
         record {
           gap_left = gap;
-          is = ap front_trimmed whole ∙ front_before front c (behind ++ gap) none ∙ sym (append_assoc (front_trimmed front) (c ∷ behind) gap)
+          is = ap front_trimmed whole ∙ front_before_solid front c (behind ++ gap) none ∙ sym (append_assoc (front_trimmed front) (c ∷ behind) gap)
               ∙ ap (λ l. l ++ gap) (sym one);
           blanks = h;
         }
 
 -- Blanks after a text are trimmed away.
-pub trimmed_before : (xs gap : List ℕ) → AreBlanks gap → trimmed (xs ++ gap) ≡ trimmed xs
+pub trimmed_before_gap : (xs gap : List ℕ) → AreBlanks gap → trimmed (xs ++ gap) ≡ trimmed xs
 unfolding trimmed
-trimmed_before xs gap h =
+trimmed_before_gap xs gap h =
     let k = kept_of xs gap h in
-    ap (λ (l : List ℕ). reverse (front_trimmed (reverse l))) k.is ∙ ap reverse (back_before (front_trimmed xs) k.gap_left k.blanks)
+    ap (λ (l : List ℕ). reverse (front_trimmed (reverse l))) k.is ∙ ap reverse (back_before_gap (front_trimmed xs) k.gap_left k.blanks)
 
 -- ---- the end of a text
 
@@ -147,19 +147,19 @@ pub blanks_uncut : (gap : List ℕ) → AreBlanks gap → lacks 44 gap ≡ true
 blanks_uncut gap h = no_such is_blank 44 refl gap h
 
 -- Blanks before a text do not change its operands.
-pub operands_behind : (gap xs : List ℕ) → AreBlanks gap → operands_of (gap ++ xs) ≡ operands_of xs
+pub operands_after_gap : (gap xs : List ℕ) → AreBlanks gap → operands_of (gap ++ xs) ≡ operands_of xs
 unfolding operands_of
-operands_behind gap xs h = go (cut_of is_comma xs)
+operands_after_gap gap xs h = go (cut_of is_comma xs)
   where
     go : Cut is_comma xs → map trimmed (slice_split is_comma (gap ++ xs)) ≡ map trimmed (slice_split is_comma xs)
     go (uncut e) = ap (map trimmed) (split_none is_comma (gap ++ xs) (joined_all _ gap xs (blanks_uncut gap h) e))
-        ∙ ap (λ (l : List ℕ). l ∷ []) (trimmed_behind gap xs h) ∙ ap (map trimmed) (sym (split_none is_comma xs e))
+        ∙ ap (λ (l : List ℕ). l ∷ []) (trimmed_after_gap gap xs h) ∙ ap (map trimmed) (sym (split_none is_comma xs e))
     go (cut front c behind is e n) =
         let whole : gap ++ xs ≡ (gap ++ front) ++ c ∷ behind = ap (λ l. gap ++ l) is ∙ sym (append_assoc gap front (c ∷ behind)) in
         let none = lacks_both 44 gap front (blanks_uncut gap h) e in
         ap (λ l. map trimmed (slice_split is_comma l)) whole
         ∙ ap (map trimmed) (split_mid is_comma (gap ++ front) c behind none n)
-        ∙ ap (λ (l : List ℕ). l ∷ map trimmed (slice_split is_comma behind)) (trimmed_behind gap front h)
+        ∙ ap (λ (l : List ℕ). l ∷ map trimmed (slice_split is_comma behind)) (trimmed_after_gap gap front h)
         ∙ ap (map trimmed) (sym (split_mid is_comma front c behind e n))
         ∙ ap (λ l. map trimmed (slice_split is_comma l)) (sym is)
 
@@ -168,7 +168,7 @@ operands_after : (lead xs gap : List ℕ) → lacks 44 lead ≡ true → AreBlan
     → map trimmed (slice_split is_comma (lead ++ (xs ++ gap))) ≡ map trimmed (slice_split is_comma (lead ++ xs))
 operands_after lead [] gap l h =
     ap (map trimmed) (split_none is_comma (lead ++ gap) (joined_all _ lead gap l (blanks_uncut gap h)))
-    ∙ ap (λ (x : List ℕ). x ∷ []) (trimmed_before lead gap h)
+    ∙ ap (λ (x : List ℕ). x ∷ []) (trimmed_before_gap lead gap h)
     ∙ ap (map trimmed) (sym (split_none is_comma lead l))
     ∙ ap (λ x. map trimmed (slice_split is_comma x)) (sym (append-nil lead))
 operands_after lead (x ∷ xs) gap l h = go (λ front none. operands_after front xs gap none h) (is_comma x) refl
@@ -186,6 +186,6 @@ operands_after lead (x ∷ xs) gap l h = go (λ front none. operands_after front
         ∙ ap (λ y. map trimmed (slice_split is_comma y)) (append_assoc lead (x ∷ []) xs)
 
 -- Blanks after a text do not change its operands.
-pub operands_before : (xs gap : List ℕ) → AreBlanks gap → operands_of (xs ++ gap) ≡ operands_of xs
+pub operands_before_gap : (xs gap : List ℕ) → AreBlanks gap → operands_of (xs ++ gap) ≡ operands_of xs
 unfolding operands_of
-operands_before xs gap h = operands_after [] xs gap refl h
+operands_before_gap xs gap h = operands_after [] xs gap refl h

@@ -53,20 +53,20 @@ module _ {R : Type 0} where
   get_set_else (x ∷ xs) (suc k) (suc j) r s ne e = get_set_else xs k j r s (λ h. ne (ap suc h)) e
 
   abbrev All : List R → ℕ → (ℕ → ℕ) → List (View R) → Type 0
-  All all boss owner views = (by : ℕ) (v : View R) → get_elem? views by ≡ some v → Fits all boss owner by v
+  All all authority_seat owner views = (by : ℕ) (v : View R) → get_elem? views by ≡ some v → Fits all authority_seat owner by v
 
   -- If one view changes and fits, and all others fit, all views fit after the change.
-  fits_set : (all : List R) (boss : ℕ) (owner : ℕ → ℕ) (views : List (View R)) (at : ℕ) (w : View R)
-      → ((j : ℕ) (u : View R) → j ≢ at → get_elem? views j ≡ some u → Fits all boss owner j u)
-      → Fits all boss owner at w → All all boss owner (set views at w)
-  fits_set all boss owner views at w others mine j u e =
+  fits_set : (all : List R) (authority_seat : ℕ) (owner : ℕ → ℕ) (views : List (View R)) (at : ℕ) (w : View R)
+      → ((j : ℕ) (u : View R) → j ≢ at → get_elem? views j ≡ some u → Fits all authority_seat owner j u)
+      → Fits all authority_seat owner at w → All all authority_seat owner (set views at w)
+  fits_set all authority_seat owner views at w others mine j u e =
       ⊎_elim
-      (λ (x : (j ≡ at) × (w ≡ u)). subst (λ (y : ℕ × View R). Fits all boss owner y.0 y.1) (λ i. (sym x.0 i, x.1 i)) mine)
+      (λ (x : (j ≡ at) × (w ≡ u)). subst (λ (y : ℕ × View R). Fits all authority_seat owner y.0 y.1) (λ i. (sym x.0 i, x.1 i)) mine)
       (λ (x : (j ≢ at) × (get_elem? views j ≡ some u)). others j u x.0 x.1)
       (at_set views at j w u e)
 
-  none_held : (all : List R) (boss : ℕ) (owner : ℕ → ℕ) (at : ℕ) → Fits all boss owner at nobody
-  none_held all boss owner at = ((λ k. absurd (off k)), (λ who row h. absurd (cc)))
+  none_held : (all : List R) (authority_seat : ℕ) (owner : ℕ → ℕ) (at : ℕ) → Fits all authority_seat owner at nobody
+  none_held all authority_seat owner at = ((λ k. absurd (off k)), (λ who row h. absurd (cc)))
 
   -- At first the rule holds: there are no rows, and one authority that knows them and has nothing in hand.
   pub begins : Kept {R = R} (authority [] [] ∷ [])
@@ -88,9 +88,9 @@ module _ {R : Type 0} where
   abbrev Rule : State (Unit {0}) (View R) → Type 0
   Rule s = Kept s.views
 
-  pub hires : (all : List R) (row : R) (slots id i : ℕ)
+  pub allocates : (all : List R) (row : R) (slots id i : ℕ)
       → Allows Rule slots id (authority all [], []) i (λ n. n) (λ n w. Allocated row (authority all [], []) w)
-  hires all row slots id i s h len at fits =
+  allocates all row slots id i s h len at fits =
       let mine = (h.3 id (authority all []) at).0 refl in
       let w : View R = authority (all ++ row ∷ []) ((length all, row) ∷ []) in
       let more = h.0 ++ row ∷ [] in
@@ -241,7 +241,7 @@ module _ {R : Type 0} where
   pub hires_as : (me : Me (Unit {0}) (View R)) (all : List R) (row : R) (slots id i : ℕ)
       → me ≡ (authority all [], []) → Allows Rule slots id me i (λ n. n) (λ n w. Allocated row me w)
   hires_as me all row slots id i is =
-      subst (λ (m : Me (Unit {0}) (View R)). Allows Rule slots id m i (λ n. n) (λ n w. Allocated row m w)) (sym is) (hires all row slots id i)
+      subst (λ (m : Me (Unit {0}) (View R)). Allows Rule slots id m i (λ n. n) (λ n w. Allocated row m w)) (sym is) (allocates all row slots id i)
 
   -- A seat that is known to be the authority's, with a row's fragment in hand, may write that row.
   pub writes_as : (me : Me (Unit {0}) (View R)) (all : List R) (who : ℕ) (row new : R) (slots id i : ℕ)

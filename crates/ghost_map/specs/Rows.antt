@@ -30,17 +30,18 @@ module _ {R : Type 0} where
   abbrev pub taken : View R → View R → View R
   taken v w = record { keeps = v.keeps; all = v.all; held = w.held }
 
-  -- A view fits the rule: only the boss keeps all rows, and a row is held by its owner alone, as it is among all.
+  -- A view fits the rule: only the seat of the authority keeps all rows, and a row is held by its owner alone, as it
+  -- is among all.
   abbrev pub Fits : List R → ℕ → (ℕ → ℕ) → ℕ → View R → Type 0
-  Fits all boss owner by v =
-      (v.keeps ≡ true → (by ≡ boss) × (v.all ≡ all))
+  Fits all authority_seat owner by v =
+      (v.keeps ≡ true → (by ≡ authority_seat) × (v.all ≡ all))
       × ((who : ℕ) (row : R) → v.held ≡ (who, row) ∷ [] → (by ≡ owner who) × (slice_get all who ≡ Some row))
 
   -- One seat at most keeps all rows, and each row is held by one seat at most, as it is among all.
   abbrev pub Kept : List (View R) → Type 0
   Kept views =
-      (all : List R) × (boss : ℕ) × (owner : ℕ → ℕ)
-      × ((by : ℕ) (v : View R) → get_elem? views by ≡ some v → Fits all boss owner by v)
+      (all : List R) × (authority_seat : ℕ) × (owner : ℕ → ℕ)
+      × ((by : ℕ) (v : View R) → get_elem? views by ≡ some v → Fits all authority_seat owner by v)
 
   -- The authority has one more row, and that row's fragment in hand.
   abbrev pub Allocated : R → Me (Unit {0}) (View R) → Me (Unit {0}) (View R) → Type 0

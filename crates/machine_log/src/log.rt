@@ -220,14 +220,14 @@ pub fn names(config: Config, step: &Step) -> bool
     requires { IsWithinLimits config }
     ensures { result ≡ is_named config step.now }
 {
-    let capacity_left = config.processors();
+    let processors = config.processors();
     match *step {
-        Step::Turn(place) | Step::Serve(place) => place < capacity_left,
+        Step::Turn(place) | Step::Serve(place) => place < processors,
         Step::Up { stage, wire } | Step::Down { stage, wire } => {
-            stage < config.k && wire < capacity_left
+            stage < config.k && wire < processors
         }
         Step::Poke(Poke::Register { processor, .. } | Poke::Local { processor, .. }) => {
-            processor < capacity_left
+            processor < processors
         }
         Step::Poke(Poke::Shared { .. }) => true,
     }

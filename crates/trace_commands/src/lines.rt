@@ -166,7 +166,7 @@ fn word_of_turn(before: &Machine, p: u8, outcome: Outcome) -> Option<u32>
     requires moves { outcome ≡ Outcome.Stalled → ⊥ }
     ensures { result ≡ word_of (flat_state before.now) (entries.Processor p) }
 {
-    laws::turns_have_lines();
+    laws::turns_have_words();
     let Outcome::Retired(retired) = outcome else {
         return None;
     };

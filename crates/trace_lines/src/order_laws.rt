@@ -11,7 +11,7 @@ pub fn lines_go_on()
 /// A turn that retires an instruction acts on the same word as the instruction, and one that stops its processor acts
 /// on none.
 #[tactic(auto, using(crate::proofs::Turns::retired_words, crate::proofs::Turns::stopped_words))]
-pub fn turns_have_lines()
+pub fn turns_have_words()
     ensures retired { RetiredTurnsHaveWords }
     ensures stopped { StoppedTurnsHaveNone }
 {}

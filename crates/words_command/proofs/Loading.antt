@@ -20,7 +20,7 @@ use Rattle.elf_image.specs.Images.{ImageContents, IsPlaced, IsMeant, IsGiven, Is
 use Rattle.elf_image.specs.Openings.{opening}
 use Rattle.elf_image.specs.Refusals.{refusal_of}
 use Rattle.elf_image.specs.Spellings.{file_header_bytes, program_header_bytes, spelling}
-use Rattle.words_command.specs.Loading.{bytes_of_words, flat_of_words, layout_of_words, IsWantOfMemory}
+use Rattle.words_command.specs.Loading.{bytes_of_words, flat_of_words, layout_of_words, IsLinkOrMemory}
 
 -- ---- the bytes of words
 
@@ -169,7 +169,7 @@ unlike file new error none refused =
 -- A file that is accepted can only be refused because there is no memory.
 pub none_refused : (file : List ℕ) (new : Option (List ℕ)) (error : ImageError) → length file ≤ 1048576 → refusal_of 1024 file ≡ None →
     IsRefused 1024 (Some file) new error →
-    IsWantOfMemory error
+    IsLinkOrMemory error
 none_refused file new because.Link short none refused = tt
 none_refused file new because.Memory short none refused = tt
 none_refused file new because.TooLong short none refused = too_many new refused

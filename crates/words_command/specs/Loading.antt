@@ -27,7 +27,7 @@ abbrev pub layout_of_words : List ℕ → Layout
 layout_of_words words = record { entry = 2 ^ 16; code = bytes_of_words words; local = []; shared = [] }
 
 -- The image was not written to memory, or not read back, because there was no memory. Nothing else can go wrong.
-abbrev pub IsWantOfMemory : ImageError → Type 0
-IsWantOfMemory error.Link = Unit {0}
-IsWantOfMemory error.Memory = Unit {0}
-IsWantOfMemory refusal = ⊥
+abbrev pub IsLinkOrMemory : ImageError → Type 0
+IsLinkOrMemory error.Link = Unit {0}
+IsLinkOrMemory error.Memory = Unit {0}
+IsLinkOrMemory refusal = ⊥

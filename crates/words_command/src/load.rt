@@ -5,7 +5,7 @@ ghost use Rattle.elf_image.specs.Images.{IsPlaced, IsAccepted, IsMeant};
 ghost use Rattle.elf_image.specs.Spellings.{spelling};
 ghost use Rattle.machine_steps.specs.Machines.{AreHome, IsIdle};
 ghost use Rattle.machine_steps.specs.Runs.{flat_state};
-ghost use Rattle.words_command.specs.Loading.{bytes_of_words, layout_of_words, flat_of_words, IsWantOfMemory};
+ghost use Rattle.words_command.specs.Loading.{bytes_of_words, layout_of_words, flat_of_words, IsLinkOrMemory};
 
 use elf_image::{Bytes, Image, ImageError, Layout, laws, read_image, write_image};
 use flat_machine::{CODE_START, Config};
@@ -73,7 +73,7 @@ fn image_of(alloc: Global, layout: &Layout) -> Result<Image, ImageError>
     requires placed { IsPlaced layout.now 1024 }
     requires short { length (spelling layout.now) ≤ 1048576 }
     ensures ok { IfOk result (λ image. image ≡ record { layout = layout.now; shared_words = 1024 }) }
-    ensures memory { IfErr result IsWantOfMemory }
+    ensures memory { IfErr result IsLinkOrMemory }
 {
     laws::spelling_means_its_layout();
     laws::input_means_one_layout();
