@@ -71,9 +71,9 @@ uniform e classes t row are of j k alike = by (cases_lt j e.processors) (cases_l
 
 module _ (e : Extent) (code : List ℕ) (classes : List ℕ) (t : TableLists) (rows moves : List (List ℕ)) (first : MacroState)
     (m : FlatState) (f : IsForgetful (setting_at e) code (kept_by t.live)) (found : AreFound e code classes t rows moves first)
-    (settles_first : ReachesMacroState (setting_at e) code (kept_by t.live) m (λ k. []) first) (results : List FinalResult) where
-  settles : ReachesMacroState (setting_at e) code (kept_by t.live) m (λ k. []) (state_at e t rows 0)
-  settles = subst (ReachesMacroState (setting_at e) code (kept_by t.live) m (λ k. [])) (sym found.begins) settles_first
+    (reaches_first : ReachesMacroState (setting_at e) code (kept_by t.live) m (λ k. []) first) (results : List FinalResult) where
+  reaches : ReachesMacroState (setting_at e) code (kept_by t.live) m (λ k. []) (state_at e t rows 0)
+  reaches = subst (ReachesMacroState (setting_at e) code (kept_by t.live) m (λ k. [])) (sym found.begins) reaches_first
 
   -- The results stand only for results of the flat machine.
   pub flat_sound : AllStoodForAreResults → IsUniform classes first →
@@ -82,7 +82,7 @@ module _ (e : Extent) (code : List ℕ) (classes : List ℕ) (t : TableLists) (r
   flat_sound law same ends r q there stands =
       let h = ends r there in
       law (setting_at e) code (kept_by t.live) classes (state_at e t rows) (length rows) m h.place q f (keeps t.live) found.reached
-      (subst (IsUniform classes) (sym found.begins) same) settles h.within h.stopped
+      (subst (IsUniform classes) (sym found.begins) same) reaches h.within h.stopped
       (stands_for_on classes (result_at (state_at e t rows h.place)) r q h.is stands)
 
   -- The results stand for every result of the flat machine.
@@ -91,7 +91,7 @@ module _ (e : Extent) (code : List ℕ) (classes : List ℕ) (t : TableLists) (r
       (q : FinalResult) → IsFlatResult m q → IsStoodFor classes results q
   flat_complete law all q is =
       let x = law (setting_at e) code (kept_by t.live) classes (state_at e t rows) (length rows) moves m q f (keeps t.live)
-      found.successors settles is in
+      found.successors reaches is in
       let y = all x.0 x.1 x.2 in
       (y.0, y.1, stands_for_on classes y.0 (result_at (state_at e t rows x.0)) q y.2 x.3)
 
@@ -99,7 +99,7 @@ module _ (e : Extent) (code : List ℕ) (classes : List ℕ) (t : TableLists) (r
   pub flat_schedules : SuccessorsDecideTermination → (fact : Termination) → IsTrueOf moves fact → IsTerminationOf m fact
   flat_schedules law fact =
       law (setting_at e) code (kept_by t.live) classes (state_at e t rows) (length rows) moves m (λ k. []) fact f
-      found.successors found.reached settles
+      found.successors found.reached reaches
 
   -- The rows mean all states of the machine.
   pub all_states : HasAllLive code t.live → (termination : Termination) (count : ℕ) → IsTrueOf moves termination →
@@ -113,7 +113,7 @@ module _ (e : Extent) (code : List ℕ) (classes : List ℕ) (t : TableLists) (r
           live = t.live;
           right = right;
           state = state_at e t rows;
-          settles = settles;
+          reaches = reaches;
           reached = found.reached;
           different = found.different;
         };
@@ -128,7 +128,7 @@ module _ (e : Extent) (code : List ℕ) (classes : List ℕ) (t : TableLists) (r
 pub many_states : (e : Extent) (code : List ℕ) (classes : List ℕ) (t : TableLists) (first : MacroState) (m : FlatState) (least : ℕ) →
     HasAllLive code t.live → ReachesMacroState (setting_at e) code (kept_by t.live) m (λ k. []) first → AreMany e code classes t first least →
     HasManyStates m least
-many_states e code classes t first m least right settles h = record {
+many_states e code classes t first m least right reaches h = record {
   classes = classes;
   count = length h.rows;
   many = h.many;
@@ -138,7 +138,7 @@ many_states e code classes t first m least right settles h = record {
     live = t.live;
     right = right;
     state = state_at e t h.rows;
-    settles = subst (ReachesMacroState (setting_at e) code (kept_by t.live) m (λ k. [])) (sym h.begins) settles;
+    reaches = subst (ReachesMacroState (setting_at e) code (kept_by t.live) m (λ k. [])) (sym h.begins) reaches;
     reached = h.reached;
     different = h.different;
   };

@@ -15,7 +15,7 @@ use Rattle.exploration.specs.Endings.{AreInOrder}
 use Rattle.exploration.specs.declared.refusal.Refusal.{Refusal}
 use Rattle.exploration.specs.declared.refusal.Refusal.TheVariants as refusal
 
--- The flat machine settles to the first of these states, and moves lead from there to each of them, up to exchanges of
+-- The flat machine reaches the first of these states, and moves lead from there to each of them, up to exchanges of
 -- processors of one class. No two are equal. The contents of registers that are not live are no part of a state.
 pub record AreStates (m : FlatState) (classes : List ℕ) (count : ℕ) : Type 0 where
   pub at : ℕ → Setting
@@ -23,7 +23,7 @@ pub record AreStates (m : FlatState) (classes : List ℕ) (count : ℕ) : Type 0
   pub live : List (List Bool)
   pub right : HasAllLive code live
   pub state : ℕ → MacroState
-  pub settles : ReachesMacroState at code (kept_by live) m (λ k. []) (state 0)
+  pub reaches : ReachesMacroState at code (kept_by live) m (λ k. []) (state 0)
   pub reached : AreReached at code (kept_by live) classes state count
   pub different : AreDifferentStates count state
 

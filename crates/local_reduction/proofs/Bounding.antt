@@ -12,9 +12,9 @@ use Rattle.flat_machine.specs.Flat.{flat_step, flat_events}
 use Rattle.local_reduction.specs.LocalStates.{consoles_after, turns, LocalState, IsReference}
 use Rattle.local_reduction.specs.Closing.{IsForgetful, MacroState, HasSpinner, MayMove, IsShort, ReachesMacroState}
 use Rattle.local_reduction.specs.Termination.{EveryScheduleEnds}
-use Rattle.local_reduction.proofs.Settling.{one_events, one_event, one_length, stays, silent, absent, absent_silent}
-use Rattle.local_reduction.proofs.Settling.{found_within, some_inj, put, put_here, put_other, SettlesIn, below}
-use Rattle.local_reduction.proofs.Settling.{counted}
+use Rattle.local_reduction.proofs.OneTurn.{one_events, one_event, one_length, stays, silent, absent, absent_silent}
+use Rattle.local_reduction.proofs.OneTurn.{found_within, some_inj, put, put_here, put_other, ReachesIn, below}
+use Rattle.local_reduction.proofs.OneTurn.{counted}
 use Rattle.local_reduction.proofs.Covering.{retiring_turn, stopping_turn, reaching_turn, may_move}
 
 -- ---- sums of the first numbers
@@ -106,17 +106,17 @@ module _ (at : ℕ → Setting) (code : List ℕ) (kept : LocalState → LocalSt
   abbrev IsWithin : List ℕ → Type 0
   IsWithin order =
       (n : ℕ) (s : MacroState) (h : IsShort at code kept n s) (m : FlatState) (consoles : ℕ → List ℕ) (counts : ℕ → ℕ) →
-      SettlesIn at code kept m consoles counts s → length (flat_events m (turns order)) ≤ total counts (length m.processors) + price n s h
+      ReachesIn at code kept m consoles counts s → length (flat_events m (turns order)) ≤ total counts (length m.processors) + price n s h
 
   module _ (f : IsForgetful at code kept) (k : ℕ) (ks : List ℕ) (again : IsWithin ks) (s : MacroState) (m : FlatState) (consoles : ℕ → List ℕ)
-      (counts : ℕ → ℕ) (settles : SettlesIn at code kept m consoles counts s) where
+      (counts : ℕ → ℕ) (reaches : ReachesIn at code kept m consoles counts s) where
     abbrev rest_of : List (ℕ × Event)
     rest_of = flat_events (flat_step m (entry.Processor k)) (turns ks)
 
     idle : flat_step m (entry.Processor k) ≡ m → one_events m k ≡ [] → (n : ℕ) (h : IsShort at code kept n s) →
         length (one_events m k ++ rest_of) ≤ total counts (length m.processors) + price n s h
     idle same none n h =
-        let rest = again n s h m consoles counts settles in
+        let rest = again n s h m consoles counts reaches in
         let events : length (one_events m k ++ rest_of) ≡ length (flat_events m (turns ks)) = λ i. length (none i ++ flat_events (same i) (turns ks)) in
         omega (arith, rest, events)
 
@@ -133,7 +133,7 @@ module _ (at : ℕ → Setting) (code : List ℕ) (kept : LocalState → LocalSt
           ∙ total_put counts k n (length m.processors) (found_within m.processors k p there)
 
       near : ((i : ℕ) × (counts k ≡ suc i)
-          × SettlesIn at code kept (flat_step m (entry.Processor k)) (consoles_after consoles (one_events m k)) (put counts k i) s)
+          × ReachesIn at code kept (flat_step m (entry.Processor k)) (consoles_after consoles (one_events m k)) (put counts k i) s)
           ⊎ ((counts k ≡ 0) × HasSpinner at code s) →
           (n : ℕ) (h : IsShort at code kept n s) → length (one_events m k ++ rest_of) ≤ total counts (length m.processors) + price n s h
       near (inr spins) n h = absurd (no_spinner n s h spins.1)
@@ -145,16 +145,16 @@ module _ (at : ℕ → Setting) (code : List ℕ) (kept : LocalState → LocalSt
 
       far : (word : ℕ) (change : ℕ → ℕ) (after : ℕ → Processor × Retired) → turn_of (at k) code p ≡ Reaches word change after →
           (n : ℕ) (h : IsShort at code kept n s) → length (one_events m k ++ rest_of) ≤ total counts (length m.processors) + price n s h
-      far word change after e zero h = absurd (h.1 k (may_move at code kept m consoles counts s k settles p there runs f word change after e))
+      far word change after e zero h = absurd (h.1 k (may_move at code kept m consoles counts s k reaches p there runs f word change after e))
       far word change after e (suc n) h = by (may? s k) refl
         where
           by : (d : MayMove at code s k ⊎ (MayMove at code s k → ⊥)) → may? s k ≡ d →
               length (one_events m k ++ rest_of) ≤ total counts (length m.processors) + price (suc n) s h
-          by (inr none) is = absurd (none (may_move at code kept m consoles counts s k settles p there runs f word change after e))
+          by (inr none) is = absurd (none (may_move at code kept m consoles counts s k reaches p there runs f word change after e))
           by (inl w) is =
               let move = (h.1 k w).1 in
               let rest = again n (h.1 k w).0 (h.1 k w).2 (flat_step m (entry.Processor k)) (consoles_after consoles (one_events m k)) (put counts k move.count)
-              (reaching_turn at code kept m consoles counts s k settles p there runs f word change after e (h.1 k w).0 move) in
+              (reaching_turn at code kept m consoles counts s k reaches p there runs f word change after e (h.1 k w).0 move) in
               let sums = put_in move.count in
               let cost = total_has (λ j. part (may? s j) (λ v. suc ((h.1 j v).1.count + price n (h.1 j v).0 (h.1 j v).2))) (length s.local_states) k
               (found_within s.local_states k w.local_state w.there) in
@@ -167,8 +167,8 @@ module _ (at : ℕ → Setting) (code : List ℕ) (kept : LocalState → LocalSt
       where
         by_turn : (p : Processor) → slice_get m.processors k ≡ Some p → is_running p.status ≡ true → (x : Turn) → turn_of (at k) code p ≡ x →
             length (one_events m k ++ rest_of) ≤ total counts (length m.processors) + price n s h
-        by_turn p there runs (Retires q r) e = near p there runs (retiring_turn at code kept m consoles counts s k settles p there runs f q r e) n h
-        by_turn p there runs (Stops c) e = near p there runs (stopping_turn at code kept m consoles counts s k settles p there runs f c e) n h
+        by_turn p there runs (Retires q r) e = near p there runs (retiring_turn at code kept m consoles counts s k reaches p there runs f q r e) n h
+        by_turn p there runs (Stops c) e = near p there runs (stopping_turn at code kept m consoles counts s k reaches p there runs f c e) n h
         by_turn p there runs (Reaches word change after) e = far p there runs word change after e n h
 
         by_running : (p : Processor) → slice_get m.processors k ≡ Some p → (b : Bool) → is_running p.status ≡ b →
@@ -182,14 +182,14 @@ module _ (at : ℕ → Setting) (code : List ℕ) (kept : LocalState → LocalSt
         by_processor (Some p) there = by_running p there (is_running p.status) refl
 
   within : IsForgetful at code kept → (order : List ℕ) → IsWithin order
-  within f [] n s h m consoles counts settles = omega arith
-  within f (k ∷ ks) n s h m consoles counts settles = one_more f k ks (within f ks) s m consoles counts settles n h
+  within f [] n s h m consoles counts reaches = omega arith
+  within f (k ∷ ks) n s h m consoles counts reaches = one_more f k ks (within f ks) s m consoles counts reaches n h
 
--- If the number of moves from the state to which a flat machine settles is bounded, every schedule of the machine ends.
+-- If the number of moves from the state that a flat machine reaches is bounded, every schedule of the machine ends.
 pub bounded : (at : ℕ → Setting) (code : List ℕ) (kept : LocalState → LocalState) (m : FlatState) (consoles : ℕ → List ℕ) (s : MacroState) (most : ℕ) →
     IsForgetful at code kept → ReachesMacroState at code kept m consoles s → IsShort at code kept most s → EveryScheduleEnds m
-bounded at code kept m consoles s most f settles h =
-    let x = counted at code kept m consoles s settles in (
+bounded at code kept m consoles s most f reaches h =
+    let x = counted at code kept m consoles s reaches in (
       total x.0 (length m.processors) + price at code kept most s h,
       λ order. within at code kept f order most s h m consoles x.0 x.1,
     )

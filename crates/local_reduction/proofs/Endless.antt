@@ -13,7 +13,7 @@ use Rattle.flat_machine.proofs.Lemmas.{set_other}
 use Rattle.local_reduction.specs.LocalStates.{LocalState, alone_by, alone_once, alone, turns, IsReference, GoesOn, Spins}
 use Rattle.local_reduction.specs.Closing.{IsForgetful, MacroState, HasSpinner, local_state_of, ReachesMacroState, HasStopped}
 use Rattle.local_reduction.proofs.Spinning.{made, by_made, spins_on, spins_from}
-use Rattle.local_reduction.proofs.Settling.{settled_once, some_inj, set_there, found_within, found_there, stepped, stays, absent, goes_alike}
+use Rattle.local_reduction.proofs.OneTurn.{standing_once, some_inj, set_there, found_within, found_there, stepped, stays, absent, goes_alike}
 
 -- Some processor spins.
 abbrev pub Endless : FlatState → Type 0
@@ -95,7 +95,7 @@ spins_before_once : (s : Setting) (code : List ℕ) (a : LocalState) → Spins s
 spins_before_once s code a h = by_running (is_running a.processor.status) refl
   where
     stood : (is_running a.processor.status ≡ true → IsReference (turn_of s code a.processor)) → Spins s code a.processor
-    stood stands = subst (λ (b : LocalState). Spins s code b.processor) (settled_once s code a stands) h
+    stood stands = subst (λ (b : LocalState). Spins s code b.processor) (standing_once s code a stands) h
 
     by_turn : is_running a.processor.status ≡ true → (x : Turn) → turn_of s code a.processor ≡ x → Spins s code a.processor
     by_turn runs (Retires after retired) e = spins_from s code a (runs, λ refers. subst IsReference e refers) h
@@ -110,7 +110,7 @@ spins_before : (n : ℕ) (s : Setting) (code : List ℕ) (a : LocalState) → Sp
 spins_before zero s code a h = h
 spins_before (suc n) s code a h = spins_before_once s code a (spins_before n s code (alone_once s code a) h)
 
--- If a flat machine settles to a state in which a processor spins, one of its processors spins.
+-- If a flat machine reaches a state in which a processor spins, one of its processors spins.
 pub spinner_endless : (at : ℕ → Setting) (code : List ℕ) (kept : LocalState → LocalState) (m : FlatState) (consoles : ℕ → List ℕ) (s : MacroState) →
     IsForgetful at code kept → ReachesMacroState at code kept m consoles s → HasSpinner at code s → Endless m
 spinner_endless at code kept m consoles s f h spinner = by found.0 found.1

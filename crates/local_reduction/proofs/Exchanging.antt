@@ -4,11 +4,11 @@ use Rattle.std.specs.Prelude.{slice_get, slice_set, slice_index}
 use Rattle.std.proofs.lemmas.Bool.{cases_eq}
 use Rattle.flat_machine.specs.declared.setting.Setting.{Setting}
 use Rattle.flat_machine.proofs.Lemmas.{set_other}
-use Rattle.local_reduction.specs.LocalStates.{LocalState, behind, alone, IsReference, IsSettled}
+use Rattle.local_reduction.specs.LocalStates.{LocalState, behind, alone, IsReference, IsAtReference}
 use Rattle.local_reduction.specs.Closing.{MacroState, gone, IsMove, IsShort, IsWay, MayMove, HasSpinner}
 use Rattle.local_reduction.specs.Exchanging.{IsBeside, AreAlike, Exchange, IsExchanged, IsExchangeOf, IsUniform}
 use Rattle.local_reduction.specs.Exchanging.{IsMoveOfAny, IsMoveUpTo, IsShortUpTo, IsWayUpTo}
-use Rattle.local_reduction.proofs.Settling.{set_there}
+use Rattle.local_reduction.proofs.OneTurn.{set_there}
 use Rattle.local_reduction.proofs.Numbers.{reference_same}
 
 -- ---- exchanges
@@ -145,9 +145,9 @@ module _ (classes : List ℕ) where
           after = mine.after;
           turn = mine.turn;
           count = mine.count;
-          settled = subst (λ ws. IsSettled (at k) code (alone mine.count (at k) code
+          at_reference = subst (λ ws. IsAtReference (at k) code (alone mine.count (at k) code
               (behind mine.local_state (mine.after (slice_index ws mine.word)))).processor)
-              (sym e.shared) mine.settled;
+              (sym e.shared) mine.at_reference;
           leaves = refl;
         },
         subst (λ z. IsExchanged x.place z after_move) (sym mine.leaves) (record {

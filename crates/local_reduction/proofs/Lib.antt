@@ -1,5 +1,5 @@
 pub mod Spinning
-pub mod Settling
+pub mod OneTurn
 pub mod Endless
 pub mod Covering
 pub mod Reaching

@@ -5,19 +5,19 @@ use Rattle.flat_machine.specs.declared.setting.Setting.{Setting}
 use Rattle.flat_machine.specs.declared.event.Retired.{Retired}
 use Rattle.flat_machine.specs.State.{Processor, is_running}
 use Rattle.flat_machine.specs.Turns.{Turn, Retires, Reaches, Stops, turn_of}
-use Rattle.local_reduction.specs.LocalStates.{LocalState, behind, alone, IsSettled}
+use Rattle.local_reduction.specs.LocalStates.{LocalState, behind, alone, IsAtReference}
 use Rattle.local_reduction.specs.Closing.{IsAlike, IsForgetful, MacroState, gone, IsMove}
-use Rattle.local_reduction.proofs.Settling.{alone_alike, settled_alike}
+use Rattle.local_reduction.proofs.OneTurn.{alone_alike, at_reference_alike}
 
--- If a state has what is kept of a processor that refers to a word and then settles alone, there is a move of that
+-- If a state has what is kept of a processor that refers to a word and then runs alone to its next reference, there is a move of that
 -- state.
 pub moved : (at : ℕ → Setting) (code : List ℕ) (kept : LocalState → LocalState) (s : MacroState) (k : ℕ) (a : LocalState) (word : ℕ) (change : ℕ → ℕ)
     (after : ℕ → Processor × Retired) (count : ℕ) → IsForgetful at code kept → slice_get s.local_states k ≡ Some (kept a) →
     is_running a.processor.status ≡ true → turn_of (at k) code a.processor ≡ Reaches word change after →
-    IsSettled (at k) code (alone count (at k) code (behind a (after (slice_index s.shared word)))).processor →
+    IsAtReference (at k) code (alone count (at k) code (behind a (after (slice_index s.shared word)))).processor →
     IsMove at code kept s k
     (gone s k (kept (alone count (at k) code (behind a (after (slice_index s.shared word))))) word (change (slice_index s.shared word)))
-moved at code kept s k a word change after count f there runs e settled =
+moved at code kept s k a word change after count f there runs e at_reference =
     by (turn_of (at k) code (kept a).processor) refl
     (subst (IsAlike kept (kept a) a (turn_of (at k) code (kept a).processor)) e (f.turn k a runs))
   where
@@ -40,7 +40,7 @@ moved at code kept s k a word change after count f there runs e settled =
           after = g;
           turn = is ∙ (λ i. Reaches (alike.0 i) (alike.1 i) g);
           count = count;
-          settled = settled_alike at code kept f k (alone count (at k) code (behind a (after (slice_index s.shared word))))
-              (alone count (at k) code (behind (kept a) (g (slice_index s.shared word)))) same settled;
+          at_reference = at_reference_alike at code kept f k (alone count (at k) code (behind a (after (slice_index s.shared word))))
+              (alone count (at k) code (behind (kept a) (g (slice_index s.shared word)))) same at_reference;
           leaves = ap (λ z. gone s k z word (change (slice_index s.shared word))) same;
         }

@@ -13,7 +13,7 @@ use Rattle.flat_machine.specs.State.{Processor, is_running}
 use Rattle.flat_machine.specs.Effects.{effect_of, call_of, register_of}
 use Rattle.flat_machine.specs.Memory.{region_of}
 use Rattle.flat_machine.specs.Turns.{performed, turn_by, turn_of, fetched}
-use Rattle.local_reduction.specs.LocalStates.{LocalState, alone_by, alone_once, alone, IsReference, GoesOn, Spins, IsSettled}
+use Rattle.local_reduction.specs.LocalStates.{LocalState, alone_by, alone_once, alone, IsReference, GoesOn, Spins, IsAtReference}
 use Rattle.local_reduction.specs.Closing.{local_state_of}
 use Rattle.local_reduction.specs.Exchanging.{Asks, AskNot, NeverAsks, IsBeside}
 use Rattle.local_reduction.proofs.Spinning.{alone_processor}
@@ -131,9 +131,9 @@ module _ (s t : Setting) (b : IsBeside s t) (code : List ℕ) where
       ∙ alone_processor n t code a (local_state_of a.processor []) refl))
       (goes_same s t b code (alone n s code (local_state_of a.processor [])).processor (h n))
 
-  -- A processor that is settled with one number, and never asks for it, is settled with the other.
-  pub settled_same : (a : LocalState) → NeverAsks s code a → IsSettled s code a.processor → IsSettled t code a.processor
-  settled_same a quiet h runs = by (h runs)
+  -- A processor that is at its reference with one number, and never asks for it, is at its reference with the other.
+  pub at_reference_same : (a : LocalState) → NeverAsks s code a → IsAtReference s code a.processor → IsAtReference t code a.processor
+  at_reference_same a quiet h runs = by (h runs)
     where
       by : IsReference (turn_of s code a.processor) ⊎ Spins s code a.processor → IsReference (turn_of t code a.processor) ⊎ Spins t code a.processor
       by (inl refers) = inl (subst IsReference (reference_same s t b code a.processor refers) refers)

@@ -8,10 +8,10 @@ use Rattle.flat_machine.specs.State.{FlatState, Processor, is_running}
 use Rattle.flat_machine.specs.Turns.{Turn, Retires, Reaches, Stops, turn_of}
 use Rattle.flat_machine.specs.Flat.{flat_step, flat_run, flat_events}
 use Rattle.local_reduction.specs.LocalStates.{consoles_after, turns, LocalState, IsReference}
-use Rattle.local_reduction.specs.Closing.{IsForgetful, MacroState, HasSpinner, IsMove, IsWay, local_state_of, ReachesMacroState, IsKeptOf, AreSettled}
+use Rattle.local_reduction.specs.Closing.{IsForgetful, MacroState, HasSpinner, IsMove, IsWay, local_state_of, ReachesMacroState, IsKeptOf, AreAtReference}
 use Rattle.local_reduction.specs.Termination.{turns_taken}
-use Rattle.local_reduction.proofs.Settling.{Stands, one_events, one_event, found_within, found_there, some_inj, consoles_more}
-use Rattle.local_reduction.proofs.Settling.{StandsIn, SettlesIn, counted, uncounted, none_counted, below, put, put_here, put_other, reference_alike}
+use Rattle.local_reduction.proofs.OneTurn.{Stands, one_events, one_event, found_within, found_there, some_inj, consoles_more}
+use Rattle.local_reduction.proofs.OneTurn.{StandsIn, ReachesIn, counted, uncounted, none_counted, below, put, put_here, put_other, reference_alike}
 use Rattle.local_reduction.proofs.Covering.{retiring_turn, stopping_turn, reaching_turn}
 
 -- ---- some turns later
@@ -57,14 +57,14 @@ then_after P Q least m consoles x go = chained P Q least x.0 m consoles x.1 go
 -- ---- what each processor does alone
 
 module _ (at : ℕ → Setting) (code : List ℕ) (kept : LocalState → LocalState) (f : IsForgetful at code kept) where
-  -- The machine settles to s, and the processors below j need no turns.
+  -- The machine reaches s, and the processors below j need no turns.
   abbrev Calm : ℕ → MacroState → FlatState → (ℕ → List ℕ) → Type 0
-  Calm j s m consoles = (counts : ℕ → ℕ) × SettlesIn at code kept m consoles counts s × ((i : ℕ) → i < j → counts i ≡ 0)
+  Calm j s m consoles = (counts : ℕ → ℕ) × ReachesIn at code kept m consoles counts s × ((i : ℕ) → i < j → counts i ≡ 0)
 
-  module _ (n k : ℕ) (s : MacroState) (m : FlatState) (consoles : ℕ → List ℕ) (counts : ℕ → ℕ) (h : SettlesIn at code kept m consoles counts s)
+  module _ (n k : ℕ) (s : MacroState) (m : FlatState) (consoles : ℕ → List ℕ) (counts : ℕ → ℕ) (h : ReachesIn at code kept m consoles counts s)
       (calm : (i : ℕ) → i < k → counts i ≡ 0) (left : counts k ≡ suc n) (p : Processor) (there : slice_get m.processors k ≡ Some p) where
     -- One turn alone, if n more are known to be enough.
-    calm_turn : ((m' : FlatState) (c : ℕ → List ℕ) (counts' : ℕ → ℕ) → SettlesIn at code kept m' c counts' s → ((i : ℕ) → i < k → counts' i ≡ 0) →
+    calm_turn : ((m' : FlatState) (c : ℕ → List ℕ) (counts' : ℕ → ℕ) → ReachesIn at code kept m' c counts' s → ((i : ℕ) → i < k → counts' i ≡ 0) →
         counts' k ≡ n → After m' c 0 (Calm (suc k) s)) → After m consoles 0 (Calm (suc k) s)
     calm_turn again = by_running (is_running p.status) refl
       where
@@ -84,7 +84,7 @@ module _ (at : ℕ → Setting) (code : List ℕ) (kept : LocalState → LocalSt
             by i (inr same) = ap (put counts k 0) same ∙ put_here counts k 0
 
         goes : ((x : ℕ) × (counts k ≡ suc x)
-            × SettlesIn at code kept (flat_step m (entry.Processor k)) (consoles_after consoles (one_events m k)) (put counts k x) s)
+            × ReachesIn at code kept (flat_step m (entry.Processor k)) (consoles_after consoles (one_events m k)) (put counts k x) s)
             ⊎ ((counts k ≡ 0) × HasSpinner at code s) → After m consoles 0 (Calm (suc k) s)
         goes (inl near) =
             after_turn m consoles 0 (Calm (suc k) s) k
@@ -102,7 +102,7 @@ module _ (at : ℕ → Setting) (code : List ℕ) (kept : LocalState → LocalSt
         by_running false stands = stood (λ runs. absurd (cc))
 
   one_calm : (n k : ℕ) (s : MacroState) → k < length s.local_states → (m : FlatState) (consoles : ℕ → List ℕ) (counts : ℕ → ℕ) →
-      SettlesIn at code kept m consoles counts s → ((i : ℕ) → i < k → counts i ≡ 0) → counts k ≡ n → After m consoles 0 (Calm (suc k) s)
+      ReachesIn at code kept m consoles counts s → ((i : ℕ) → i < k → counts i ≡ 0) → counts k ≡ n → After m consoles 0 (Calm (suc k) s)
   one_calm zero k s few m consoles counts h calm none = after_none m consoles (Calm (suc k) s) (counts, h, λ i less. by i (below k i less))
     where
       by : (i : ℕ) → (i < k) ⊎ (i ≡ k) → counts i ≡ 0
@@ -122,9 +122,9 @@ module _ (at : ℕ → Setting) (code : List ℕ) (kept : LocalState → LocalSt
       then_after (Calm j s) (Calm (suc j) s) 0 m consoles (all_calm j s m consoles (omega (arith, few)) h)
       (λ n c calm. one_calm (calm.0 j) j s (omega (arith, few)) n c calm.0 calm.1 calm.2 refl)
 
-  -- The machine settles to s without any turn: s is what is kept of it.
+  -- The machine reaches s without any turn: s is what is kept of it.
   abbrev Rests : MacroState → FlatState → (ℕ → List ℕ) → Type 0
-  Rests s m consoles = SettlesIn at code kept m consoles (λ k. 0) s
+  Rests s m consoles = ReachesIn at code kept m consoles (λ k. 0) s
 
   rested : (s : MacroState) (m : FlatState) (consoles : ℕ → List ℕ) → Calm (length s.local_states) s m consoles → Rests s m consoles
   rested s m consoles calm = record {
@@ -204,13 +204,13 @@ module _ (at : ℕ → Setting) (code : List ℕ) (kept : LocalState → LocalSt
       after_more n c (length way) (Rests t) k (suc (length way)) (omega (arith, one))
       (moved_all way u t (flat_step n (entry.Processor k)) (consoles_after c (one_events n k)) (moved_once s u k n c r w.0) w.1))
 
--- If moves lead from the state to which the flat machine settles to another, some order of turns leads the machine to
--- that one. At least as many turns as moves are taken, and each processor is settled after them.
+-- If moves lead from the state that the flat machine reaches to another, some order of turns leads the machine to
+-- that one. At least as many turns as moves are taken, and each processor is at its reference after them.
 pub moves_are : (at : ℕ → Setting) (code : List ℕ) (kept : LocalState → LocalState) (m : FlatState) (consoles : ℕ →
     List ℕ) (s : MacroState) (way : List (ℕ × MacroState)) (t : MacroState) →
     IsForgetful at code kept → ReachesMacroState at code kept m consoles s → IsWay at code kept s way t →
     (order : List ℕ) × IsKeptOf kept (flat_run m (turns order)) (consoles_after consoles (flat_events m (turns order))) t
-    × AreSettled at code (flat_run m (turns order))
+    × AreAtReference at code (flat_run m (turns order))
     × ReachesMacroState at code kept (flat_run m (turns order)) (consoles_after consoles (flat_events m (turns order))) t
     × (length way ≤ turns_taken m order)
 unfolding After

@@ -8,7 +8,7 @@ use Rattle.local_reduction.specs.Closing.{local_state_of}
 use Rattle.local_reduction.specs.Exchanging.{Asks, AskNot, NeverAsks}
 use Rattle.local_reduction.specs.Laws.{WhatComesBackSpins, WhatComesBackNeverAsks}
 use Rattle.local_reduction.proofs.Spinning.{alone_processor}
-use Rattle.local_reduction.proofs.Settling.{Stands, settled_once}
+use Rattle.local_reduction.proofs.OneTurn.{Stands, standing_once}
 use Rattle.local_reduction.proofs.Numbers.{reference_asks_not}
 
 module _ (s : Setting) (code : List ℕ) where
@@ -54,7 +54,7 @@ module _ (s : Setting) (code : List ℕ) where
   stands_quiet a stands (suc n) =
       let rest = stands_quiet a stands n in (
         λ runs. reference_asks_not s code a.processor (stands runs),
-        subst (AskNot n s code) (sym (settled_once s code a stands)) rest,
+        subst (AskNot n s code) (sym (standing_once s code a stands)) rest,
       )
 
   -- A processor that asks neither in this many turns nor ever after them never asks.

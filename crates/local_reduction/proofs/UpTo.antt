@@ -5,17 +5,17 @@ use Rattle.flat_machine.specs.declared.setting.Setting.{Setting}
 use Rattle.flat_machine.specs.State.{FlatState, is_running, setting_of}
 use Rattle.flat_machine.specs.Turns.{turn_of}
 use Rattle.flat_machine.specs.Flat.{flat_run, flat_events}
-use Rattle.local_reduction.specs.LocalStates.{LocalState, behind, alone, consoles_after, turns, IsReference, IsSettled}
+use Rattle.local_reduction.specs.LocalStates.{LocalState, behind, alone, consoles_after, turns, IsReference, IsAtReference}
 use Rattle.local_reduction.specs.Closing.{IsForgetful, MacroState, gone, HasSpinner, IsIn, IsMove, ReachesMacroState, IsKeptOf}
 use Rattle.local_reduction.specs.Exchanging.{IsBeside, IsExchangeOf, IsMoveUpTo, IsClosedUpTo}
 use Rattle.local_reduction.specs.Laws.{NumbersAreNotAskedFor, MovesAreOfAny, SetsClosedUpToContainAllFinalStates}
 use Rattle.local_reduction.specs.Laws.{SetsClosedUpToAreNotLeft, MovesUpToAreTurns, EachExchangeIsReached}
 use Rattle.local_reduction.specs.Laws.{ShortUpToSchedulesEnd}
-use Rattle.local_reduction.proofs.Covering.{Ran, covered_run, settled_kept, stopped_settled}
+use Rattle.local_reduction.proofs.Covering.{Ran, covered_run, standing_kept, stopped_stand}
 use Rattle.local_reduction.proofs.Moving.{moved}
 use Rattle.local_reduction.proofs.Reaching.{moves_are}
 use Rattle.local_reduction.proofs.Bounding.{bounded}
-use Rattle.local_reduction.proofs.Numbers.{alone_same, reference_same, settled_same, never_later}
+use Rattle.local_reduction.proofs.Numbers.{alone_same, reference_same, at_reference_same, never_later}
 use Rattle.local_reduction.proofs.Exchanging.{none, back, both, exchanged_back, uniform_stays, led, way_led, spinner_exchanged, short_exchanged}
 
 -- Turns alone that do not ask for the number are the same with each.
@@ -24,16 +24,16 @@ not_asked s t code count a b h = alone_same s t b code count a h
 
 -- A move after which the processor never asks for its number can be made by any processor of its class.
 pub of_any : MovesAreOfAny
-of_any at code kept classes s k i a word change after count f beside there runs turn settled asks j alike =
+of_any at code kept classes s k i a word change after count f beside there runs turn at_reference asks j alike =
     let same : alone count (at i) code (behind a (after (slice_index s.shared word))) ≡ alone count (at j) code (behind a (after (slice_index s.shared word))) =
     alone_same (at i) (at j) (beside i j) code count (behind a (after (slice_index s.shared word))) (asks count) in
     subst (λ z. IsMove (λ _. at j) code kept s k (gone s k (kept z) word (change (slice_index s.shared word)))) (sym same)
     (moved (λ _. at j) code kept s k a word change after count
     (record { running = f.running; turn = λ _ b running. f.turn j b running; stopped = f.stopped; once = f.once }) there runs
     (sym (reference_same (at i) (at j) (beside i j) code a.processor (subst IsReference (sym turn) tt)) ∙ turn)
-    (subst (λ z. IsSettled (at j) code z.processor) same
-    (settled_same (at i) (at j) (beside i j) code (alone count (at i) code (behind a (after (slice_index s.shared word))))
-    (never_later count (at i) code (behind a (after (slice_index s.shared word))) asks) settled)))
+    (subst (λ z. IsAtReference (at j) code z.processor) same
+    (at_reference_same (at i) (at j) (beside i j) code (alone count (at i) code (behind a (after (slice_index s.shared word))))
+    (never_later count (at i) code (behind a (after (slice_index s.shared word))) asks) at_reference)))
 
 -- The settings of a flat machine's processors differ by their numbers alone.
 pub beside_all : (at : ℕ → Setting) (m : FlatState) → ((k : ℕ) → setting_of m k ≡ at k) → (j k : ℕ) → IsBeside (at j) (at k)
@@ -64,7 +64,7 @@ module _ (at : ℕ → Setting) (code : List ℕ) (kept : LocalState → LocalSt
             let moved = l.1 h.2.0 u k refl h.2.1 in
             inr (moved.0, moved.1, (next.0, next.2, (both classes l.0 h.2.0, moved.2)))
 
-    -- If the flat machine settles to an exchange of a state of the set, it also does so after each order of turns, or a
+    -- If the flat machine reaches an exchange of a state of the set, it also does so after each order of turns, or a
     -- processor spins.
     not_left_up_to : (m : FlatState) (consoles : ℕ → List ℕ) (u : MacroState) (order : List ℕ) → In u → ReachesMacroState at code kept m consoles u →
         Ran at code kept f In all_closed order m consoles
@@ -99,8 +99,8 @@ closed_up_to_ends at code kept classes states m consoles s u order f closed insi
       c.0,
       c.1.1,
       c.1.2,
-      settled_kept at code kept (flat_run m (turns order)) (consoles_after consoles (flat_events m (turns order))) c.0 c.2
-          (stopped_settled at code (flat_run m (turns order)) stopped),
+      standing_kept at code kept (flat_run m (turns order)) (consoles_after consoles (flat_events m (turns order))) c.0 c.2
+          (stopped_stand at code (flat_run m (turns order)) stopped),
     )
     by (inr caught) = absurd (caught.3 stopped)
 

@@ -6,7 +6,7 @@ use Rattle.flat_machine.specs.declared.event.Retired.{Retired}
 use Rattle.flat_machine.specs.declared.event.Cause.{Cause}
 use Rattle.flat_machine.specs.State.{FlatState, Processor, is_running, setting_of}
 use Rattle.flat_machine.specs.Turns.{Turn, Retires, Reaches, Stops, turn_of}
-use Rattle.local_reduction.specs.LocalStates.{LocalState, behind, stopped_by, alone, IsReference, GoesOn, IsSettled}
+use Rattle.local_reduction.specs.LocalStates.{LocalState, behind, stopped_by, alone, IsReference, GoesOn, IsAtReference}
 
 -- ---- what is forgotten
 
@@ -59,14 +59,15 @@ pub record IsMove (at : ℕ → Setting) (code : List ℕ) (kept : LocalState �
   pub turn : turn_of (at k) code local_state.processor ≡ Reaches word change after
   -- it takes this many turns alone
   pub count : ℕ
-  pub settled :
-      IsSettled (at k) code (alone count (at k) code (behind local_state (after (slice_index s.shared word)))).processor
+  pub at_reference :
+      IsAtReference (at k) code
+      (alone count (at k) code (behind local_state (after (slice_index s.shared word)))).processor
   pub leaves :
       t ≡ gone s k (kept (alone count (at k) code (behind local_state (after (slice_index s.shared word)))))
       word (change (slice_index s.shared word))
 
--- A processor runs, and its next turn is no reference. If each processor is settled, this one spins, and so no order of
--- turns stops all of them.
+-- A processor runs, and its next turn is no reference. If each processor is at its reference, this one spins, and so no
+-- order of turns stops all of them.
 pub record HasSpinner (at : ℕ → Setting) (code : List ℕ) (s : MacroState) : Type 0 where
   pub processor : ℕ
   pub local_state : LocalState
@@ -124,7 +125,7 @@ pub record ReachesMacroState (at : ℕ → Setting) (code : List ℕ) (kept : Lo
   pub all : length s.local_states ≡ length m.processors
   pub each : (k : ℕ) (p : Processor) → slice_get m.processors k ≡ Some p →
       (n : ℕ) × (slice_get s.local_states k ≡ Some (kept (alone n (at k) code (local_state_of p (consoles k)))))
-      × IsSettled (at k) code (alone n (at k) code (local_state_of p (consoles k))).processor
+      × IsAtReference (at k) code (alone n (at k) code (local_state_of p (consoles k))).processor
 
 -- The state is what is kept of the flat machine, whose processors have printed these bytes.
 pub record IsKeptOf (kept : LocalState → LocalState) (m : FlatState) (consoles : ℕ →
@@ -135,8 +136,8 @@ pub record IsKeptOf (kept : LocalState → LocalState) (m : FlatState) (consoles
       slice_get s.local_states k ≡ Some (kept (local_state_of p (consoles k)))
 
 -- Each processor has stopped, or its next turn is a reference, or it spins.
-abbrev pub AreSettled : (at : ℕ → Setting) → (code : List ℕ) → FlatState → Type 0
-AreSettled at code m = (k : ℕ) (p : Processor) → slice_get m.processors k ≡ Some p → IsSettled (at k) code p
+abbrev pub AreAtReference : (at : ℕ → Setting) → (code : List ℕ) → FlatState → Type 0
+AreAtReference at code m = (k : ℕ) (p : Processor) → slice_get m.processors k ≡ Some p → IsAtReference (at k) code p
 
 -- Each processor has stopped.
 abbrev pub HasStopped : FlatState → Type 0

@@ -5,17 +5,18 @@ use Rattle.flat_machine.specs.declared.event.Retired.{Retired}
 use Rattle.flat_machine.specs.State.{FlatState, Processor, is_running}
 use Rattle.flat_machine.specs.Turns.{Reaches, turn_of}
 use Rattle.flat_machine.specs.Flat.{flat_run, flat_events}
-use Rattle.local_reduction.specs.LocalStates.{LocalState, behind, alone, GoesOnFor, Spins, IsSettled, consoles_after}
+use Rattle.local_reduction.specs.LocalStates.{LocalState, behind, alone, GoesOnFor, Spins, IsAtReference}
+use Rattle.local_reduction.specs.LocalStates.{consoles_after}
 use Rattle.local_reduction.specs.LocalStates.{turns}
 use Rattle.local_reduction.specs.Closing.{IsForgetful, if_running, MacroState, gone, IsIn, IsMove, IsClosed}
 use Rattle.local_reduction.specs.Closing.{HaveNoSpinner}
-use Rattle.local_reduction.specs.Closing.{IsShort, IsWay, ReachesMacroState, IsKeptOf, AreSettled, HasStopped}
+use Rattle.local_reduction.specs.Closing.{IsShort, IsWay, ReachesMacroState, IsKeptOf, AreAtReference, HasStopped}
 use Rattle.local_reduction.specs.Termination.{turns_taken, EveryScheduleEnds}
 use Rattle.local_reduction.specs.Exchanging.{AskNot, NeverAsks, IsBeside, Exchange, IsExchanged, IsExchangeOf}
 use Rattle.local_reduction.specs.Exchanging.{IsUniform}
 use Rattle.local_reduction.specs.Exchanging.{IsMoveOfAny, IsClosedUpTo, IsShortUpTo, IsWayUpTo}
 
--- Let a closed set have the state to which the flat machine settles. For each order of turns after which all processors
+-- Let a closed set have the state that the flat machine reaches. For each order of turns after which all processors
 -- have stopped, it also has what is kept of the flat machine then.
 abbrev pub ClosedSetsContainAllFinalStates : Type 0
 ClosedSetsContainAllFinalStates =
@@ -27,7 +28,7 @@ ClosedSetsContainAllFinalStates =
     (t : MacroState) × IsIn states t
     × IsKeptOf kept (flat_run m (turns order)) (consoles_after consoles (flat_events m (turns order))) t
 
--- If no processor spins, no order of turns leaves a closed set: the state to which the flat machine settles is always
+-- If no processor spins, no order of turns leaves a closed set: the state that the flat machine reaches is always
 -- in it.
 abbrev pub ClosedSetsAreNotLeft : Type 0
 ClosedSetsAreNotLeft =
@@ -48,7 +49,7 @@ MovesAreTurns =
     IsForgetful at code kept → ReachesMacroState at code kept m consoles s → IsWay at code kept s way t →
     (order : List ℕ)
     × IsKeptOf kept (flat_run m (turns order)) (consoles_after consoles (flat_events m (turns order))) t
-    × AreSettled at code (flat_run m (turns order))
+    × AreAtReference at code (flat_run m (turns order))
     × ReachesMacroState at code kept (flat_run m (turns order))
     (consoles_after consoles (flat_events m (turns order))) t
     × (length way ≤ turns_taken m order)
@@ -60,7 +61,7 @@ MovesOfWhatIsKept =
     (word : ℕ) (change : ℕ → ℕ) (after : ℕ → Processor × Retired) (count : ℕ) →
     IsForgetful at code kept → slice_get s.local_states k ≡ Some (kept a) → is_running a.processor.status ≡ true →
     turn_of (at k) code a.processor ≡ Reaches word change after →
-    IsSettled (at k) code (alone count (at k) code (behind a (after (slice_index s.shared word)))).processor →
+    IsAtReference (at k) code (alone count (at k) code (behind a (after (slice_index s.shared word)))).processor →
     IsMove at code kept s k
     (gone s k (kept (alone count (at k) code (behind a (after (slice_index s.shared word)))))
     word (change (slice_index s.shared word)))
@@ -106,13 +107,13 @@ MovesAreOfAny =
     IsForgetful at code kept → ((i j : ℕ) → IsBeside (at i) (at j)) →
     slice_get s.local_states k ≡ Some (kept a) → is_running a.processor.status ≡ true →
     turn_of (at i) code a.processor ≡ Reaches word change after →
-    IsSettled (at i) code (alone count (at i) code (behind a (after (slice_index s.shared word)))).processor →
+    IsAtReference (at i) code (alone count (at i) code (behind a (after (slice_index s.shared word)))).processor →
     NeverAsks (at i) code (behind a (after (slice_index s.shared word))) →
     IsMoveOfAny at code kept classes s k
     (gone s k (kept (alone count (at i) code (behind a (after (slice_index s.shared word)))))
     word (change (slice_index s.shared word)))
 
--- Let a set be closed up to exchanges, and have a state to an exchange of which the flat machine settles. For each
+-- Let a set be closed up to exchanges, and have a state an exchange of which the flat machine reaches. For each
 -- order of turns after which all processors have stopped, it has a state of which an exchange is what is kept of the
 -- flat machine then.
 abbrev pub SetsClosedUpToContainAllFinalStates : Type 0
@@ -124,7 +125,7 @@ SetsClosedUpToContainAllFinalStates =
     (t v : MacroState) × IsIn states t × IsExchangeOf classes t v
     × IsKeptOf kept (flat_run m (turns order)) (consoles_after consoles (flat_events m (turns order))) v
 
--- If no processor spins, no order of turns leaves such a set: the state to which the flat machine settles is always an
+-- If no processor spins, no order of turns leaves such a set: the state that the flat machine reaches is always an
 -- exchange of a state of the set.
 abbrev pub SetsClosedUpToAreNotLeft : Type 0
 SetsClosedUpToAreNotLeft =
@@ -146,7 +147,7 @@ MovesUpToAreTurns =
     IsWayUpTo at code kept classes s way t →
     (order : List ℕ) × (v : MacroState) × IsExchangeOf classes t v
     × IsKeptOf kept (flat_run m (turns order)) (consoles_after consoles (flat_events m (turns order))) v
-    × AreSettled at code (flat_run m (turns order))
+    × AreAtReference at code (flat_run m (turns order))
     × ReachesMacroState at code kept (flat_run m (turns order))
     (consoles_after consoles (flat_events m (turns order))) v
     × (length way ≤ turns_taken m order)
@@ -161,7 +162,7 @@ EachExchangeIsReached =
     IsWayUpTo at code kept classes s way t →
     (order : List ℕ) × (v : MacroState) × IsExchanged x.place t v
     × IsKeptOf kept (flat_run m (turns order)) (consoles_after consoles (flat_events m (turns order))) v
-    × AreSettled at code (flat_run m (turns order))
+    × AreAtReference at code (flat_run m (turns order))
 
 -- If at most this many moves follow one another up to exchanges, every schedule ends.
 abbrev pub ShortUpToSchedulesEnd : Type 0

@@ -76,5 +76,5 @@ abbrev pub Spins : Setting → (code : List ℕ) → Processor → Type 0
 Spins s code p = (n : ℕ) → GoesOn s code (alone n s code (record { processor = p; console = [] })).processor
 
 -- The processor has stopped, or its next turn is a reference, or it spins.
-abbrev pub IsSettled : Setting → (code : List ℕ) → Processor → Type 0
-IsSettled s code p = is_running p.status ≡ true → IsReference (turn_of s code p) ⊎ Spins s code p
+abbrev pub IsAtReference : Setting → (code : List ℕ) → Processor → Type 0
+IsAtReference s code p = is_running p.status ≡ true → IsReference (turn_of s code p) ⊎ Spins s code p

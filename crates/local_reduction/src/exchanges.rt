@@ -14,14 +14,14 @@ pub fn moves_are_of_any()
     ensures any { MovesAreOfAny }
 {}
 
-/// A set of states that is closed up to exchanges, and has the state to which a flat machine settles, has each end of
+/// A set of states that is closed up to exchanges, and has the state that a flat machine reaches, has each end of
 /// that machine up to an exchange. It is closed up to exchanges if it has with each state those after a reference of
 /// each of its processors, up to exchanges of processors of one class, or a processor of that state spins.
 pub fn sets_closed_up_to_contain_all_final_states()
     ensures ends { SetsClosedUpToContainAllFinalStates }
 {}
 
-/// After any turns, the machine settles to an exchange of a state of such a set, if no processor spins.
+/// After any turns, the machine reaches an exchange of a state of such a set, if no processor spins.
 pub fn sets_closed_up_to_are_not_left()
     ensures stays { SetsClosedUpToAreNotLeft }
 {}

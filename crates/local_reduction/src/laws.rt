@@ -11,14 +11,14 @@ pub use crate::exchanges::{
 };
 pub use crate::live_laws::{dead_registers_are_not_kept, dead_registers_can_be_forgotten};
 
-/// A closed set of states that has the state to which a flat machine settles has each end of that machine: what is kept
+/// A closed set of states that has the state that a flat machine reaches has each end of that machine: what is kept
 /// of each state in which all processors have stopped, and of what they have printed. A set is closed if it has with
 /// each state those after a reference of each of its processors, or a processor of that state spins.
 pub fn closed_sets_contain_all_final_states()
     ensures ends { ClosedSetsContainAllFinalStates }
 {}
 
-/// After any turns, the machine settles to a state of a closed set, if no processor spins.
+/// After any turns, the machine reaches a state of a closed set, if no processor spins.
 pub fn closed_sets_are_not_left()
     ensures stays { ClosedSetsAreNotLeft }
 {}

@@ -71,8 +71,8 @@ exchanged_is place r q p a b =
 -- If sets that are closed up to exchanges have all final states, then for each result of the flat machine there is a
 -- found state whose result stands for it.
 pub complete : SetsClosedUpToContainAllFinalStates → EachResultIsStoodFor
-complete law at code kept classes state count moves m q f keeps h settles is =
-    let z = all_ends at code kept classes state count moves h m (λ k. []) settles f law is.0 is.1 in
+complete law at code kept classes state count moves m q f keeps h reaches is =
+    let z = all_ends at code kept classes state count moves h m (λ k. []) reaches f law is.0 is.1 in
     let turned_back = exchanged_back classes z.3.0 (state z.0) z.1 z.3.1 in
     let still = none_runs at code kept (flat_run m (turns is.0)) (consoles_after (λ k. []) (flat_events m (turns is.0)))
     z.1 f z.4 is.1 in (
@@ -90,9 +90,9 @@ complete law at code kept classes state count moves m q f keeps h settles is =
 -- If each exchange of a found state is reached, all results for which the result of a found state stands are results of
 -- the flat machine.
 pub sound : EachExchangeIsReached → AllStoodForAreResults
-sound law at code kept classes state count m i q f keeps reached uniform settles l stopped x =
+sound law at code kept classes state count m i q f keeps reached uniform reaches l stopped x =
     let way = reached i l in
-    let z = law at code kept classes m (λ k. []) (state 0) way.0 (state i) x.0 f uniform settles way.1 in (
+    let z = law at code kept classes m (λ k. []) (state 0) way.0 (state i) x.0 f uniform reaches way.1 in (
       z.0,
       λ k p found.
           sym (f.running (local_state_of p (consoles_after (λ j. []) (flat_events m (turns z.0)) k)))

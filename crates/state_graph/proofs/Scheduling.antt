@@ -1,4 +1,4 @@
--- What ranks of states that are found up to exchanges say of the schedules of a flat machine that settles to the first
+-- What ranks of states that are found up to exchanges say of the schedules of a flat machine that reaches the first
 -- state.
 use Rattle.std.proofs.Common.{◌≡◌, ◌⊎◌, inl, inr, ℕ, ◌<◌, ◌≤◌, zero, suc, Bool, true, false, cond, true≢false, nat_lt}
 use Rattle.std.proofs.Common.{List, [], ◌∷◌, ◌++◌, Some, length, refl, sym, ap, subst, ◌∙◌, arith, length-append}
@@ -11,7 +11,7 @@ use Rattle.local_reduction.specs.flat_machine.Turns.{Turn, Retires, Reaches, Sto
 use Rattle.local_reduction.specs.flat_machine.Flat.{flat_run, flat_events}
 use Rattle.local_reduction.specs.LocalStates.{LocalState, IsReference, Spins, consoles_after, turns}
 use Rattle.local_reduction.specs.Closing.{IsAlike, local_state_of, MacroState, IsIn, MayMove, HasSpinner, IsForgetful}
-use Rattle.local_reduction.specs.Closing.{ReachesMacroState, IsKeptOf, AreSettled, HasStopped}
+use Rattle.local_reduction.specs.Closing.{ReachesMacroState, IsKeptOf, AreAtReference, HasStopped}
 use Rattle.local_reduction.specs.Exchanging.{IsBeside, IsExchangeOf, IsMoveUpTo, IsClosedUpTo, IsShortUpTo, IsWayUpTo}
 use Rattle.local_reduction.specs.Laws.{SetsClosedUpToAreNotLeft, SetsClosedUpToContainAllFinalStates, MovesUpToAreTurns, ShortUpToSchedulesEnd}
 use Rattle.local_reduction.specs.Termination.{CanAlwaysEnd, CanBeStuck, EveryScheduleEnds, SomeScheduleNeverEnds}
@@ -47,11 +47,11 @@ way_on at code kept classes ((j, v) ∷ way) s u t k w m = (w.0, way_on at code 
 
 -- ---- states whose processors have all stopped
 
--- If each processor is settled, none may move and none spins, then all have stopped.
+-- If each processor is at its reference, none may move and none spins, then all have stopped.
 stopped : (at : ℕ → Setting) (code : List ℕ) (forget : LocalState → LocalState) (n : FlatState) (consoles : ℕ → List ℕ)
-    (u : MacroState) → IsForgetful at code forget → IsKeptOf forget n consoles u → AreSettled at code n →
+    (u : MacroState) → IsForgetful at code forget → IsKeptOf forget n consoles u → AreAtReference at code n →
     ((k : ℕ) → MayMove at code u k → ⊥) → (HasSpinner at code u → ⊥) → HasStopped n
-stopped at code forget n consoles u forgets kept settled none no_spinner k p found = by (is_running p.status) refl
+stopped at code forget n consoles u forgets kept at_reference none no_spinner k p found = by (is_running p.status) refl
   where
     goes : is_running p.status ≡ true → IsReference (turn_of (at k) code p) ⊎ Spins (at k) code p → ⊥
     goes runs (inl refers) =
@@ -73,7 +73,7 @@ stopped at code forget n consoles u forgets kept settled none no_spinner k p fou
 
     by : (b : Bool) → is_running p.status ≡ b → is_running p.status ≡ false
     by false stops = stops
-    by true runs = absurd (goes runs (settled k p found runs))
+    by true runs = absurd (goes runs (at_reference k p found runs))
 
 -- If all processors have stopped, none runs in what is kept.
 pub none_runs : (at : ℕ → Setting) (code : List ℕ) (forget : LocalState → LocalState) (n : FlatState) (consoles : ℕ → List ℕ)
@@ -119,7 +119,7 @@ some_up ranks (t ∷ ts) = by (cases_lt (rank_at ranks t) no_rank) (some_up rank
 
 module _ (at : ℕ → Setting) (code : List ℕ) (kept : LocalState → LocalState) (classes : List ℕ) (state : ℕ → MacroState)
     (count : ℕ) (moves : List (List ℕ)) (h : AreSuccessors at code kept classes state count moves) (m : FlatState)
-    (consoles : ℕ → List ℕ) (settles : ReachesMacroState at code kept m consoles (state 0))
+    (consoles : ℕ → List ℕ) (reaches : ReachesMacroState at code kept m consoles (state 0))
     (forget : IsForgetful at code kept) where
   listed : (i : ℕ) → i < count → i < length moves
   listed i l = subst (λ n. i < n) (sym h.all) l
@@ -158,7 +158,7 @@ module _ (at : ℕ → Setting) (code : List ℕ) (kept : LocalState → LocalSt
 
     all_end : ShortUpToSchedulesEnd → EveryScheduleEnds m
     all_end law =
-        law at code kept classes m consoles (state 0) (rank_at ranks 0) forget settles
+        law at code kept classes m consoles (state 0) (rank_at ranks 0) forget reaches
         (short (rank_at ranks 0) 0 h.filled (omega arith))
 
   -- ---- some schedule never ends
@@ -199,7 +199,7 @@ module _ (at : ℕ → Setting) (code : List ℕ) (kept : LocalState → LocalSt
     never_ends law least =
         let x = long least in
         let y = law at code kept classes m consoles (state 0) (state 0) x.0 (state x.1) forget
-        (as_it_is classes (state 0)) settles x.4 in
+        (as_it_is classes (state 0)) reaches x.4 in
         let many = x.5 in
         let as_many = y.6 in
         (y.0, omega (arith, many, as_many))
@@ -318,7 +318,7 @@ module _ (at : ℕ → Setting) (code : List ℕ) (kept : LocalState → LocalSt
             ((move.0, state x.0) ∷ rest.0, rest.1, (move.1, rest.2), rest.3, rest.4)
 
     beside : (j k : ℕ) → IsBeside (at j) (at k)
-    beside = beside_all at m settles.settings
+    beside = beside_all at m reaches.settings
 
     all_reach : SetsClosedUpToAreNotLeft → MovesUpToAreTurns → CanAlwaysEnd m
     all_reach stays law order =
@@ -328,7 +328,7 @@ module _ (at : ℕ → Setting) (code : List ℕ) (kept : LocalState → LocalSt
         (λ s inside spins.
         let picked_row = picked_is (λ i. false) count s inside in
         none_runs_on picked_row.0 picked_row.1 (subst (HasSpinner at code) (sym picked_row.3) spins))
-        begins (as_it_is classes (state 0)) settles in
+        begins (as_it_is classes (state 0)) reaches in
         let row = picked_is (λ i. false) count x.0 x.2 in
         let on = leads (rank_at ranks row.0) row.0 row.1 (omega arith) in
         let y = law at code kept classes (flat_run m (turns order))
@@ -376,18 +376,18 @@ module _ (at : ℕ → Setting) (code : List ℕ) (kept : LocalState → LocalSt
     stuck ends law =
         let way = reached from (found from there) in
         let y = law at code kept classes m consoles (state 0) (state 0) way.0 (state from) forget
-        (as_it_is classes (state 0)) settles way.1 in
+        (as_it_is classes (state 0)) reaches way.1 in
         (y.0, λ order stops. cannot y.0 y.1 y.2 y.5 order stops)
       where
         cannot : (before : List ℕ) (u : MacroState) → IsExchangeOf classes (state from) u →
             ReachesMacroState at code kept (flat_run m (turns before))
             (consoles_after consoles (flat_events m (turns before))) u →
             (order : List ℕ) → HasStopped (flat_run (flat_run m (turns before)) (turns order)) → ⊥
-        cannot before u ex settled order stops =
+        cannot before u ex reaches order stops =
             let begins = picked_has has_rank count from (found from there) (le-ltb (rank_at ranks from) no_rank none) in
             let z = ends at code kept classes (picked has_rank count) (flat_run m (turns before))
             (consoles_after consoles (flat_events m (turns before))) (state from) u order forget (closed has_rank stay)
-            begins ex settled stops in
+            begins ex reaches stops in
             let row = picked_is has_rank count z.0 z.2 in
             let still = none_runs at code kept (flat_run (flat_run m (turns before)) (turns order))
             (consoles_after (consoles_after consoles (flat_events m (turns before)))
@@ -420,6 +420,6 @@ module _ (at : ℕ → Setting) (code : List ℕ) (kept : LocalState → LocalSt
   all_ends ends order stops =
       let z = ends at code kept classes (picked (λ i. false) count) m consoles (state 0) (state 0) order forget
       (closed (λ i. false) (λ i t l out x. refl)) (picked_has (λ i. false) count 0 h.filled refl)
-      (as_it_is classes (state 0)) settles stops in
+      (as_it_is classes (state 0)) reaches stops in
       let row = picked_is (λ i. false) count z.0 z.2 in
       (row.0, z.1, row.1, subst (λ s. IsExchangeOf classes s z.1) (sym row.3) z.3, z.4)

@@ -23,7 +23,7 @@ IsTerminationOf m (termination_claim.Deadlock states first) = CanBeStuck m
 abbrev pub KeepsResults : (kept : LocalState → LocalState) → Type 0
 KeepsResults kept = (a : LocalState) → local_state_result (kept a) ≡ local_state_result a
 
--- What the successors of the states say about schedules is true of each flat machine that settles to the first state.
+-- What the successors of the states say about schedules is true of each flat machine that reaches the first state.
 abbrev pub SuccessorsDecideTermination : Type 0
 SuccessorsDecideTermination =
     (at : ℕ → Setting) (code : List ℕ) (kept : LocalState → LocalState) (classes : List ℕ) (state : ℕ → MacroState)

@@ -14,7 +14,7 @@ use Rattle.hart.specs.declared.decision.Shape.{Shape}
 use Rattle.hart.specs.declared.decision.Decision.{Decision}
 use Rattle.hart.specs.declared.decision.Decision.TheVariants.{Local, Refer, Halt, Fault}
 use Rattle.hart.specs.Deciding.{Decides, after_reply}
-use Rattle.local_reduction.specs.LocalStates.{LocalState, behind, alone, IsSettled, IsReference}
+use Rattle.local_reduction.specs.LocalStates.{LocalState, behind, alone, IsAtReference, IsReference}
 use Rattle.local_reduction.specs.Closing.{IsAlike, IsForgetful, MacroState, gone, IsMove}
 use Rattle.local_reduction.specs.Exchanging.{NeverAsks, IsMoveOfAny}
 use Rattle.local_reduction.specs.Laws.{MovesAreOfAny, MovesOfWhatIsKept}
@@ -182,8 +182,8 @@ module _ (e : Extent) (code : List ℕ) (classes : List ℕ) (t u v : TableLists
     abbrev turned : Setting × ℕ → LocalState
     turned z = alone h.behind.count z.0 code (behind here.local_state (h.refers.after z.1))
 
-    settled : IsSettled (own_setting e p) code (turned (own_setting e p, slice_index s.shared word)).processor
-    settled = subst (λ (z : Setting × ℕ). IsSettled z.0 code (turned z).processor) both (h.behind.settled (h.refers.after before) replied)
+    at_reference : IsAtReference (own_setting e p) code (turned (own_setting e p, slice_index s.shared word)).processor
+    at_reference = subst (λ (z : Setting × ℕ). IsAtReference z.0 code (turned z).processor) both (h.behind.at_reference (h.refers.after before) replied)
 
     gone_there : kept_by v.live (placed_at u number).local_state ≡ kept_by v.live (turned (here.setting, before))
     gone_there =
@@ -230,13 +230,14 @@ module _ (e : Extent) (code : List ℕ) (classes : List ℕ) (t u v : TableLists
         IsMoveOfAny (setting_at e) code (kept_by v.live) classes s p gone_to
     of_any any moves forgotten right true on =
         any (setting_at e) code (kept_by v.live) classes s p (cond e.exchanged 0 p) here.local_state word h.refers.change h.refers.after h.behind.count
-        (forgotten (setting_at e) code v.live right) (λ i j. record { processors = refl; shared_words = refl }) stands_there h.runs turn_is settled (quiet on)
+        (forgotten (setting_at e) code v.live right) (λ i j. record { processors = refl; shared_words = refl }) stands_there
+        h.runs turn_is at_reference (quiet on)
     of_any any moves forgotten right false off = λ j alike.
         let is : own_setting e p ≡ setting_at e j =
         ap (λ b. setting_at e (cond b 0 p)) off ∙ ap (setting_at e) (sym (h.classes_are.own off j p h.few alike)) in
         subst (λ z. IsMove (λ i. z) code (kept_by v.live) s p gone_to) is
         (moves (λ i. own_setting e p) code (kept_by v.live) s p here.local_state word h.refers.change h.refers.after h.behind.count
-        (forgotten (λ i. own_setting e p) code v.live right) stands_there h.runs turn_is settled)
+        (forgotten (λ i. own_setting e p) code v.live right) stands_there h.runs turn_is at_reference)
 
     -- If a lookup of a move has done all this, the processor's move leads to the state that the next row means.
     pub looked : MovesAreOfAny → MovesOfWhatIsKept → DeadAreForgotten → HasAllLive code t.live → IsNext e code classes v (means e t row) p (Some next)

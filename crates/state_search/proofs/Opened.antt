@@ -7,7 +7,7 @@ use Rattle.std.proofs.lemmas.List.FromFn.{length-map-range_with_len}
 use Rattle.flat_machine.specs.declared.setting.Setting.{Setting}
 use Rattle.flat_machine.specs.State.{Processor}
 use Rattle.hart.specs.State.{CoreState}
-use Rattle.local_reduction.specs.LocalStates.{alone, IsSettled}
+use Rattle.local_reduction.specs.LocalStates.{alone, IsAtReference}
 use Rattle.local_reduction.specs.Closing.{local_state_of, ReachesMacroState}
 use Rattle.local_reduction.specs.Forgetting.{kept_by}
 use Rattle.state_search.specs.declared.state_tables.Extent.{Extent}
@@ -49,7 +49,7 @@ opened_kept exchanged code c t u number kept h =
       gone = subst (λ live. kept_by live (placed_at u number).local_state ≡ kept_by live (alone h.count c.setting code (placed_of c).local_state))
           (sym kept.live)
           (ap (λ (a : Placed). kept_by t.live a.local_state) same ∙ h.gone);
-      settled = h.settled;
+      at_reference = h.at_reference;
     }
 
 -- If grown tables have the next core under a number, writing that number to the row opens one more core.
@@ -117,10 +117,10 @@ module _ (e : Extent) (code : List ℕ) (cores : List CoreState) (words : List �
   }
 
   -- The flat machine of the cores and words reaches the state that this row means.
-  pub first_settles : ReachesMacroState (setting_at e) code (kept_by u.live) (flat_of code cores words) (λ k. [])
+  pub first_reaches : ReachesMacroState (setting_at e) code (kept_by u.live) (flat_of code cores words) (λ k. [])
       (means e u (slice_set row e.processors number))
   unfolding first
-  first_settles = record {
+  first_reaches = record {
     settings = λ k. (λ i. record {
       number = k;
       processors = (length-map cores (λ (c : CoreState). c.state) ∙ of_extent.all) i;
@@ -135,7 +135,7 @@ module _ (e : Extent) (code : List ℕ) (cores : List CoreState) (words : List �
     where
       by : (k : ℕ) (p : Processor) → (c : CoreState) × (slice_get cores k ≡ Some c) × (c.state ≡ p) →
           (n : ℕ) × (slice_get (means e u first).local_states k ≡ Some (kept_by u.live (alone n (setting_at e k) code (local_state_of p []))))
-          × IsSettled (setting_at e k) code (alone n (setting_at e k) code (local_state_of p [])).processor
+          × IsAtReference (setting_at e k) code (alone n (setting_at e k) code (local_state_of p [])).processor
       by k p x =
           let few : k < e.processors = subst (λ n. k < n) of_extent.all (found_at cores k x.0 x.0 x.1).0 in
           let o = opened_at k x.0 few x.1 in
@@ -143,5 +143,5 @@ module _ (e : Extent) (code : List ℕ) (cores : List CoreState) (words : List �
             o.count,
             listed_there (λ q. kept_by u.live (placed_at u (slice_index first q)).local_state) e.processors k few
                 ∙ ap Some (o.gone ∙ ap (λ (z : Setting × Processor). kept_by u.live (alone o.count z.0 code (local_state_of z.1 []))) both),
-            subst (λ (z : Setting × Processor). IsSettled z.0 code (alone o.count z.0 code (local_state_of z.1 [])).processor) both o.settled,
+            subst (λ (z : Setting × Processor). IsAtReference z.0 code (alone o.count z.0 code (local_state_of z.1 [])).processor) both o.at_reference,
           )

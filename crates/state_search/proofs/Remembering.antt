@@ -12,7 +12,7 @@ use Rattle.flat_machine.specs.declared.setting.Setting.{Setting}
 use Rattle.flat_machine.specs.Turns.{turn_of}
 use Rattle.hart.specs.Deciding.{after_reply}
 use Rattle.local_reduction.specs.Exchanging.{AskNot}
-use Rattle.local_reduction.specs.LocalStates.{LocalState, behind, alone, IsSettled}
+use Rattle.local_reduction.specs.LocalStates.{LocalState, behind, alone, IsAtReference}
 use Rattle.local_reduction.specs.Forgetting.{kept_by}
 use Rattle.state_search.specs.Placed.{Placed, IsSame, HasRetired, HasGone, IsStill, IsQuiet}
 use Rattle.state_search.specs.StateTables.{TableLists, placed_at, words_at, HasGrown, IsBehind}
@@ -31,7 +31,7 @@ behind_kept quietly code before old t u number kept h =
           subst (λ live. kept_by live (placed_at u number).local_state ≡ kept_by live (alone h.count old.setting code (behind old.local_state done)))
           (sym kept.live)
           (ap (λ (a : Placed). kept_by t.live a.local_state) same ∙ h.gone done is);
-      settled = h.settled;
+      at_reference = h.at_reference;
       quiet = h.quiet;
       later = h.later;
     }
@@ -162,8 +162,8 @@ behind_is quietly code before old mid new t number r g still quiet there same = 
   setting = same.setting ∙ settings;
   count = g.count;
   gone = λ (done : Processor × Retired) is. same.kept ∙ ap (kept_by t.live) (gone done is);
-  settled = λ (done : Processor × Retired) is.
-      subst (λ (z : Setting × LocalState). IsSettled z.0 code z.1.processor) (λ i. (settings i, gone done is i)) still;
+  at_reference = λ (done : Processor × Retired) is.
+      subst (λ (z : Setting × LocalState). IsAtReference z.0 code z.1.processor) (λ i. (settings i, gone done is i)) still;
   quiet = λ on (done : Processor × Retired) is.
       subst (λ (z : Setting × LocalState). AskNot g.count z.0 code z.1) (λ i. (r.setting i, r.retired done is i)) (g.quiet on);
   later = λ on (done : Processor × Retired) is.

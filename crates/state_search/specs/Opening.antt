@@ -2,7 +2,7 @@
 use Rattle.std.specs.Prelude.{◌≡◌, ℕ, Bool, if◌then◌else◌, ◌<◌, List, length, map, slice_get, Some}
 use Rattle.flat_machine.specs.State.{FlatState}
 use Rattle.hart.specs.State.{CoreState}
-use Rattle.local_reduction.specs.LocalStates.{alone, IsSettled}
+use Rattle.local_reduction.specs.LocalStates.{alone, IsAtReference}
 use Rattle.local_reduction.specs.Forgetting.{kept_by}
 use Rattle.state_search.specs.declared.state_tables.Extent.{Extent}
 use Rattle.state_search.specs.Placed.{placed_of}
@@ -24,4 +24,4 @@ pub record IsOpened (exchanged : Bool) (code : List ℕ) (c : CoreState) (t : Ta
   pub count : ℕ
   pub gone : kept_by t.live (placed_at t number).local_state
       ≡ kept_by t.live (alone count c.setting code (placed_of c).local_state)
-  pub settled : IsSettled c.setting code (alone count c.setting code (placed_of c).local_state).processor
+  pub at_reference : IsAtReference c.setting code (alone count c.setting code (placed_of c).local_state).processor

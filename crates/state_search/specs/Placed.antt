@@ -7,7 +7,7 @@ use Rattle.flat_machine.specs.Turns.{turn_of}
 use Rattle.hart.specs.State.{CoreState}
 use Rattle.hart.specs.Deciding.{after_reply}
 use Rattle.local_reduction.specs.LocalStates.{LocalState, behind, with_byte, alone, alone_once, IsReference, GoesOn}
-use Rattle.local_reduction.specs.LocalStates.{IsSettled}
+use Rattle.local_reduction.specs.LocalStates.{IsAtReference}
 use Rattle.local_reduction.specs.Closing.{if_running}
 use Rattle.local_reduction.specs.Exchanging.{Asks, AskNot, NeverAsks}
 use Rattle.local_reduction.specs.Live.{is_live}
@@ -73,7 +73,7 @@ IsGoingOn code a = GoesOn a.setting code a.local_state.processor
 
 -- The processor has stopped, its next turn is a reference, or it spins.
 abbrev pub IsStill : (code : List ℕ) → Placed → Type 0
-IsStill code a = IsSettled a.setting code a.local_state.processor
+IsStill code a = IsAtReference a.setting code a.local_state.processor
 
 -- If `quietly` is set, the processor never asks for its own number alone.
 abbrev pub IsQuiet : (quietly : Bool) → (code : List ℕ) → Placed → Type 0

@@ -8,7 +8,7 @@ use Rattle.flat_machine.specs.declared.event.Status.TheVariants.{Halted}
 use Rattle.flat_machine.specs.State.{Processor}
 use Rattle.flat_machine.specs.Turns.{turn_of}
 use Rattle.hart.specs.Deciding.{after_reply}
-use Rattle.local_reduction.specs.LocalStates.{behind, alone, IsSettled}
+use Rattle.local_reduction.specs.LocalStates.{behind, alone, IsAtReference}
 use Rattle.local_reduction.specs.Closing.{MacroState}
 use Rattle.local_reduction.specs.Exchanging.{AskNot, NeverAsks}
 use Rattle.local_reduction.specs.Forgetting.{kept_by}
@@ -93,9 +93,9 @@ pub record IsBehind (quietly : Bool) (code : List ℕ) (before : ℕ) (old : Pla
       after_reply (turn_of old.setting code old.local_state.processor) before ≡ Some done →
       kept_by t.live (placed_at t number).local_state
       ≡ kept_by t.live (alone count old.setting code (behind old.local_state done))
-  pub settled : (done : Processor × Retired) →
+  pub at_reference : (done : Processor × Retired) →
       after_reply (turn_of old.setting code old.local_state.processor) before ≡ Some done →
-      IsSettled old.setting code (alone count old.setting code (behind old.local_state done)).processor
+      IsAtReference old.setting code (alone count old.setting code (behind old.local_state done)).processor
   pub quiet : quietly ≡ true → (done : Processor × Retired) →
       after_reply (turn_of old.setting code old.local_state.processor) before ≡ Some done →
       AskNot count old.setting code (behind old.local_state done)

@@ -35,7 +35,7 @@ impl StateTables {
         requires words { length words ≡ extent.shared_words }
         ensures kept { OnOk result (HasGrown self.old self.new) }
         ensures row { IfOk result (IsRow extent self.new) }
-        ensures settles { IfOk result (λ row.
+        ensures reaches { IfOk result (λ row.
             ReachesMacroState (setting_at extent) code.now (kept_by self.new.live)
             (flat_of code.now cores.now words) (λ k. [])
             (means extent self.new row)) }

@@ -43,8 +43,8 @@ impl LocalState {
     /// back to the local state in which it began.
     fn watch(&mut self, code: &Code, quietly: bool, turns: u32) -> Result<bool, MoveRefusal>
         ensures gone { OnOk result (HasGone quietly code.now self.old self.new) }
-        ensures still { IfOk result (λ settles. IsTrue settles → IsStill code.now self.new) }
-        ensures quiet { IfOk result (λ settles. IsTrue settles → IsQuiet quietly code.now self.new) }
+        ensures still { IfOk result (λ is_still. IsTrue is_still → IsStill code.now self.new) }
+        ensures quiet { IfOk result (λ is_still. IsTrue is_still → IsQuiet quietly code.now self.new) }
     {
         laws::what_comes_back_spins();
         let Ok(start) = self.copy() else {

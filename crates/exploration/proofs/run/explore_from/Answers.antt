@@ -53,15 +53,15 @@ returns-clause-sound g c =
     let t = c.explore_states.new.state_tables in
     let first = means e c.open.new.self c.in_ok-first.first in
     let m = flat_of code c.args.cores.now c.args.words in
-    let settles = subst (λ live. ReachesMacroState (setting_at e) code (kept_by live) m (λ k. []) first)
-    (sym c.in_ok-found.ensures.kept.live) c.in_ok-first.ensures.settles in
+    let reaches = subst (λ live. ReachesMacroState (setting_at e) code (kept_by live) m (λ k. []) first)
+    (sym c.in_ok-found.ensures.kept.live) c.in_ok-first.ensures.reaches in
     let is : t.live ≡ c.in-Ok.live =
     c.in_ok-found.ensures.kept.live ∙ (c.in_ok-first.ensures.kept.live ∙ ap (λ (t : TableLists). t.live) c.new-state_tables.ensures) in
     let f = c.dead_registers_can_be_forgotten.ensures.forgotten (setting_at e) code t.live (subst (HasAllLive code) (sym is) c.in-Ok.ensures) in
     λ r q there stands.
     flat_sound e code c.in-Ok-classes_of.classes.items t c.in_ok-found.found.rows.keys c.in_ok-found.found.moves first m f
     (subst (λ cs. AreFound e code cs t c.in_ok-found.found.rows.keys c.in_ok-found.found.moves first) c.as_slice.ensures.value
-    c.in_ok-found.ensures.found) settles c.in_ok-explored.explored.results.items c.all_stood_for_are_results.ensures.sound
+    c.in_ok-found.ensures.found) reaches c.in_ok-explored.explored.results.items c.all_stood_for_are_results.ensures.sound
     (uniform e c.in-Ok-classes_of.classes.items c.open.new.self c.in_ok-first.first c.in-Ok-classes_of.ensures.classes
     c.in-Ok-classes_of.ensures.alike)
     c.in_ok-explored.ensures.sound r q there (subst (λ cs. StandsFor cs r q) c.in_ok-explored.ensures.classes stands)
@@ -73,8 +73,8 @@ returns-clause-complete g c =
     let t = c.explore_states.new.state_tables in
     let first = means e c.open.new.self c.in_ok-first.first in
     let m = flat_of code c.args.cores.now c.args.words in
-    let settles = subst (λ live. ReachesMacroState (setting_at e) code (kept_by live) m (λ k. []) first)
-    (sym c.in_ok-found.ensures.kept.live) c.in_ok-first.ensures.settles in
+    let reaches = subst (λ live. ReachesMacroState (setting_at e) code (kept_by live) m (λ k. []) first)
+    (sym c.in_ok-found.ensures.kept.live) c.in_ok-first.ensures.reaches in
     let is : t.live ≡ c.in-Ok.live =
     c.in_ok-found.ensures.kept.live ∙ (c.in_ok-first.ensures.kept.live ∙ ap (λ (t : TableLists). t.live) c.new-state_tables.ensures) in
     let f = c.dead_registers_can_be_forgotten.ensures.forgotten (setting_at e) code t.live (subst (HasAllLive code) (sym is) c.in-Ok.ensures) in
@@ -82,7 +82,7 @@ returns-clause-complete g c =
     subst (λ cs. IsStoodFor cs c.in_ok-explored.explored.results.items q) (sym c.in_ok-explored.ensures.classes)
     (flat_complete e code c.in-Ok-classes_of.classes.items t c.in_ok-found.found.rows.keys c.in_ok-found.found.moves first m f
     (subst (λ cs. AreFound e code cs t c.in_ok-found.found.rows.keys c.in_ok-found.found.moves first) c.as_slice.ensures.value
-    c.in_ok-found.ensures.found) settles c.in_ok-explored.explored.results.items c.each_result_is_stood_for.ensures.complete
+    c.in_ok-found.ensures.found) reaches c.in_ok-explored.explored.results.items c.each_result_is_stood_for.ensures.complete
     c.in_ok-explored.ensures.complete q h)
 
 pub returns-clause-classes : goal.returns-clause-classes
@@ -96,14 +96,14 @@ returns-clause-termination g c =
     let t = c.explore_states.new.state_tables in
     let first = means e c.open.new.self c.in_ok-first.first in
     let m = flat_of code c.args.cores.now c.args.words in
-    let settles = subst (λ live. ReachesMacroState (setting_at e) code (kept_by live) m (λ k. []) first)
-    (sym c.in_ok-found.ensures.kept.live) c.in_ok-first.ensures.settles in
+    let reaches = subst (λ live. ReachesMacroState (setting_at e) code (kept_by live) m (λ k. []) first)
+    (sym c.in_ok-found.ensures.kept.live) c.in_ok-first.ensures.reaches in
     let is : t.live ≡ c.in-Ok.live =
     c.in_ok-found.ensures.kept.live ∙ (c.in_ok-first.ensures.kept.live ∙ ap (λ (t : TableLists). t.live) c.new-state_tables.ensures) in
     let f = c.dead_registers_can_be_forgotten.ensures.forgotten (setting_at e) code t.live (subst (HasAllLive code) (sym is) c.in-Ok.ensures) in
     flat_schedules e code c.in-Ok-classes_of.classes.items t c.in_ok-found.found.rows.keys c.in_ok-found.found.moves first m f
     (subst (λ cs. AreFound e code cs t c.in_ok-found.found.rows.keys c.in_ok-found.found.moves first) c.as_slice.ensures.value
-    c.in_ok-found.ensures.found) settles c.in_ok-explored.explored.results.items c.successors_decide_termination.ensures.termination_claim
+    c.in_ok-found.ensures.found) reaches c.in_ok-explored.explored.results.items c.successors_decide_termination.ensures.termination_claim
     c.in_ok-explored.explored.termination c.in_ok-explored.ensures.termination
 
 pub returns-clause-states : goal.returns-clause-states
@@ -113,8 +113,8 @@ returns-clause-states g c =
     let t = c.explore_states.new.state_tables in
     let first = means e c.open.new.self c.in_ok-first.first in
     let m = flat_of code c.args.cores.now c.args.words in
-    let settles = subst (λ live. ReachesMacroState (setting_at e) code (kept_by live) m (λ k. []) first)
-    (sym c.in_ok-found.ensures.kept.live) c.in_ok-first.ensures.settles in
+    let reaches = subst (λ live. ReachesMacroState (setting_at e) code (kept_by live) m (λ k. []) first)
+    (sym c.in_ok-found.ensures.kept.live) c.in_ok-first.ensures.reaches in
     let is : t.live ≡ c.in-Ok.live =
     c.in_ok-found.ensures.kept.live ∙ (c.in_ok-first.ensures.kept.live ∙ ap (λ (t : TableLists). t.live) c.new-state_tables.ensures) in
     let right = subst (HasAllLive code) (sym is) c.in-Ok.ensures in
@@ -123,7 +123,7 @@ returns-clause-states g c =
     subst (λ cs. AreAllStates m cs found.results.items found.termination found.states) (sym c.in_ok-explored.ensures.classes)
     (all_states e code c.in-Ok-classes_of.classes.items t c.in_ok-found.found.rows.keys c.in_ok-found.found.moves first m f
     (subst (λ cs. AreFound e code cs t c.in_ok-found.found.rows.keys c.in_ok-found.found.moves first) c.as_slice.ensures.value
-    c.in_ok-found.ensures.found) settles found.results.items right found.termination found.states c.in_ok-explored.ensures.termination
+    c.in_ok-found.ensures.found) reaches found.results.items right found.termination found.states c.in_ok-explored.ensures.termination
     c.in_ok-explored.ensures.order c.in_ok-explored.ensures.states)
 
 pub returns-clause-few : goal.returns-clause-few
@@ -153,7 +153,7 @@ returns-in_err-found-clause-given_up g c =
     let is : t.live ≡ c.in-Ok.live =
     kept.live ∙ (c.in_ok-first.ensures.kept.live ∙ ap (λ (t : TableLists). t.live) c.new-state_tables.ensures) in
     many_states e code _ t first m c.args.wish.limit (subst (HasAllLive code) (sym is) c.in-Ok.ensures)
-    (subst (λ live. ReachesMacroState (setting_at e) code (kept_by live) m (λ k. []) first) (sym kept.live) c.in_ok-first.ensures.settles) many.1)
+    (subst (λ live. ReachesMacroState (setting_at e) code (kept_by live) m (λ k. []) first) (sym kept.live) c.in_ok-first.ensures.reaches) many.1)
     _ c.in_err-found.ensures.many)
 
 pub returns-in_err-explored-clause-given_up : goal.returns-in_err-explored-clause-given_up

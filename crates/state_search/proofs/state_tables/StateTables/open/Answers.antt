@@ -6,7 +6,7 @@ use Rattle.state_search.specs.Opening.{flat_of}
 use Rattle.state_search.specs.StateTables.{IsRow, means, setting_at}
 use Rattle.state_search.proofs.Lemmas.{there}
 use Rattle.state_search.proofs.Growing.{kept_on}
-use Rattle.state_search.proofs.Opened.{AreOpened, opened_on, first_row, first_settles}
+use Rattle.state_search.proofs.Opened.{AreOpened, opened_on, first_row, first_reaches}
 use Rattle.state_search.proofs.state_tables.StateTables.open.Goals as goal
 
 pub loop-p-preserved : goal.loop-p-preserved
@@ -30,13 +30,13 @@ returns-clause-row g c =
     (subst (AreOpened c.args.extent.exchanged c.args.code.now c.args.cores.now c.loop-p.self c.loop-p.row) all c.loop-p.invariant.opened)
     c.in_ok-row-2.ensures.there c.in_ok-row-2.ensures.same)
 
-pub returns-clause-settles : goal.returns-clause-settles
-returns-clause-settles g c =
+pub returns-clause-reaches : goal.returns-clause-reaches
+returns-clause-reaches g c =
     let all : c.loop-p.p ≡ length c.args.cores.now = omega arith in
     subst (λ i. ReachesMacroState (setting_at c.args.extent) c.args.code.now (kept_by c.words_number.new.self.live)
     (flat_of c.args.code.now c.args.cores.now c.args.words) (λ k. [])
     (means c.args.extent c.words_number.new.self (slice_set c.loop-p.row i c.in_ok-row-2.field-0))) (sym c.from.ensures)
-    (first_settles c.args.extent c.args.code.now c.args.cores.now c.args.words c.loop-p.self c.words_number.new.self c.loop-p.row c.in_ok-row-2.field-0
+    (first_reaches c.args.extent c.args.code.now c.args.cores.now c.args.words c.loop-p.self c.words_number.new.self c.loop-p.row c.in_ok-row-2.field-0
     c.requires.cores c.requires.words c.in_ok-row-2.ensures.kept
     (subst (AreOpened c.args.extent.exchanged c.args.code.now c.args.cores.now c.loop-p.self c.loop-p.row) all c.loop-p.invariant.opened)
     c.in_ok-row-2.ensures.there c.in_ok-row-2.ensures.same)

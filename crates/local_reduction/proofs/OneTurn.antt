@@ -1,4 +1,4 @@
--- How a turn of one processor changes the state to which the flat machine settles.
+-- How a turn of one processor changes the state that the flat machine reaches.
 use Rattle.std.proofs.Common.{◌≡◌, ◌≢◌, ◌⊎◌, inl, inr, ℕ, ◌<◌, Bool, true, false, cond, zero, suc, List, [], ◌∷◌}
 use Rattle.std.proofs.Common.{◌++◌, Option, Some, None, length, refl, sym, ap, subst, ◌∙◌, arith, eqb, eq-eqb, ne_eqb}
 use Rattle.std.specs.Prelude.{slice_get, slice_set, slice_index}
@@ -13,7 +13,7 @@ use Rattle.flat_machine.specs.Turns.{Turn, Retires, Reaches, Stops, turn_of}
 use Rattle.flat_machine.specs.Flat.{taken, with_taken, turned, turn_event, flat_step, flat_event, with_processor_number}
 use Rattle.flat_machine.proofs.Lemmas.{set_other}
 use Rattle.local_reduction.specs.LocalStates.{printed_after, console_after, consoles_after, LocalState, behind, stopped_by}
-use Rattle.local_reduction.specs.LocalStates.{alone_by, alone_once, alone, IsReference, GoesOn, Spins, IsSettled}
+use Rattle.local_reduction.specs.LocalStates.{alone_by, alone_once, alone, IsReference, GoesOn, Spins, IsAtReference}
 use Rattle.local_reduction.specs.Closing.{IsAlike, IsForgetful, MacroState, gone, HasSpinner, local_state_of, ReachesMacroState}
 use Rattle.local_reduction.proofs.Spinning.{alone_processor}
 
@@ -27,23 +27,23 @@ below n k l = elim (cases_lt k n) [ inl less ↦ inl less | inr past ↦ inr (om
 abbrev pub Stands : Setting → List ℕ → Processor → Type 0
 Stands s code p = is_running p.status ≡ true → IsReference (turn_of s code p)
 
-settled_by : (a : LocalState) (t : Turn) → IsReference t → alone_by a t ≡ a
-settled_by a (Retires after retired) w = absurd w
-settled_by a (Reaches word change after) w = refl
-settled_by a (Stops cause) w = absurd w
+reference_changes_nothing : (a : LocalState) (t : Turn) → IsReference t → alone_by a t ≡ a
+reference_changes_nothing a (Retires after retired) w = absurd w
+reference_changes_nothing a (Reaches word change after) w = refl
+reference_changes_nothing a (Stops cause) w = absurd w
 
 -- A turn alone changes nothing if the processor has stopped or its next turn is a reference,
-pub settled_once : (s : Setting) (code : List ℕ) (a : LocalState) → Stands s code a.processor → alone_once s code a ≡ a
-settled_once s code a h = by_running (is_running a.processor.status) refl
+pub standing_once : (s : Setting) (code : List ℕ) (a : LocalState) → Stands s code a.processor → alone_once s code a ≡ a
+standing_once s code a h = by_running (is_running a.processor.status) refl
   where
     by_running : (b : Bool) → is_running a.processor.status ≡ b → cond b (alone_by a (turn_of s code a.processor)) a ≡ a
-    by_running true e = settled_by a (turn_of s code a.processor) (h e)
+    by_running true e = reference_changes_nothing a (turn_of s code a.processor) (h e)
     by_running false e = refl
 
 -- Any number of turns alone changes nothing if the processor has stopped or its next turn is a reference.
-pub settled_stays : (n : ℕ) (s : Setting) (code : List ℕ) (a : LocalState) → Stands s code a.processor → alone n s code a ≡ a
-settled_stays zero s code a h = refl
-settled_stays (suc n) s code a h = ap (alone n s code) (settled_once s code a h) ∙ settled_stays n s code a h
+pub standing_stays : (n : ℕ) (s : Setting) (code : List ℕ) (a : LocalState) → Stands s code a.processor → alone n s code a ≡ a
+standing_stays zero s code a h = refl
+standing_stays (suc n) s code a h = ap (alone n s code) (standing_once s code a h) ∙ standing_stays n s code a h
 
 -- ---- lists
 
@@ -248,9 +248,9 @@ module _ (at : ℕ → Setting) (code : List ℕ) (kept : LocalState → LocalSt
         (goes_alike k (alone n (at k) code a) (alone n (at k) code b) (alone_alike n k a b e)
         (subst (GoesOn (at k) code) (alone_processor n (at k) code (local_state_of a.processor []) a refl) (h n)))
 
-    -- If the same is kept of two local states, and one is settled, so is the other.
-    pub settled_alike : (k : ℕ) (a b : LocalState) → kept a ≡ kept b → IsSettled (at k) code a.processor → IsSettled (at k) code b.processor
-    settled_alike k a b e h runs = by (h runs_a)
+    -- If the same is kept of two local states, and one is at its reference, so is the other.
+    pub at_reference_alike : (k : ℕ) (a b : LocalState) → kept a ≡ kept b → IsAtReference (at k) code a.processor → IsAtReference (at k) code b.processor
+    at_reference_alike k a b e h runs = by (h runs_a)
       where
         runs_a : is_running a.processor.status ≡ true
         runs_a = run_alike a b e ∙ runs
@@ -268,15 +268,15 @@ module _ (at : ℕ → Setting) (code : List ℕ) (kept : LocalState → LocalSt
       let same : setting_of n k ≡ setting_of m k = λ i. record { number = k; processors = ps i; shared_words = ws i } in
       same ∙ h k
 
-  -- State s has at j what is kept of local state a after n turns alone, and it is settled then.
+  -- State s has at j what is kept of local state a after n turns alone, and it is at its reference then.
   abbrev pub StandsIn : MacroState → (j n : ℕ) → LocalState → Type 0
-  StandsIn s j n a = (slice_get s.local_states j ≡ Some (kept (alone n (at j) code a))) × IsSettled (at j) code (alone n (at j) code a).processor
+  StandsIn s j n a = (slice_get s.local_states j ≡ Some (kept (alone n (at j) code a))) × IsAtReference (at j) code (alone n (at j) code a).processor
 
   stands_same : (s : MacroState) (j i n o : ℕ) (a b : LocalState) → i ≡ j → o ≡ n → b ≡ a → StandsIn s i o b → StandsIn s j n a
   stands_same s j i n o a b ij on ab x = subst (λ (z : (ℕ × ℕ) × LocalState). StandsIn s z.0.0 z.0.1 z.1) (λ d. ((ij d, on d), ab d)) x
 
-  -- The flat machine settles to the state, each processor by its count of turns alone.
-  pub record SettlesIn (m : FlatState) (consoles : ℕ → List ℕ) (counts : ℕ → ℕ) (s : MacroState) : Type 0 where
+  -- The flat machine reaches the state, each processor by its count of turns alone.
+  pub record ReachesIn (m : FlatState) (consoles : ℕ → List ℕ) (counts : ℕ → ℕ) (s : MacroState) : Type 0 where
     -- Each processor has the setting that is given for its number.
     pub settings : (k : ℕ) → setting_of m k ≡ at k
     -- The machine has the given code.
@@ -285,12 +285,12 @@ module _ (at : ℕ → Setting) (code : List ℕ) (kept : LocalState → LocalSt
     pub shared : s.shared ≡ m.shared
     -- There is a local state for each processor.
     pub all : length s.local_states ≡ length m.processors
-    -- Each processor reaches its local state by its count of turns alone, and is settled there.
+    -- Each processor reaches its local state by its count of turns alone, and is at its reference there.
     pub each : (k : ℕ) (p : Processor) → slice_get m.processors k ≡ Some p → StandsIn s k (counts k) (local_state_of p (consoles k))
 
   module _ (m : FlatState) (consoles : ℕ → List ℕ) (s : MacroState) where
-    -- If a flat machine settles to a state by some counts of turns, it settles to it.
-    pub uncounted : (counts : ℕ → ℕ) → SettlesIn m consoles counts s → ReachesMacroState at code kept m consoles s
+    -- If a flat machine reaches a state by some counts of turns, it reaches it.
+    pub uncounted : (counts : ℕ → ℕ) → ReachesIn m consoles counts s → ReachesMacroState at code kept m consoles s
     uncounted counts h = record {
       settings = h.settings;
       code_is = h.code_is;
@@ -299,8 +299,8 @@ module _ (at : ℕ → Setting) (code : List ℕ) (kept : LocalState → LocalSt
       each = λ k p e. (counts k, (h.each k p e).0, (h.each k p e).1);
     }
 
-    -- If a flat machine settles to a state, it does so by some counts of turns.
-    pub counted : ReachesMacroState at code kept m consoles s → (counts : ℕ → ℕ) × SettlesIn m consoles counts s
+    -- If a flat machine reaches a state, it does so by some counts of turns.
+    pub counted : ReachesMacroState at code kept m consoles s → (counts : ℕ → ℕ) × ReachesIn m consoles counts s
     counted h = (
       λ k. (pick k (slice_get m.processors k) refl).0,
       record {
@@ -315,16 +315,16 @@ module _ (at : ℕ → Setting) (code : List ℕ) (kept : LocalState → LocalSt
         pick : (k : ℕ) (o : Option Processor) → slice_get m.processors k ≡ o →
             (n : ℕ) × ((p : Processor) → slice_get m.processors k ≡ Some p →
             (slice_get s.local_states k ≡ Some (kept (alone n (at k) code (local_state_of p (consoles k)))))
-            × IsSettled (at k) code (alone n (at k) code (local_state_of p (consoles k))).processor)
+            × IsAtReference (at k) code (alone n (at k) code (local_state_of p (consoles k))).processor)
         pick k None none = (zero, λ p e. absurd (cc))
         pick k (Some q) there =
             let x = h.each k q there in (
               x.0,
               λ p e. subst (λ r. (slice_get s.local_states k ≡ Some (kept (alone x.0 (at k) code (local_state_of r (consoles k)))))
-                  × IsSettled (at k) code (alone x.0 (at k) code (local_state_of r (consoles k))).processor) (some_inj q p (sym there ∙ e)) (x.1, x.2),
+                  × IsAtReference (at k) code (alone x.0 (at k) code (local_state_of r (consoles k))).processor) (some_inj q p (sym there ∙ e)) (x.1, x.2),
             )
 
-  -- After a turn alone, a local state is one turn nearer to where it settles, or no turn was left, and the processor
+  -- After a turn alone, a local state is one turn nearer to its next reference, or no turn was left, and the processor
   -- spins.
   on_its_way : IsForgetful at code kept → (s : MacroState) (k n : ℕ) (a b : LocalState) → is_running a.processor.status ≡ true →
       (IsReference (turn_of (at k) code a.processor) → ⊥) → alone_by a (turn_of (at k) code a.processor) ≡ b → StandsIn s k n a →
@@ -335,15 +335,22 @@ module _ (at : ℕ → Setting) (code : List ℕ) (kept : LocalState → LocalSt
   )
   on_its_way f s k (suc n) a b runs own is x =
       let once : alone_once (at k) code a ≡ b = rw runs is in
-      inl (n, refl, (x.0 ∙ ap (λ z. Some (kept (alone n (at k) code z))) once, subst (λ z. IsSettled (at k) code (alone n (at k) code z).processor) once x.1))
+      inl (
+        n,
+        refl,
+        (
+          x.0 ∙ ap (λ z. Some (kept (alone n (at k) code z))) once,
+          subst (λ z. IsAtReference (at k) code (alone n (at k) code z).processor) once x.1,
+        ),
+      )
 
   module _ (m : FlatState) (consoles : ℕ → List ℕ) (s : MacroState) (k : ℕ) (p : Processor) (later : ℕ → List ℕ) (counts : ℕ → ℕ)
-      (h : SettlesIn m consoles counts s) (there : slice_get m.processors k ≡ Some p) (others : (j : ℕ) → j ≢ k → later j ≡ consoles j) where
+      (h : ReachesIn m consoles counts s) (there : slice_get m.processors k ≡ Some p) (others : (j : ℕ) → j ≢ k → later j ≡ consoles j) where
     abbrev here : LocalState
     here = local_state_of p (consoles k)
 
     -- If the processor has stopped or is about to refer, it needs no turn.
-    pub none_counted : Stands (at k) code p → ((j : ℕ) → later j ≡ consoles j) → SettlesIn m consoles (put counts k 0) s
+    pub none_counted : Stands (at k) code p → ((j : ℕ) → later j ≡ consoles j) → ReachesIn m consoles (put counts k 0) s
     none_counted stands same = record {
       settings = h.settings;
       code_is = h.code_is;
@@ -355,8 +362,8 @@ module _ (at : ℕ → Setting) (code : List ℕ) (kept : LocalState → LocalSt
         stood : StandsIn s k 0 here
         stood =
             let x = h.each k p there in
-            let stays = settled_stays (counts k) (at k) code here stands in
-            (x.0 ∙ ap (λ z. Some (kept z)) stays, subst (λ z. IsSettled (at k) code z.processor) stays x.1)
+            let stays = standing_stays (counts k) (at k) code here stands in
+            (x.0 ∙ ap (λ z. Some (kept z)) stays, subst (λ z. IsAtReference (at k) code z.processor) stays x.1)
 
         by : (j : ℕ) (y : Processor) → slice_get m.processors j ≡ Some y → (j ≡ k) ⊎ (j ≡ k → ⊥) →
             StandsIn s j (put counts k 0 j) (local_state_of y (consoles j))
@@ -369,7 +376,7 @@ module _ (at : ℕ → Setting) (code : List ℕ) (kept : LocalState → LocalSt
             (sym (put_other counts k 0 j ne)) refl (h.each j y e)
 
     own_went : (b : LocalState) → later k ≡ b.console → (n : ℕ) → StandsIn s k n b →
-        SettlesIn (record m { processors = slice_set m.processors k b.processor; shared = m.shared }) later (put counts k n) s
+        ReachesIn (record m { processors = slice_set m.processors k b.processor; shared = m.shared }) later (put counts k n) s
     own_went b printed n went =
         record {
           settings = settings_kept m (record m { processors = slice_set m.processors k b.processor; shared = m.shared }) h.settings long refl;
@@ -391,35 +398,35 @@ module _ (at : ℕ → Setting) (code : List ℕ) (kept : LocalState → LocalSt
             stands_same s j j (put counts k n j) (counts j) (local_state_of y (later j)) (local_state_of y (consoles j)) refl
             (sym (put_other counts k n j x.0)) (ap (local_state_of y) (sym (others j x.0))) (h.each j y x.1)
 
-    -- After a turn that is no reference, the machine settles to the same state by one turn less of that processor; or
+    -- After a turn that is no reference, the machine reaches the same state by one turn less of that processor; or
     -- none was left, and a processor spins in the state.
     pub own_counted : IsForgetful at code kept → (b : LocalState) → is_running p.status ≡ true → (IsReference (turn_of (at k) code p) → ⊥) →
         alone_by here (turn_of (at k) code p) ≡ b → later k ≡ b.console →
         ((n : ℕ) × (counts k ≡ suc n)
-        × SettlesIn (record m { processors = slice_set m.processors k b.processor; shared = m.shared }) later (put counts k n) s)
+        × ReachesIn (record m { processors = slice_set m.processors k b.processor; shared = m.shared }) later (put counts k n) s)
         ⊎ ((counts k ≡ 0) × HasSpinner at code s)
     own_counted f b runs own is printed = either (on_its_way f s k (counts k) here b runs own is (h.each k p there))
       where
         either : ((i : ℕ) × (counts k ≡ suc i) × StandsIn s k i b) ⊎ ((counts k ≡ 0) × HasSpinner at code s) →
             ((n : ℕ) × (counts k ≡ suc n)
-            × SettlesIn (record m { processors = slice_set m.processors k b.processor; shared = m.shared }) later (put counts k n) s)
+            × ReachesIn (record m { processors = slice_set m.processors k b.processor; shared = m.shared }) later (put counts k n) s)
             ⊎ ((counts k ≡ 0) × HasSpinner at code s)
         either (inl went) = inl (went.0, went.1, own_went b printed went.0 went.2)
         either (inr spins) = inr spins
 
-    -- If a processor refers to a word, and is settled n turns after that, the machine settles, by n turns of that
-    -- processor, to the state with its new local state and the word written.
+    -- If a processor refers to a word, and is at its reference n turns after that, the machine reaches it, by n turns of
+    -- that processor, to the state with its new local state and the word written.
     pub reach_counted : (f : IsForgetful at code kept) (word : ℕ) (change : ℕ → ℕ) (after : ℕ → Processor × Retired) (other : ℕ → LocalState) (n : ℕ) →
         ((x : ℕ) → kept (other x) ≡ kept (behind here (after x))) →
-        IsSettled (at k) code (alone n (at k) code (other (slice_index s.shared word))).processor →
+        IsAtReference (at k) code (alone n (at k) code (other (slice_index s.shared word))).processor →
         later k ≡ (behind here (after (slice_index m.shared word))).console →
-        SettlesIn
+        ReachesIn
         (record m {
           processors = slice_set m.processors k (after (slice_index m.shared word)).0;
           shared = slice_set m.shared word (change (slice_index m.shared word));
         }) later (put counts k n)
         (gone s k (kept (alone n (at k) code (other (slice_index s.shared word)))) word (change (slice_index s.shared word)))
-    reach_counted f word change after other n alike settled printed =
+    reach_counted f word change after other n alike at_reference printed =
         let long : length (slice_set m.processors k (after (slice_index m.shared word)).0) ≡ length m.processors = simp length-set in
         let wide : length (slice_set m.shared word (change (slice_index m.shared word))) ≡ length m.shared = simp length-set in
         let long_s : length (slice_set s.local_states k (kept q)) ≡ length s.local_states = simp length-set in
@@ -458,7 +465,7 @@ module _ (at : ℕ → Setting) (code : List ℕ) (kept : LocalState → LocalSt
             stands_same t j k (put counts k n j) n (local_state_of y (later j)) (behind here (after (slice_index s.shared word))) (sym x.0)
             (sym (put_here counts k n) ∙ ap (put counts k n) (sym x.0)) (old_same ∙ is) (
               set_there s.local_states k (kept q) _ stood.0 ∙ ap Some same,
-              settled_alike f k q (alone n (at k) code (behind here (after (slice_index s.shared word)))) same settled,
+              at_reference_alike f k q (alone n (at k) code (behind here (after (slice_index s.shared word)))) same at_reference,
             )
         by_place j y (inr x) =
             let stood = h.each j y x.1 in
