@@ -15,7 +15,7 @@ use trace_commands::replay_counted;
 
 /// The machine that opened on a copy of the image and took these steps, and what its processors have shown in them.
 #[tactic(auto, using(crate::proofs::Refusing::size_refuses))]
-pub(crate) fn machine_after(
+pub(crate) fn replay_on_copy(
     alloc: Global,
     image: &Image,
     config: Config,

@@ -9,7 +9,7 @@ ghost use Rattle.explore_command.specs.Witnesses.{IsEnd, IsStuck, IsWitness, tar
 
 use crate::left::left_by;
 use crate::refused::Refused;
-use crate::taking::machine_after;
+use crate::taking::replay_on_copy;
 use crate::way::log_of;
 use command_io::{Fault, Tally};
 use elf_image::Image;
@@ -88,7 +88,7 @@ fn check(
     if !is_trace(&config, steps) || !are_of_the_machine(steps) {
         return Err(Refused::Missed);
     }
-    let (machine, tally) = machine_after(alloc, image, config, steps)?;
+    let (machine, tally) = replay_on_copy(alloc, image, config, steps)?;
     match number.checked_sub(1) {
         Some(before) => match results.get(before as usize) {
             Some(last) => compare(alloc, &machine, &tally, last),
