@@ -20,7 +20,7 @@ use Rattle.line_faults.specs.AdviceAtFault.{IsAdvised}
 use Rattle.line_faults.specs.Places.{place_of}
 use Rattle.line_faults.specs.Spans.{Span, StandsIn}
 use Rattle.line_faults.specs.WordAtFault.{word_at_fault}
-use Rattle.asm_commands.specs.Faults.{error_of, error_at, errors_from, IsAt, IsNamed, IsInPlace, place_behind, AreFaultsOf, AreTheFaults}
+use Rattle.asm_commands.specs.Faults.{error_of, error_at, errors_from, IsAt, IsNamed, IsInPlace, place_after, AreFaultsOf, AreTheFaults}
 
 pub at_item : (lines : List (Bor (List ℕ))) (i : ℕ) (d : Bor (List ℕ)) → i < length lines →
     nows (drop i lines) ≡ (get_or lines i d).now ∷ nows (drop (i + 1) lines)
@@ -34,7 +34,7 @@ pub record FoundSoFar (ls : Labels) (lines : List (Bor (List ℕ))) (i : ℕ) (f
   -- each fault found names its word at fault
   pub placed : All (IsInPlace ls (nows lines)) faults
   -- the cursor is at the place after the first i lines
-  pub place : place_of cursor ≡ place_behind (nows lines) i
+  pub place : place_of cursor ≡ place_after (nows lines) i
 
 one_line : (n : ℕ) (p : Result Piece AsmFault) (ps : List (Result Piece AsmFault)) (found : Option TextFault) →
     option_map error_of found ≡ error_at n p → errors_from n (p ∷ ps) ≡ map error_of (option_to_list found) ++ errors_from (n + 1) ps
@@ -44,7 +44,7 @@ one_line n (Err f) ps None same = cc
 one_line n (Err f) ps (Some t) same = cc
 
 all_placed : (ls : Labels) (lines : List (Bor (List ℕ))) (i : ℕ) (d : Bor (List ℕ)) (faults : List TextFault) (at : Place) (found :
-    Option TextFault) → i < length lines → at ≡ place_behind (nows lines) i
+    Option TextFault) → i < length lines → at ≡ place_after (nows lines) i
     → IfSome found (λ t. (t.line ≡ i + 1) × IsAt (get_or lines i d).now t.column t.word.now × IsNamed ls at (get_or lines i d).now t)
     → All (IsInPlace ls (nows lines)) faults → All (IsInPlace ls (nows lines)) (faults ++ option_to_list found)
 all_placed ls lines i d faults at None lt place is before = rw append-nil before
@@ -57,13 +57,13 @@ all_placed ls lines i d faults at (Some t) lt place is before =
           rw same (slice_get-map (λ (part : Bor (List ℕ)). part.now) lines i
           ∙ ap (option_map (λ (part : Bor (List ℕ)). part.now)) (slice_get-get_or lines i d lt));
       at = is.1;
-      named = subst (λ p. IsNamed ls p (get_or lines i d).now t) (place ∙ ap (place_behind (nows lines)) (sym same)) is.2;
+      named = subst (λ p. IsNamed ls p (get_or lines i d).now t) (place ∙ ap (place_after (nows lines)) (sym same)) is.2;
     }
     )
 
 -- The place after one more line is the place after that line, from the place before it.
 place_more : (lines : List (Bor (List ℕ))) (i : ℕ) (d : Bor (List ℕ)) → i < length lines
-    → place_behind (nows lines) (i + 1) ≡ after (place_behind (nows lines) i) (get_or lines i d).now
+    → place_after (nows lines) (i + 1) ≡ after (place_after (nows lines) i) (get_or lines i d).now
 place_more lines i d lt =
     let more : take (i + 1) (nows lines) ≡ take i (nows lines) ++ (get_or lines i d).now ∷ [] =
     take-map (i + 1) lines ∙ ap nows (take_more lines i d lt) ∙ map-append (λ (part : Bor (List ℕ)). part.now) (take i lines) (get_or lines i d ∷ [])

@@ -27,11 +27,11 @@ present_listed n (Err f ∷ ps) (suc i) e at bad =
 pub listed_present : (n : ℕ) (pieces : List (Result Piece AsmFault)) (e : AsmError) (k : ℕ) → k < length (errors_from n pieces)
     → slice_index_or (errors_from n pieces) k e ≡ e → (n ≤ e.line) × (slice_get pieces (e.line - n) ≡ Some (Err e.fault))
 listed_present n [] e k lt is_e = absurd (omega (arith, lt))
-listed_present n (Ok x ∷ ps) e k lt is_e = behind n (Ok x) ps e (listed_present (n + 1) ps e k lt is_e)
+listed_present n (Ok x ∷ ps) e k lt is_e = present_later n (Ok x) ps e (listed_present (n + 1) ps e k lt is_e)
   where
-    behind : (n : ℕ) (p : Result Piece AsmFault) (ps : List (Result Piece AsmFault)) (e : AsmError)
+    present_later : (n : ℕ) (p : Result Piece AsmFault) (ps : List (Result Piece AsmFault)) (e : AsmError)
         → (n + 1 ≤ e.line) × (slice_get ps (e.line - (n + 1)) ≡ Some (Err e.fault)) → (n ≤ e.line) × (slice_get (p ∷ ps) (e.line - n) ≡ Some (Err e.fault))
-    behind n p ps e h = let one : e.line - n ≡ suc (e.line - (n + 1)) = omega (arith, h.0) in (omega (arith, h.0), rw one h.1)
+    present_later n p ps e h = let one : e.line - n ≡ suc (e.line - (n + 1)) = omega (arith, h.0) in (omega (arith, h.0), rw one h.1)
 listed_present n (Err f ∷ ps) e zero lt is_e =
     let line : e.line ≡ n = ap (λ (a : AsmError). a.line) (sym is_e) in
     let none : e.line - n ≡ 0 = omega (arith, line) in

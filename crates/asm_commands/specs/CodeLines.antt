@@ -27,6 +27,6 @@ lines_of code (suc index) = lines_of code index ++ line_of (0x0001_0000 + 4 * in
 pub record IsListing (code text : List ℕ) : Type 0 where
   pub count : ℕ
   pub within : count ≤ 2 ^ 14
-  pub behind : (index : ℕ) → count ≤ index → index < 2 ^ 14 → word_at code index ≡ 0
+  pub after : (index : ℕ) → count ≤ index → index < 2 ^ 14 → word_at code index ≡ 0
   pub last : 0 < count → word_at code (count - 1) ≢ 0
   pub lines : text ≡ lines_of code count

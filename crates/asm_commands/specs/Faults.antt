@@ -28,15 +28,15 @@ pub record IsNamed (labels : Labels) (at : Place) (line : List ℕ) (t : TextFau
   pub advised : IsAdvised labels at line t.fault (advice_of t.hint)
 
 -- the place after this many lines
-abbrev pub place_behind : List (List ℕ) → ℕ → Place
-place_behind lines count = fold after start (take count lines)
+abbrev pub place_after : List (List ℕ) → ℕ → Place
+place_after lines count = fold after start (take count lines)
 
 -- The word is in the line with the fault's number, and is the word at fault there.
 pub record IsInPlace (labels : Labels) (lines : List (List ℕ)) (t : TextFault) : Type 0 where
   pub line : List ℕ
   pub stands : slice_get lines (t.line - 1) ≡ Some line
   pub at : IsAt line t.column t.word.now
-  pub named : IsNamed labels (place_behind lines (t.line - 1)) line t
+  pub named : IsNamed labels (place_after lines (t.line - 1)) line t
 
 -- ---- line by line
 

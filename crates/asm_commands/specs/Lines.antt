@@ -8,7 +8,7 @@ use Rattle.assembler.specs.declared.fault.AsmFault.TheVariants.{UnknownWord, For
 use Rattle.assembler.specs.declared.fault.AsmFault.TheVariants.{SectionFull, Memory}
 use Rattle.asm_commands.specs.declared.text_fault.TextFault.{TextFault}
 use Rattle.asm_commands.specs.Advice.{advice_text}
-use Rattle.asm_commands.specs.Words.{behind_code}
+use Rattle.asm_commands.specs.Words.{after_code}
 
 abbrev pub code_of : AsmFault → List ℕ
 code_of UnknownWord = codes "A1"
@@ -23,7 +23,7 @@ code_of Memory = codes "A7"
 unfoldable pub line_of : TextFault → (advice : List ℕ) → List ℕ
 line_of t advice =
     codes "line " ++ decimal t.line ++ codes " column " ++ decimal t.column ++ codes ": " ++ code_of t.fault
-    ++ behind_code t.word.now ++ codes ": "
+    ++ after_code t.word.now ++ codes ": "
     ++ advice ++ line_feed
 
 abbrev pub count_line : ℕ → List ℕ

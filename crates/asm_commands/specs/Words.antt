@@ -12,6 +12,6 @@ abbrev pub shown : List ℕ → List ℕ
 shown word = if nat_le (length word) 64 then flat_map shown_byte word else flat_map shown_byte (take 64 word)
     ++ codes ".."
 
-abbrev pub behind_code : List ℕ → List ℕ
-behind_code [] = []
-behind_code (b ∷ bs) = codes " " ++ shown (b ∷ bs)
+abbrev pub after_code : List ℕ → List ℕ
+after_code [] = []
+after_code (b ∷ bs) = codes " " ++ shown (b ∷ bs)

@@ -87,7 +87,7 @@ fn push_label(alloc: Global, text: &mut String, hint: &Hint<'_>) -> Result<(), A
 fn push_upper(text: &mut String, upper: u64) -> Result<(), AllocError>
     ensures { OnOk result (string_bytes text.new ≡ string_bytes text.old ++ place_text (UpperBits upper)) }
 {
-    push_behind(text, upper_front(), upper)
+    push_after(text, upper_front(), upper)
 }
 
 /// The text before these bits.
@@ -245,7 +245,7 @@ fn push_unaligned(alloc: Global, text: &mut String, address: u64) -> Result<(), 
 }
 
 /// Appends a number after a text.
-fn push_behind(text: &mut String, front: &str, number: u64) -> Result<(), AllocError>
+fn push_after(text: &mut String, front: &str, number: u64) -> Result<(), AllocError>
     ensures { OnOk result (string_bytes text.new ≡ string_bytes text.old ++ (front.now ++ decimal number)) }
 {
     text.push_str(front)?;

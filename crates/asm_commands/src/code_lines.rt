@@ -34,7 +34,7 @@ pub fn listing(alloc: Global, code: &Code) -> Result<String, AllocError>
 /// The number of words of code up to the last that is not zero.
 fn word_count(code: &Code) -> u32
     ensures few { result ≤ 2 ^ 14 }
-    ensures behind { (index : ℕ) → result ≤ index → index < 2 ^ 14 → word_at code.now index ≡ 0 }
+    ensures after { (index : ℕ) → result ≤ index → index < 2 ^ 14 → word_at code.now index ≡ 0 }
     ensures last { 0 < result → word_at code.now (result - 1) ≢ 0 }
 {
     let mut count = CODE_WORDS;

@@ -5,7 +5,7 @@ ghost use Rattle.asm_commands.specs.Lines.{IsList, code_of, count_line, fault_li
 
 use crate::advice::advice_of;
 use crate::text_fault::TextFault;
-use crate::words::push_behind_code;
+use crate::words::push_after_code;
 use assembler::AsmFault;
 use std::alloc::{AllocError, Global};
 use std::fmt::Write;
@@ -44,7 +44,7 @@ fn push_with(
     let TextFault { line, column, .. } = *fault;
     write!(text, "line {line} column {column}: ")?;
     text.push_str(code_of(fault.fault))?;
-    push_behind_code(alloc, text, fault.word)?;
+    push_after_code(alloc, text, fault.word)?;
     text.push_str(": ")?;
     text.push_str(advice)?;
     text.push('\n')

@@ -2,7 +2,7 @@
 
 ghost use Rattle.std.specs.Prelude.{◌≡◌, ◌++◌, OnOk, string_bytes};
 ghost use Rattle.std.specs.List.{flat_map};
-ghost use Rattle.asm_commands.specs.Words.{behind_code, shown_byte, shown};
+ghost use Rattle.asm_commands.specs.Words.{after_code, shown_byte, shown};
 
 use command_io::push_bytes;
 use std::alloc::{AllocError, Global};
@@ -11,8 +11,8 @@ use std::alloc::{AllocError, Global};
 const MAX_SHOWN: usize = 64;
 
 /// Appends a blank and the word, if there is one.
-pub fn push_behind_code(alloc: Global, text: &mut String, word: &[u8]) -> Result<(), AllocError>
-    ensures { OnOk result (string_bytes text.new ≡ string_bytes text.old ++ behind_code word.now) }
+pub fn push_after_code(alloc: Global, text: &mut String, word: &[u8]) -> Result<(), AllocError>
+    ensures { OnOk result (string_bytes text.new ≡ string_bytes text.old ++ after_code word.now) }
 {
     if word.is_empty() {
         return Ok(());

@@ -207,8 +207,8 @@ kept_uncut line h = rw (cut_at_none is_mark line h) refl
 kept_cut : (front : List ℕ) (c : ℕ) (behind : List ℕ) → lacks 35 front ≡ true → is_mark c ≡ true → kept (front ++ c ∷ behind) ≡ front
 kept_cut front c behind h e = rw (cut_at_mid is_mark front c behind h e) refl
 
-kept_behind : (text rest : List ℕ) → lacks 35 text ≡ true → kept (text ++ rest) ≡ text ++ kept rest
-kept_behind text rest h = go (cut_of is_mark rest)
+kept_after : (text rest : List ℕ) → lacks 35 text ≡ true → kept (text ++ rest) ≡ text ++ kept rest
+kept_after text rest h = go (cut_of is_mark rest)
   where
     go : Cut is_mark rest → kept (text ++ rest) ≡ text ++ kept rest
     go (uncut r) = kept_uncut (text ++ rest) (lacks_both 35 text rest h r) ∙ ap (λ l. text ++ l) (sym (kept_uncut rest r))
@@ -219,7 +219,7 @@ kept_behind text rest h = go (cut_of is_mark rest)
 -- Blanks at the ends of a line do not change what it says.
 pub ends_change_nothing : (before line after : List ℕ) → AreBlanks before → AreBlanks after → line_of (before ++ (line ++ after)) ≡ line_of line
 unfolding line_of
-ends_change_nothing before line after b a = ap said_in (kept_behind before (line ++ after) (no_such is_blank 35 refl before b)) ∙ go (cut_of is_mark line)
+ends_change_nothing before line after b a = ap said_in (kept_after before (line ++ after) (no_such is_blank 35 refl before b)) ∙ go (cut_of is_mark line)
   where
     go : Cut is_mark line → said_in (before ++ kept (line ++ after)) ≡ said_in (kept line)
     go (uncut h) =
@@ -238,10 +238,10 @@ colon_changes_nothing name gap gap' rest n h h' =
     let marked : (g : List ℕ) → AreBlanks g → lacks 35 (name ++ g) ≡ true
     = (λ g e. lacks_both 35 name g (name_without 35 refl name n) (no_such is_blank 35 refl g e)) in
     let one : kept (name ++ (gap ++ 58 ∷ (gap' ++ rest))) ≡ (name ++ gap) ++ 58 ∷ (gap' ++ kept rest)
-    = ap kept (sym (append_assoc name gap (58 ∷ (gap' ++ rest)))) ∙ kept_behind (name ++ gap) (58 ∷ (gap' ++ rest)) (marked gap h)
-    ∙ ap (λ l. (name ++ gap) ++ l) (kept_behind (58 ∷ gap') rest (no_such is_blank 35 refl gap' h')) in
+    = ap kept (sym (append_assoc name gap (58 ∷ (gap' ++ rest)))) ∙ kept_after (name ++ gap) (58 ∷ (gap' ++ rest)) (marked gap h)
+    ∙ ap (λ l. (name ++ gap) ++ l) (kept_after (58 ∷ gap') rest (no_such is_blank 35 refl gap' h')) in
     let other : kept (name ++ 58 ∷ rest) ≡ (name ++ []) ++ 58 ∷ kept rest
-    = kept_behind name (58 ∷ rest) (name_without 35 refl name n) ∙ ap (λ l. name ++ l) (kept_behind (58 ∷ []) rest refl)
+    = kept_after name (58 ∷ rest) (name_without 35 refl name n) ∙ ap (λ l. name ++ l) (kept_after (58 ∷ []) rest refl)
     ∙ ap (λ l. l ++ 58 ∷ kept rest) (sym (append-nil name)) in
     rw (
       one,

@@ -106,9 +106,9 @@ module _ (m : ℕ) (is : IsBracket m) where
 
   module _ (n : ℕ) (within : AlikeWithin n) (P g g' : List ℕ) (blanks : AreBlanks g) (blanks' : AreBlanks g') where
     -- If the last opening bracket is after the gap, the part before it has the gap too.
-    cut_behind : (front inside : List ℕ) → lacks 40 inside ≡ true → length front < n
+    cut_after : (front inside : List ℕ) → lacks 40 inside ≡ true → length front < n
         → SameCut (cut_trimmed (P ++ (g ++ m ∷ (g' ++ (front ++ 40 ∷ inside))))) (cut_trimmed (P ++ m ∷ (front ++ 40 ∷ inside)))
-    cut_behind front inside h less =
+    cut_after front inside h less =
         let norm = normal m P g g' front is.solid blanks blanks' in
         let left : P ++ (g ++ m ∷ (g' ++ (front ++ 40 ∷ inside))) ≡ (P ++ (g ++ m ∷ (g' ++ front))) ++ 40 ∷ inside
         = ap (λ l. P ++ (g ++ m ∷ l)) (sym (append_assoc g' front (40 ∷ inside)))
@@ -197,7 +197,7 @@ module _ (m : ℕ) (is : IsBracket m) where
         go (last front inside e h) =
             let count : length Q ≡ length front + suc (length inside) = ap length e ∙ length-append front (40 ∷ inside) in
             subst (λ q. SameCut (cut_trimmed (P ++ (g ++ m ∷ (g' ++ q)))) (cut_trimmed (P ++ m ∷ q))) (sym e)
-            (cut_behind front inside h (omega (arith, less, count)))
+            (cut_after front inside h (omega (arith, less, count)))
         go (without h) = elim is.which [ inl e ↦ cut_here Q e h | inr e ↦ cut_before Q e h ]
 
     -- If the bracket at the gap is the last byte, the cuts are the same.

@@ -20,8 +20,8 @@ use Rattle.assembler.proofs.LineBytes.{byte_below}
 use Rattle.assembler.proofs.PlacedBytes.{placed_bytes}
 
 -- A place after the last byte is read as zero.
-behind_zero : (bytes : List ℕ) (place : ℕ) → slice_index bytes place ≡ (if nat_lt place (length bytes) then slice_index bytes place else 0)
-behind_zero bytes place =
+zero_after_end : (bytes : List ℕ) (place : ℕ) → slice_index bytes place ≡ (if nat_lt place (length bytes) then slice_index bytes place else 0)
+zero_after_end bytes place =
     elim (cases_lt place (length bytes)) [
       | inl less ↦ let test : nat_lt place (length bytes) ≡ true = grind (arith, nat_tests, less) in rw test refl
       | inr past ↦ let test : nat_lt place (length bytes) ≡ false = grind (arith, nat_tests, past) in rw test (get_or_past bytes place 0 past)
@@ -43,7 +43,7 @@ module _ (known : (config : Config) (layout : Layout) → IsOpenable layout → 
       b ≡ placed_byte text s address
   placed s bytes b address same at =
       at
-      ∙ behind_zero bytes (address - base_of s)
+      ∙ zero_after_end bytes (address - base_of s)
       ∙ ap (λ (xs : List ℕ). if nat_lt (address - base_of s) (length xs) then slice_index xs (address - base_of s) else 0) same
 
   small : (i : ℕ) → slice_index layout.shared i < 256

@@ -14,7 +14,7 @@ module _ (m : MachineLists) (start : ℕ) (done : List Step) where
     before = h.before;
     rest = h.rest ++ s ∷ [];
     is = ap (λ xs. xs ++ s ∷ []) h.is ∙ append_assoc h.before (step.Turn p ∷ h.rest) (s ∷ []);
-    behind = h.behind;
+    after = h.after;
     retired = h.retired;
   }
 
@@ -24,7 +24,7 @@ module _ (m : MachineLists) (start : ℕ) (done : List Step) where
     before = done;
     rest = [];
     is = ap (λ n. done ++ step.Turn n ∷ []) same;
-    behind = behind;
+    after = behind;
     retired = subst (λ n. IsRetirement (answer_after m done (step.Turn n))) same retired;
   }
   retired_now (step.Up s w) p behind r = absurd r
@@ -41,4 +41,4 @@ module _ (m : MachineLists) (start : ℕ) (done : List Step) where
       by (inl (none, alike, last)) =
           inr (subst (λ t. Retires t (answer_after m done t) p) (sym last)
           (refl, subst (λ xs. IsRetirement (answer_after m xs (step.Turn p))) (sym alike) h.retired))
-      by (inr (rest', is)) = inl (record { before = h.before; rest = rest'; is = is; behind = h.behind; retired = h.retired })
+      by (inr (rest', is)) = inl (record { before = h.before; rest = rest'; is = is; after = h.after; retired = h.retired })

@@ -58,8 +58,8 @@ module _ (breaks : List Bool) (limit : ℕ) (old l new : Log) (flags : List Bool
   few : length new.steps ≤ limit
   few = let one = at_most_one l.steps new.steps s o taken.steps in omega (arith, one, room)
 
-  behind : start ≤ length l.steps
-  behind = let count = ap length u.steps in let more = length-append old.steps u.more in omega (arith, count, more)
+  start_is_past : start ≤ length l.steps
+  start_is_past = let count = ap length u.steps in let more = length-append old.steps u.more in omega (arith, count, more)
 
   abbrev Either : Type 0
   Either = ((o ≡ outcome.Stalled) × (new.steps ≡ l.steps)) ⊎ (new.steps ≡ l.steps ++ s ∷ [])
@@ -149,7 +149,7 @@ module _ (breaks : List Bool) (limit : ℕ) (old l new : Log) (flags : List Bool
 
           after : (is_noted flags p ≡ true) ⊎ Retires s o p → HasRetired m start (l.steps ++ s ∷ []) p
           after (inl flag) = retired_more m start l.steps s p ((u.noted p within).0 flag)
-          after (inr r) = retired_now m start l.steps s p behind (now r)
+          after (inr r) = retired_now m start l.steps s p start_is_past (now r)
 
           same_after : o ≡ outcome.Stalled → (is_noted flags p ≡ true) ⊎ Retires s o p → HasRetired m start l.steps p
           same_after stalled (inl flag) = (u.noted p within).0 flag
@@ -188,7 +188,7 @@ module _ (breaks : List Bool) (limit : ℕ) (old l new : Log) (flags : List Bool
 
       ends : Either → EndsInFault m start new.steps
       ends (inl (stalled, same)) = absurd (subst IsFault stalled fault)
-      ends (inr one) = record { before = l.steps; last = s; is = one; behind = behind; fault = subst IsFault answer_is fault }
+      ends (inr one) = record { before = l.steps; last = s; is = one; after = start_is_past; fault = subst IsFault answer_is fault }
 
 -- If a sweep under way has reason to end, it has ended.
 pub ends_here : (breaks : List Bool) (limit : ℕ) (old l : Log) (flags : List Bool) → IsUnderWay breaks limit old flags l →
@@ -241,7 +241,7 @@ begins breaks limit old flags replay few none = record {
   few = few;
   sound = λ before rest s is from fault. past before rest s is from;
   breaks_are_met = λ before rest p is from stands. past before rest (step.Turn p) is from;
-  noted = λ p within. (λ flag. absurd (true≢false (sym flag ∙ none p within)), λ h. absurd (past h.before h.rest (step.Turn p) h.is h.behind));
+  noted = λ p within. (λ flag. absurd (true≢false (sym flag ∙ none p within)), λ h. absurd (past h.before h.rest (step.Turn p) h.is h.after));
 }
   where
     past : (before rest : List Step) (s : Step) → old.steps ≡ before ++ s ∷ rest → length old.steps ≤ length before → ⊥

@@ -32,8 +32,8 @@ reads_both : (a b c : Held) (xs ys : List ℕ) (es fs : List Event) → Reads a 
 reads_both a b c xs ys es fs p q = λ bytes before h.
     rw (← append_assoc bytes xs ys, ← append_assoc before es fs) (q (bytes ++ xs) (before ++ es) (p bytes before h))
 
-ends_behind : (es fs : List Event) (P : Event → Type 0) → NoneQuits es → EndsWith fs P → EndsWith (es ++ fs) P
-ends_behind es fs P p q = record {
+ends_after : (es fs : List Event) (P : Event → Type 0) → NoneQuits es → EndsWith fs P → EndsWith (es ++ fs) P
+ends_after es fs P p q = record {
   before = es ++ q.before;
   last = q.last;
   all = ap (λ x. es ++ x) q.all ∙ sym (append_assoc es q.before (q.last ∷ []));
@@ -41,8 +41,8 @@ ends_behind es fs P p q = record {
   end = q.end;
 }
 
-cut_behind : (rs ss : List (List ℕ)) (missing : List ℕ) → IsCutShort ss missing → IsCutShort (rs ++ ss) missing
-cut_behind rs ss missing q = record {
+cut_after : (rs ss : List (List ℕ)) (missing : List ℕ) → IsCutShort ss missing → IsCutShort (rs ++ ss) missing
+cut_after rs ss missing q = record {
   before = rs ++ q.before;
   last = q.last;
   all = ap (λ x. rs ++ x) q.all ∙ sym (append_assoc rs q.before (q.last ∷ []));
@@ -51,14 +51,14 @@ cut_behind rs ss missing q = record {
   some = q.some;
 }
 
-stop_behind : (end : SessionEnd) (es fs : List Event) (rs ss : List (List ℕ)) (missing : List ℕ) → NoneQuits es → IsStop end fs ss missing →
+stop_after : (end : SessionEnd) (es fs : List Event) (rs ss : List (List ℕ)) (missing : List ℕ) → NoneQuits es → IsStop end fs ss missing →
     IsStop end (es ++ fs) (rs ++ ss) missing
-stop_behind Quit es fs rs ss missing n p = (p.0, ends_behind es fs (λ event. is_quit event ≡ true) n p.1)
-stop_behind WriteFailed es fs rs ss missing n p = (cut_behind rs ss missing p.0, ends_behind es fs (λ _. Unit {0}) n p.1)
-stop_behind EndOfInput es fs rs ss missing n p = p
-stop_behind ReadFailed es fs rs ss missing n p = p
-stop_behind Memory es fs rs ss missing n p = p
-stop_behind TraceFull es fs rs ss missing n p = p
+stop_after Quit es fs rs ss missing n p = (p.0, ends_after es fs (λ event. is_quit event ≡ true) n p.1)
+stop_after WriteFailed es fs rs ss missing n p = (cut_after rs ss missing p.0, ends_after es fs (λ _. Unit {0}) n p.1)
+stop_after EndOfInput es fs rs ss missing n p = p
+stop_after ReadFailed es fs rs ss missing n p = p
+stop_after Memory es fs rs ss missing n p = p
+stop_after TraceFull es fs rs ss missing n p = p
 
 end_of_stop : (end : SessionEnd) (events : List Event) (replies : List (List ℕ)) (unread missing : List ℕ) (left : Option (List ℕ)) →
     IsStop end events replies missing → IsEnd end events replies unread missing left
@@ -203,7 +203,7 @@ module _ (run : RunSpec) where
     missing = q.missing;
     cut = joined_both p.replies q.replies ∙ ap (λ x. joined p.replies ++ x) q.cut ∙ sym (append_assoc (joined p.replies) q.written q.missing);
     wrote = Appends-trans w0 w1 w2 (joined p.replies) q.written p.wrote q.wrote;
-    stop = stop_behind end p.events q.events p.replies q.replies q.missing p.none q.stop;
+    stop = stop_after end p.events q.events p.replies q.replies q.missing p.none q.stop;
   }
 
   -- If the reader ends or fails after a dialogue that goes on, the dialogue is a conversation with that end.

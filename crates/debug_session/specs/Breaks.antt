@@ -26,7 +26,7 @@ pub record HasRetired (opening : MachineLists) (start : ℕ) (done : List Step) 
   pub before : List Step
   pub rest : List Step
   pub is : done ≡ before ++ step.Turn p ∷ rest
-  pub behind : start ≤ length before
+  pub after : start ≤ length before
   pub retired : IsRetirement (answer_after opening before (step.Turn p))
 
 -- Processor p is at a break: it runs, has no reference open, has retired an instruction after the first `start` steps,

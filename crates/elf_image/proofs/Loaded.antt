@@ -78,7 +78,7 @@ module _ (ps : List ProgramHeader) (w : ℕ) (r : Region) (n : ℕ) (p : Program
               | inl low ↦ copies.before i low
               | inr above ↦ elim (cases_lt (region_start r + i) (p.p_vaddr + p.p_filesz)) [
                 | inl within ↦ absurd (misses (above, omega arith))
-                | inr behind ↦ copies.behind i behind
+                | inr behind ↦ copies.after i behind
               ]
             ]
 
@@ -90,7 +90,7 @@ module _ (ps : List ProgramHeader) (w : ℕ) (r : Region) (n : ℕ) (p : Program
         here i true e s = copies.copied i s.0 (let h : region_start r + i - p.p_vaddr < p.p_filesz = grind (arith, nat_tests, e) in omega (arith, h, s.0))
         here i false e s =
             let h : p.p_filesz ≤ region_start r + i - p.p_vaddr = grind (arith, nat_tests, e) in
-            copies.behind i (omega (arith, h, s.0)) ∙ clear i s
+            copies.after i (omega (arith, h, s.0)) ∙ clear i s
 
         set : (k : ℕ) (q : ProgramHeader) (i : ℕ) → k < n + 1 → IsOne ps w r k q → Sets q (region_start r + i) →
             slice_index new i ≡ byte_of file q (region_start r + i)

@@ -109,7 +109,7 @@ module _ (w : ℕ) (file : List ℕ) (passed : Passed w file) where
       record { at = at; sets = rw test home }
 
   pub has_bytes : (region : Region) (bytes : List ℕ) → IsLoaded file (segments file) w region bytes → HasBytes file w region bytes
-  has_bytes region bytes l = record { set = set; unset = unset; behind = behind; last = last; fits = fits }
+  has_bytes region bytes l = record { set = set; unset = unset; after = behind; last = last; fits = fits }
     where
       fits : length bytes ≤ region_length w region
       fits =

@@ -30,7 +30,7 @@ byte_at : (file : List ℕ) (w : ℕ) (region : Region) (bytes : List ℕ) (i : 
 byte_at file w region bytes i h inside =
     elim (cases_lt i (length bytes)) [
       | inl less ↦ record { set = λ k p at s. h.set k p i at less s; unset = λ none. h.unset i less none }
-      | inr past ↦ record { set = λ k p at s. absurd (h.behind i past inside k p at s); unset = λ none. get_or_past bytes i 0 past }
+      | inr past ↦ record { set = λ k p at s. absurd (h.after i past inside k p at s); unset = λ none. get_or_past bytes i 0 past }
     ]
 
 byte_there : (file : List ℕ) (a b : ℕ) {x y : ℕ} → x ≡ a → b ≡ y → IsByteAt file x y → IsByteAt file a b

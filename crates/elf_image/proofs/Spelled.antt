@@ -16,14 +16,14 @@ use Rattle.elf_image.specs.Spellings.{local_offset, shared_offset, written_flags
 
 -- ---- numbers
 
-number_behind : (pre xs : List ℕ) (k size : ℕ) → number_at (pre ++ xs) (length pre + k) size ≡ number_at xs k size
+number_after : (pre xs : List ℕ) (k size : ℕ) → number_at (pre ++ xs) (length pre + k) size ≡ number_at xs k size
 unfolding number_at
-number_behind pre xs k zero = refl
-number_behind pre xs k (suc size) =
+number_after pre xs k zero = refl
+number_after pre xs k (suc size) =
     let place : length pre + k + 1 ≡ length pre + (k + 1) = omega arith in
     ap (λ a. a + 256 * number_at (pre ++ xs) (length pre + k + 1) size) (get_or-append-add pre xs k 0)
     ∙ ap (λ q. slice_index xs k + 256 * number_at (pre ++ xs) q size) place
-    ∙ ap (λ r. slice_index xs k + 256 * r) (number_behind pre xs (k + 1) size)
+    ∙ ap (λ r. slice_index xs k + 256 * r) (number_after pre xs (k + 1) size)
 
 -- ---- the ELF header
 
@@ -101,23 +101,23 @@ program_header_first o s n f rest a b c d =
     let flags : number_at (program_header_bytes o s n f ++ rest) 24 4 ≡ f = omega arith in
     λ i. record { p_type = 1; p_offset = offset i; p_vaddr = start i; p_filesz = filed i; p_memsz = placed i; p_flags = flags i }
 
-program_header_behind : (pre xs : List ℕ) → program_header (pre ++ xs) (length pre) ≡ program_header xs 0
+program_header_after : (pre xs : List ℕ) → program_header (pre ++ xs) (length pre) ≡ program_header xs 0
 unfolding program_header
-program_header_behind pre xs =
+program_header_after pre xs =
     let none : length pre ≡ length pre + 0 = omega arith in
-    let kind : number_at (pre ++ xs) (length pre) 4 ≡ number_at xs 0 4 = ap (λ q. number_at (pre ++ xs) q 4) none ∙ number_behind pre xs 0 4 in
+    let kind : number_at (pre ++ xs) (length pre) 4 ≡ number_at xs 0 4 = ap (λ q. number_at (pre ++ xs) q 4) none ∙ number_after pre xs 0 4 in
     λ i. record {
       p_type = kind i;
-      p_offset = number_behind pre xs 4 4 i;
-      p_vaddr = number_behind pre xs 8 4 i;
-      p_filesz = number_behind pre xs 16 4 i;
-      p_memsz = number_behind pre xs 20 4 i;
-      p_flags = number_behind pre xs 24 4 i;
+      p_offset = number_after pre xs 4 4 i;
+      p_vaddr = number_after pre xs 8 4 i;
+      p_filesz = number_after pre xs 16 4 i;
+      p_memsz = number_after pre xs 20 4 i;
+      p_flags = number_after pre xs 24 4 i;
     }
 
 header_back : (pre rest : List ℕ) (p : ProgramHeader) → IsSpelled p → program_header (pre ++ (bytes_of p ++ rest)) (length pre) ≡ p
 header_back pre rest p s =
-    program_header_behind pre (bytes_of p ++ rest) ∙ program_header_first p.p_offset p.p_vaddr p.p_filesz p.p_flags rest s.offset s.start s.count s.flags
+    program_header_after pre (bytes_of p ++ rest) ∙ program_header_first p.p_offset p.p_vaddr p.p_filesz p.p_flags rest s.offset s.start s.count s.flags
     ∙ (λ i. record { p_type = sym s.load i; p_offset = p.p_offset; p_vaddr = p.p_vaddr; p_filesz = p.p_filesz; p_memsz = sym s.same i; p_flags = p.p_flags })
 
 -- All program headers of the list can be read back from their bytes.

@@ -40,7 +40,7 @@ module _ (file : List ℕ) (w : ℕ) (region : Region) where
       elim (cases_lt (length one) (length other)) [
         | inl less ↦
             let last = b.last (omega arith) in
-            absurd (a.behind (length other - 1) (omega arith) (omega (arith, b.fits)) last.0 last.1 last.2 last.3)
+            absurd (a.after (length other - 1) (omega arith) (omega (arith, b.fits)) last.0 last.1 last.2 last.3)
         | inr more ↦ more
       ]
 

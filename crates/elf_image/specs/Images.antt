@@ -58,7 +58,7 @@ pub record HasBytes (file : List ℕ) (shared_words : ℕ) (region : Region) (by
       Sets p (region_start region + i) →
       slice_index bytes i ≡ byte_of file p (region_start region + i)
   pub unset : (i : ℕ) → i < length bytes → IsUnset (segments file) (region_start region + i) → slice_index bytes i ≡ 0
-  pub behind : (i : ℕ) → length bytes ≤ i → i < region_length shared_words region →
+  pub after : (i : ℕ) → length bytes ≤ i → i < region_length shared_words region →
       IsUnset (segments file) (region_start region + i)
   pub last : 0 < length bytes → IsSet (segments file) (region_start region + (length bytes - 1))
   pub fits : length bytes ≤ region_length shared_words region

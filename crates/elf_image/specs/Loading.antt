@@ -29,7 +29,7 @@ pub record CopiesSegment (file : List ℕ) (p : ProgramHeader) (start : ℕ) (ol
       (i : ℕ) → p.p_vaddr ≤ start + i → start + i < p.p_vaddr + p.p_filesz →
       slice_index new i ≡ slice_index file (p.p_offset + (start + i - p.p_vaddr))
   pub before : (i : ℕ) → start + i < p.p_vaddr → slice_index new i ≡ slice_index old i
-  pub behind : (i : ℕ) → p.p_vaddr + p.p_filesz ≤ start + i → slice_index new i ≡ slice_index old i
+  pub after : (i : ℕ) → p.p_vaddr + p.p_filesz ≤ start + i → slice_index new i ≡ slice_index old i
 
 -- The first `count` segments of the region are loaded, and what they do not set is zero.
 pub record AreLoaded (file : List ℕ) (ps : List ProgramHeader) (shared_words : ℕ) (region : Region) (count : ℕ)

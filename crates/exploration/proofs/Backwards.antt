@@ -41,7 +41,7 @@ use Rattle.local_reduction.specs.Results.{FinalResult, IsFlatResult}
 use Rattle.exploration.specs.Results.{IsOfTheMachine, AreOfTheMachine, stands_after, IsMachineResult}
 use Rattle.exploration.proofs.MachineEnds.{found_at, Matches, results_same, none_runs}
 use Rattle.exploration.proofs.Forwards.{turns_lawful, passes_all, theory_all, matches}
-use Rattle.exploration.proofs.Shifting.{events_join, events_behind, shift, behind, forget, as_before, all_shifted}
+use Rattle.exploration.proofs.Shifting.{events_join, events_after, shift, shift_all, forget, as_before, all_shifted}
 
 -- ---- lists of steps
 
@@ -234,7 +234,7 @@ module _ (c : Config) (code : List ℕ) (limits : IsWithinLimits c) (bytes : Are
       sound = sound_then;
     }
       where
-        there : all_after c code N steps ≡ behind (events_of N) (all_after c code (forget N) steps)
+        there : all_after c code N steps ≡ shift_all (events_of N) (all_after c code (forget N) steps)
         there = ap (λ M. all_after c code M steps) (sym (as_before N)) ∙ all_shifted c code (events_of N) steps (forget N) t.own
 
         reached : (passes (sizes_of c) (program c code) (map named steps) (from_machine (forget N))).machine ≡ all_after c code (forget N) steps
@@ -270,7 +270,7 @@ module _ (c : Config) (code : List ℕ) (limits : IsWithinLimits c) (bytes : Are
         joined p =
             ap (λ es. record { state = slice_index_or (flat_step F (entry.Processor k)).processors p no_processor; events = es })
             (ap (λ (g : ObservedCore). g.events ++ with_events (λ j. []) (one_events F k) p) (h.matches.cores p)
-            ∙ sym (events_behind (one_events F k) (with_events (λ j. []) events) p)
+            ∙ sym (events_after (one_events F k) (with_events (λ j. []) events) p)
             ∙ ap (λ (f : ℕ → List Event). f p) (sym (events_join events (one_events F k) (λ j. []))))
 
         steady_then : (role : ℕ → Role) × Steady (sizes_of c) (program c code) (theory.machine_after (sizes_of c) (program c code) (map named steps) N) role

@@ -51,28 +51,28 @@ events_join [] second shown = refl
 events_join ((p, x) ∷ first) second shown = events_join first second (put shown p (shown p ++ x ∷ []))
 
 -- A processor has shown what it had shown before, followed by its own of these events.
-pub events_behind : (events : List (ℕ × Event)) (shown : ℕ → List Event) (k : ℕ) → with_events shown events k ≡ shown k ++ with_events (λ j. []) events k
-events_behind [] shown k = sym (append-nil (shown k))
-events_behind ((p, x) ∷ events) shown k =
-    events_behind events (put shown p (shown p ++ x ∷ [])) k
+pub events_after : (events : List (ℕ × Event)) (shown : ℕ → List Event) (k : ℕ) → with_events shown events k ≡ shown k ++ with_events (λ j. []) events k
+events_after [] shown k = sym (append-nil (shown k))
+events_after ((p, x) ∷ events) shown k =
+    events_after events (put shown p (shown p ++ x ∷ [])) k
     ∙ ap (λ (core : ℕ → List Event). put core p (shown p ++ x ∷ []) k ++ with_events (λ j. []) events k) (fun_ext (λ q. sym (append-nil (shown q))))
     ∙ ap (λ (f : ℕ → List Event). f k ++ with_events (λ j. []) events k) (put_shifted (λ q es. shown q ++ es) (λ q. []) p (x ∷ []))
     ∙ append_assoc (shown k) (put (λ j. []) p (x ∷ []) k) (with_events (λ j. []) events k)
-    ∙ sym (ap (λ es. shown k ++ es) (events_behind events (put (λ j. []) p (x ∷ [])) k))
+    ∙ sym (ap (λ es. shown k ++ es) (events_after events (put (λ j. []) p (x ∷ [])) k))
 
 abbrev pub shift : (ℕ → List Event) → ℕ → ObservedCore → ObservedCore
 shift e p g = record { state = g.state; events = e p ++ g.events }
 
 -- the machine with these events put before those of its processors
-abbrev pub behind : (ℕ → List Event) → theory.Machine ObservedCore → theory.Machine ObservedCore
-behind e N = record { net = N.net; mem = N.mem; core = λ p. shift e p (N.core p); is_open = N.is_open }
+abbrev pub shift_all : (ℕ → List Event) → theory.Machine ObservedCore → theory.Machine ObservedCore
+shift_all e N = record { net = N.net; mem = N.mem; core = λ p. shift e p (N.core p); is_open = N.is_open }
 
 -- the machine as if its processors had shown nothing
 abbrev pub forget : theory.Machine ObservedCore → theory.Machine ObservedCore
 forget N = record { net = N.net; mem = N.mem; core = λ p. record { state = (N.core p).state; events = [] }; is_open = N.is_open }
 
 -- A machine that forgets its events, and then has them put back, is as it was.
-pub as_before : (N : theory.Machine ObservedCore) → behind (events_of N) (forget N) ≡ N
+pub as_before : (N : theory.Machine ObservedCore) → shift_all (events_of N) (forget N) ≡ N
 as_before N =
     let cores : (λ p. shift (events_of N) p (record { state = (N.core p).state; events = [] })) ≡ N.core =
     fun_ext (λ p. ap (λ es. record { state = (N.core p).state; events = es }) (append-nil (N.core p).events)) in
@@ -91,16 +91,17 @@ module _ (c : Config) (code : List ℕ) (e : ℕ → List Event) where
 
   module _ (N : theory.Machine ObservedCore) where
     abbrev Same : theory.Result ObservedCore → theory.Result ObservedCore → Type 0
-    Same r s = r.machine ≡ behind e s.machine
+    Same r s = r.machine ≡ shift_all e s.machine
 
     put_observed : (p : ℕ) (x y : ObservedCore) → x ≡ shift e p y → put (λ q. shift e q (N.core q)) p x ≡ (λ q. shift e q (put N.core p y q))
     put_observed p x y same = ap (put (λ q. shift e q (N.core q)) p) same ∙ put_shifted (shift e) N.core p y
 
-    either : (b : Bool) (r s : theory.Result ObservedCore) → Same r s → Same (if b then r else theory.stalled (behind e N)) (if b then s else theory.stalled N)
+    either : (b : Bool) (r s : theory.Result ObservedCore) → Same r s → Same (if b then r else theory.stalled (shift_all e N))
+        (if b then s else theory.stalled N)
     either true r s h = h
     either false r s h = refl
 
-    by_reply : (p : ℕ) (ys : List Reply) → Same (theory.retire_from (program c code) (behind e N) p ys) (theory.retire_from (program c code) N p ys)
+    by_reply : (p : ℕ) (ys : List Reply) → Same (theory.retire_from (program c code) (shift_all e N) p ys) (theory.retire_from (program c code) N p ys)
     by_reply p [] = refl
     by_reply p (y ∷ ys) =
         ap (λ (core : ℕ → ObservedCore). record { net = port_taken N.net p; mem = N.mem; core = core; is_open = put N.is_open p false })
@@ -108,7 +109,7 @@ module _ (c : Config) (code : List ℕ) (e : ℕ → List Event) where
         (retired_by (N.core p) (after_reply (next c code p (N.core p).state) y.value))
         (retired_shifted p (N.core p) (after_reply (next c code p (N.core p).state) y.value)))
 
-    by_kind : (p : ℕ) (kind : Kind) → Same (theory.begin (program c code) (behind e N) p kind) (theory.begin (program c code) N p kind)
+    by_kind : (p : ℕ) (kind : Kind) → Same (theory.begin (program c code) (shift_all e N) p kind) (theory.begin (program c code) N p kind)
     by_kind p Rests = refl
     by_kind p Alone =
         ap (λ (core : ℕ → ObservedCore). record { net = N.net; mem = N.mem; core = core; is_open = N.is_open })
@@ -116,44 +117,45 @@ module _ (c : Config) (code : List ℕ) (e : ℕ → List Event) where
         (alone_shifted p (N.core p) (next c code p (N.core p).state)))
     by_kind p Refers = refl
 
-    by_turn : (p : ℕ) (b : Bool) → Same (theory.turned (program c code) (behind e N) p b) (theory.turned (program c code) N p b)
+    by_turn : (p : ℕ) (b : Bool) → Same (theory.turned (program c code) (shift_all e N) p b) (theory.turned (program c code) N p b)
     by_turn p true = by_reply p (N.net.replies 0 p)
     by_turn p false = by_kind p ((program c code).kind p (N.core p))
 
-    by_up : (r : UpMove × Net) → Same (theory.went_up (behind e N) r) (theory.went_up N r)
+    by_up : (r : UpMove × Net) → Same (theory.went_up (shift_all e N) r) (theory.went_up N r)
     by_up (up.Stalled, net) = refl
     by_up (up.Moved, net) = refl
     by_up (up.Combined first second, net) = refl
 
-    by_down : (r : DownMove × Net) → Same (theory.went_down (behind e N) r) (theory.went_down N r)
+    by_down : (r : DownMove × Net) → Same (theory.went_down (shift_all e N) r) (theory.went_down N r)
     by_down (down.Stalled, net) = refl
     by_down (down.Moved, net) = refl
     by_down (down.Answered to, net) = refl
 
     by_serving : (i : ℕ) (xs : List Request) (ys : List Reply) →
-        Same (theory.serve_from (sizes_of c) (behind e N) i xs ys) (theory.serve_from (sizes_of c) N i xs ys)
+        Same (theory.serve_from (sizes_of c) (shift_all e N) i xs ys) (theory.serve_from (sizes_of c) N i xs ys)
     by_serving i [] ys = refl
     by_serving i (x ∷ xs) [] = refl
     by_serving i (x ∷ xs) (y ∷ ys) = refl
 
-    step_shifted : (s : Step) → IsOfTheMachine s → after c code (behind e N) s ≡ behind e (after c code N s)
+    step_shifted : (s : Step) → IsOfTheMachine s → after c code (shift_all e N) s ≡ shift_all e (after c code N s)
     unfolding after
-    step_shifted (step.Turn p) h = either (nat_lt p (2 ^ c.k)) (theory.turned (program c code) (behind e N) p (N.is_open p))
+    step_shifted (step.Turn p) h = either (nat_lt p (2 ^ c.k)) (theory.turned (program c code) (shift_all e N) p (N.is_open p))
         (theory.turned (program c code) N p (N.is_open p)) (by_turn p (N.is_open p))
     step_shifted (step.Up s w) h =
-        either (nat_lt w (2 ^ c.k)) (theory.went_up (behind e N) (moved_up (sizes_of c) N.net s w)) (theory.went_up N (moved_up (sizes_of c) N.net s w))
+        either (nat_lt w (2 ^ c.k)) (theory.went_up (shift_all e N) (moved_up (sizes_of c) N.net s w)) (theory.went_up N (moved_up (sizes_of c) N.net s w))
         (by_up (moved_up (sizes_of c) N.net s w))
     step_shifted (step.Serve i) h =
-        either (nat_lt i (2 ^ c.k)) (theory.serve_from (sizes_of c) (behind e N) i (N.net.requests c.k i) (N.net.replies c.k i))
+        either (nat_lt i (2 ^ c.k)) (theory.serve_from (sizes_of c) (shift_all e N) i (N.net.requests c.k i) (N.net.replies c.k i))
         (theory.serve_from (sizes_of c) N i (N.net.requests c.k i) (N.net.replies c.k i)) (by_serving i (N.net.requests c.k i) (N.net.replies c.k i))
     step_shifted (step.Down s w) h =
-        either (nat_lt w (2 ^ c.k)) (theory.went_down (behind e N) (moved_down (sizes_of c) N.net s w)) (theory.went_down N (moved_down (sizes_of c) N.net s w))
+        either (nat_lt w (2 ^ c.k)) (theory.went_down (shift_all e N) (moved_down (sizes_of c) N.net s w))
+        (theory.went_down N (moved_down (sizes_of c) N.net s w))
         (by_down (moved_down (sizes_of c) N.net s w))
     step_shifted (step.Poke q) h = absurd h
 
   -- The machine's steps do the same whatever was shown before, and append their events to it.
   pub all_shifted : (steps : List Step) (N : theory.Machine ObservedCore) → AreOfTheMachine steps →
-      all_after c code (behind e N) steps ≡ behind e (all_after c code N steps)
+      all_after c code (shift_all e N) steps ≡ shift_all e (all_after c code N steps)
   unfolding all_after
   all_shifted [] N all = refl
   all_shifted (s ∷ steps) N all = ap (λ M. all_after c code M steps) (step_shifted N s all.0) ∙ all_shifted steps (after c code N s) all.1

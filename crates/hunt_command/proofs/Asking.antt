@@ -116,8 +116,8 @@ module _ (plan : List Step) (limit : ℕ) (old l new : Log) (s : Step) (rest : L
     under = step_under old l new s o i.opening i.replay i.own.0 taken i.under replayed plain;
   }
 
-  behind : length old.steps ≤ length l.steps
-  behind = subst (λ xs. length old.steps ≤ length xs) (sym i.steps) (longer old.opening old.steps i.asked)
+  start_is_past : length old.steps ≤ length l.steps
+  start_is_past = subst (λ xs. length old.steps ≤ length xs) (sym i.steps) (longer old.opening old.steps i.asked)
 
   -- If a step asked for is a fault, or no processor runs after it, the run is over.
   pub run_over : IsFault o ⊎ (HasRunning new.machine → ⊥) → WasAsked plan limit old Over new
@@ -130,5 +130,5 @@ module _ (plan : List Step) (limit : ℕ) (old l new : Log) (s : Step) (rest : L
     steps = steps_more;
     few = few_more;
     first = first_more;
-    ends = step_over old l new s o i.opening i.replay i.own.0 taken i.under replayed behind over;
+    ends = step_over old l new s o i.opening i.replay i.own.0 taken i.under replayed start_is_past over;
   }

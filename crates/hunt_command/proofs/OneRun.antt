@@ -30,9 +30,9 @@ either_goes_on (x ∷ xs) r (y ∷ ys) s e = by (either_goes_on xs r ys s (let r
     by (inl (rest, is)) = inl (rest, ap₂ (λ z zs. z ∷ zs) (sym head) is)
     by (inr (rest, is)) = inr (rest, ap₂ (λ z zs. z ∷ zs) head is)
 
-none_behind : (xs ys zs : List Step) → length (xs ++ ys ++ zs) ≤ length xs → ys ≡ []
-none_behind xs [] zs short = refl
-none_behind xs (y ∷ ys) zs short =
+none_after : (xs ys zs : List Step) → length (xs ++ ys ++ zs) ≤ length xs → ys ≡ []
+none_after xs [] zs short = refl
+none_after xs (y ∷ ys) zs short =
     let one = length-append (xs ++ y ∷ ys) zs in let two = length-append xs (y ∷ ys) in absurd (omega (arith, one, two, short))
 
 -- ---- two runs
@@ -64,7 +64,7 @@ module _ (c : Config) (image : ImageContents) (number most : ℕ) where
       let all : length (schedule c.k number most) ≡ length (one.ran.asked.asked ++ rest ++ two.ran.asked.unasked) =
       ap length (plan_is d b two ∙ ap (λ xs. xs ++ two.ran.asked.unasked) is) in
       let plain = length-append one.ran.asked.asked [] in
-      none_behind one.ran.asked.asked rest two.ran.asked.unasked (omega (arith, whole, all, plain))
+      none_after one.ran.asked.asked rest two.ran.asked.unasked (omega (arith, whole, all, plain))
 
 has_ended : (m : MachineLists) (limit : ℕ) (steps unasked rest : List Step) (e : SweepEnd) → EndsWith m 0 limit steps unasked e →
     (unasked ≡ [] → rest ≡ []) → HasEnded limit m steps rest

@@ -10,7 +10,7 @@ use Rattle.steps.specs.declared.step.Step.TheVariants.{Turn, Up, Serve, Down}
 use Rattle.schedules.specs.Own.{AreOwn, IsOwn}
 use Rattle.schedules.proofs.Lemmas.{own_both, own_each}
 use Rattle.schedules.specs.Choices.{by_stage, by_wire, choices, first_state, next_state}
-use Rattle.hunt_command.specs.Schedules.{favoured_processor, moves_behind, schedule, turns_from}
+use Rattle.hunt_command.specs.Schedules.{favoured_processor, moves_after, schedule, turns_from}
 
 -- The steps from place i on are the one there, and then those from place i + 1 on.
 pub drop_at : (xs : List Step) (i : ℕ) (s : Step) → slice_get xs i ≡ Some s → drop i xs ≡ s ∷ drop (i + 1) xs
@@ -25,8 +25,8 @@ pub turn_next : (k number x before turns place y p next : ℕ) → length (choic
 turn_next k number x before zero place y p next past some is chosen moved = absurd (some refl)
 turn_next k number x before (suc n) place y p next past some is chosen moved =
     ap (λ xs. xs ++ turns_from k number x before (suc n)) (drop_all place (choices k) past)
-    ∙ ap (λ z. Turn (favoured_processor k number z before) ∷ (moves_behind k z ++ turns_from k number z (favoured_processor k number z before) n)) (sym is)
-    ∙ ap (λ q. Turn q ∷ (moves_behind k y ++ turns_from k number y q n)) (sym chosen)
+    ∙ ap (λ z. Turn (favoured_processor k number z before) ∷ (moves_after k z ++ turns_from k number z (favoured_processor k number z before) n)) (sym is)
+    ∙ ap (λ q. Turn q ∷ (moves_after k y ++ turns_from k number y q n)) (sym chosen)
     ∙ ap₂ (λ xs m. Turn p ∷ (xs ++ turns_from k number y p m)) (sym (by (y / 2 ^ 8 % 2 == 0) moved)) (let same : n ≡ suc n - 1 = omega arith in same)
   where
     by : (b : Bool) → next ≡ (if b then 0 else place) → drop next (choices k) ≡ (if b then choices k else [])
@@ -45,7 +45,7 @@ own_choices k =
     (own_both (by_stage k k Up) (by_wire k Serve) (own_stages k k Up (λ s w. tt)) (own_each Serve (λ w. tt) (range_with_len 0 (2 ^ k))))
     (own_stages k k Down (λ s w. tt))
 
-own_moves : (k x : ℕ) → AreOwn (moves_behind k x)
+own_moves : (k x : ℕ) → AreOwn (moves_after k x)
 own_moves k x = by (x / 2 ^ 8 % 2 == 0)
   where
     by : (b : Bool) → AreOwn (if b then choices k else [])
@@ -56,7 +56,7 @@ own_turns : (k start x before turns : ℕ) → AreOwn (turns_from k start x befo
 own_turns k start x before zero = tt
 own_turns k start x before (suc n) =
     let y = next_state x in
-    let p = favoured_processor k start y before in (tt, own_both (moves_behind k y) (turns_from k start y p n) (own_moves k y) (own_turns k start y p n))
+    let p = favoured_processor k start y before in (tt, own_both (moves_after k y) (turns_from k start y p n) (own_moves k y) (own_turns k start y p n))
 
 -- No step of a random schedule is a poke.
 pub own_schedule : (k number turns : ℕ) → AreOwn (schedule k number turns)

@@ -21,17 +21,17 @@ module _ {T W : Type 0} (opens : T → (number : ℕ) → W → T → Type 0) (c
   abbrev Written : List ℕ → T → T → Type 0
   Written ns old new = AreWritten opens closes has_failed contents c image most ns old new
 
-  one_behind : (ns : List ℕ) (n : ℕ) (old middle new : T) → Written ns old middle → IsWhole opens closes has_failed contents c image most n middle new →
+  one_after : (ns : List ℕ) (n : ℕ) (old middle new : T) → Written ns old middle → IsWhole opens closes has_failed contents c image most n middle new →
       Written (ns ++ n ∷ []) old new
-  one_behind [] n old middle new all one =
+  one_after [] n old middle new all one =
       (new, subst (λ t. IsWhole opens closes has_failed contents c image most n t new) all one, refl)
-  one_behind (m ∷ ns) n old middle new all one = (all.0, all.1, one_behind ns n all.0 middle new all.2 one)
+  one_after (m ∷ ns) n old middle new all one = (all.0, all.1, one_after ns n all.0 middle new all.2 one)
 
   -- If the traces of the first numbers are written, and then the next, one more is written.
   pub written_more : (ns : List ℕ) (i n : ℕ) (old middle new : T) → slice_get ns i ≡ Some n → Written (take i ns) old middle →
       IsWhole opens closes has_failed contents c image most n middle new → Written (take (i + 1) ns) old new
   written_more ns i n old middle new there all one =
-      subst (λ xs. Written xs old new) (sym (taken_more ns i n there)) (one_behind (take i ns) n old middle new all one)
+      subst (λ xs. Written xs old new) (sym (taken_more ns i n there)) (one_after (take i ns) n old middle new all one)
 
   -- If no number is left to write, the traces of all numbers are written.
   pub written_whole : (ns : List ℕ) (i : ℕ) (old new : T) → length ns ≤ i → Written (take i ns) old new → Written ns old new

@@ -11,8 +11,8 @@ abbrev pub favoured_processor : (k start x before : ℕ) → ℕ
 favoured_processor k start x before = if x / 2 ^ 16 % 2 ^ (start % 6) == 0 then x % 2 ^ k else before
 
 -- the network's steps after a turn: after about half of the turns, each of its moves and services once
-abbrev pub moves_behind : (k x : ℕ) → List Step
-moves_behind k x = if x / 2 ^ 8 % 2 == 0 then choices k else []
+abbrev pub moves_after : (k x : ℕ) → List Step
+moves_after k x = if x / 2 ^ 8 % 2 == 0 then choices k else []
 
 -- this many turns from a state of the generator on, each with the network's steps after it; one processor was favoured
 -- before
@@ -20,7 +20,7 @@ abbrev pub turns_from : (k start x before turns : ℕ) → List Step
 turns_from k start x before zero = []
 turns_from k start x before (suc n) =
     let y = next_state x in
-    let p = favoured_processor k start y before in Turn p ∷ moves_behind k y ++ turns_from k start y p n
+    let p = favoured_processor k start y before in Turn p ∷ moves_after k y ++ turns_from k start y p n
 
 -- the schedule of the run with this number
 unfoldable pub schedule : (k start turns : ℕ) → List Step

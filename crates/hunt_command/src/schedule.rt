@@ -70,7 +70,7 @@ impl Schedule {
         self.turns -= 1;
         self.state = next_state(self.state);
         self.favourite = favoured_processor(self.k, self.number, self.state, self.favourite);
-        self.place = place_behind(self.state, place);
+        self.place = place_after(self.state, place);
         Some(Step::Turn(self.favourite))
     }
 }
@@ -87,7 +87,7 @@ fn choice_count(k: u8) -> u32
 }
 
 /// The place in the list of choices after a turn that left this state: the list's beginning, or its end.
-fn place_behind(state: u32, end: u32) -> u32
+fn place_after(state: u32, end: u32) -> u32
     ensures { result ≡ (if state / 2 ^ 8 % 2 == 0 then 0 else end) }
 {
     if state / 256 % 2 == 0 { 0 } else { end }

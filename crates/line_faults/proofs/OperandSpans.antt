@@ -40,8 +40,8 @@ first_comma s parts lt e =
     ∙ ap (λ (q : Span × Span). trimmed_span q.0 ∷ operand_spans q.1) (sym both)
 
 -- The part of a piece after a byte is shorter than the piece.
-pub behind_shorter : (p : ℕ → Bool) (s : Span) (parts : Span × Span) → Some parts ≡ cut_span p s → length parts.1.bytes < length s.bytes
-behind_shorter p s parts e = go (cut_at p s.bytes) (cut_round p s.bytes) e
+pub rest_shorter : (p : ℕ → Bool) (s : Span) (parts : Span × Span) → Some parts ≡ cut_span p s → length parts.1.bytes < length s.bytes
+rest_shorter p s parts e = go (cut_at p s.bytes) (cut_round p s.bytes) e
   where
     go : (o : Option (List ℕ × List ℕ)) → IfSome o (RoundByte s.bytes) → Some parts ≡ option_map (round_byte s.start) o
         → length parts.1.bytes < length s.bytes

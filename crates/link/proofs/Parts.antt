@@ -9,6 +9,6 @@ part_front a b t u (written, missing, whole, some, appends) =
     (written, missing ++ u, ap (λ x. x ++ u) whole ∙ append_assoc written missing u, omega (arith, length-append missing u, some), appends)
 
 -- A text's first part, followed by a beginning of the rest, is a beginning of the text.
-pub part_behind : EndsInTheRest
-part_behind a b c t u before (written, missing, whole, some, appends) =
+pub part_after : EndsInTheRest
+part_after a b c t u before (written, missing, whole, some, appends) =
     (t ++ written, missing, ap (λ x. t ++ x) whole ∙ sym (append_assoc t written missing), some, Appends-trans a b c t written before appends)

@@ -8,7 +8,7 @@ use Rattle.flat_machine.specs.declared.poke.Entry.TheVariants as entry
 use Rattle.flat_machine.specs.State.{FlatState, Processor, is_running, setting_of}
 use Rattle.flat_machine.specs.Turns.{Turn, Retires, Reaches, Stops, turn_of}
 use Rattle.flat_machine.specs.Flat.{taken, with_taken, flat_step, flat_run, flat_events}
-use Rattle.local_reduction.specs.LocalStates.{printed_after, consoles_after, turns, LocalState, behind, stopped_by, alone_by, IsReference}
+use Rattle.local_reduction.specs.LocalStates.{printed_after, consoles_after, turns, LocalState, retire, stopped_by, alone_by, IsReference}
 use Rattle.local_reduction.specs.Closing.{IsAlike, IsForgetful, MacroState, IsIn, IsMove, HasSpinner, HaveNoSpinner, IsClosed}
 use Rattle.local_reduction.specs.Closing.{MayMove, local_state_of, ReachesMacroState, IsKeptOf, HasStopped}
 use Rattle.local_reduction.proofs.OneTurn.{Stands, standing_stays, one_events, stepped, showed, stays, silent, absent}
@@ -66,7 +66,7 @@ module _ (at : ℕ → Setting) (code : List ℕ) (kept : LocalState → LocalSt
     pub retiring_turn : IsForgetful at code kept → (q : Processor) (r : Retired) → turn_of (at k) code p ≡ Retires q r → Nearer
     retiring_turn f q r e =
         nearer (with_taken m k (taken p m.shared (Retires q r))) (becomes (Retires q r) e)
-        (own_counted at code kept m consoles s k p later counts h there (others (Retires q r) e) f (behind mine (q, r)) runs
+        (own_counted at code kept m consoles s k p later counts h there (others (Retires q r) e) f (retire mine (q, r)) runs
         (λ w. subst IsReference e w) (ap (alone_by mine) e) (printed (Retires q r) e))
 
     -- If the turn stops the processor, the machine reaches s by one turn less.
@@ -107,7 +107,7 @@ module _ (at : ℕ → Setting) (code : List ℕ) (kept : LocalState → LocalSt
             let alike = alike_to (turn_of (at k) code move.local_state.processor) move.turn alike0 in
             let e' : turn_of (at k) code p ≡ Reaches move.word move.change after = e ∙ (λ i. Reaches (sym alike.0 i) (sym alike.1 i) after) in
             let done = reach_counted at code kept m consoles s k p later counts h there (others (Reaches move.word move.change after) e') f move.word
-            move.change after (λ x. behind move.local_state (move.after x)) move.count alike.2 move.at_reference
+            move.change after (λ x. retire move.local_state (move.after x)) move.count alike.2 move.at_reference
             (printed (Reaches move.word move.change after) e') in
             subst (λ n. ReachesIn at code kept n later (put counts k move.count) t) (sym (becomes (Reaches move.word move.change after) e'))
             (subst (λ u. ReachesIn at code kept (with_taken m k (taken p m.shared (Reaches move.word move.change after))) later (put counts k move.count) u)

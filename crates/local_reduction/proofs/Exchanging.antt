@@ -4,7 +4,7 @@ use Rattle.std.specs.Prelude.{slice_get, slice_set, slice_index}
 use Rattle.std.proofs.lemmas.Bool.{cases_eq}
 use Rattle.flat_machine.specs.declared.setting.Setting.{Setting}
 use Rattle.flat_machine.proofs.Lemmas.{set_other}
-use Rattle.local_reduction.specs.LocalStates.{LocalState, behind, alone, IsReference, IsAtReference}
+use Rattle.local_reduction.specs.LocalStates.{LocalState, retire, alone, IsReference, IsAtReference}
 use Rattle.local_reduction.specs.Closing.{MacroState, gone, IsMove, IsShort, IsWay, MayMove, HasSpinner}
 use Rattle.local_reduction.specs.Exchanging.{IsBeside, AreAlike, Exchange, IsExchanged, IsExchangeOf, IsUniform}
 use Rattle.local_reduction.specs.Exchanging.{IsMoveOfAny, IsMoveUpTo, IsShortUpTo, IsWayUpTo}
@@ -123,7 +123,7 @@ module _ (classes : List ℕ) where
       mine = move k (sym (x.alike k) ∙ ap (slice_get classes) is)
 
       arrived : ℕ → LocalState
-      arrived old = kept (alone mine.count (at k) code (behind mine.local_state (mine.after old)))
+      arrived old = kept (alone mine.count (at k) code (retire mine.local_state (mine.after old)))
 
       after_move : MacroState
       after_move = gone t k (arrived (slice_index t.shared mine.word)) mine.word (mine.change (slice_index t.shared mine.word))
@@ -146,7 +146,7 @@ module _ (classes : List ℕ) where
           turn = mine.turn;
           count = mine.count;
           at_reference = subst (λ ws. IsAtReference (at k) code (alone mine.count (at k) code
-              (behind mine.local_state (mine.after (slice_index ws mine.word)))).processor)
+              (retire mine.local_state (mine.after (slice_index ws mine.word)))).processor)
               (sym e.shared) mine.at_reference;
           leaves = refl;
         },

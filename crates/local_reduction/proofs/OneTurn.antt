@@ -12,7 +12,7 @@ use Rattle.flat_machine.specs.State.{FlatState, Processor, is_running, setting_o
 use Rattle.flat_machine.specs.Turns.{Turn, Retires, Reaches, Stops, turn_of}
 use Rattle.flat_machine.specs.Flat.{taken, with_taken, turned, turn_event, flat_step, flat_event, with_processor_number}
 use Rattle.flat_machine.proofs.Lemmas.{set_other}
-use Rattle.local_reduction.specs.LocalStates.{printed_after, console_after, consoles_after, LocalState, behind, stopped_by}
+use Rattle.local_reduction.specs.LocalStates.{printed_after, console_after, consoles_after, LocalState, retire, stopped_by}
 use Rattle.local_reduction.specs.LocalStates.{alone_by, alone_once, alone, IsReference, GoesOn, Spins, IsAtReference}
 use Rattle.local_reduction.specs.Closing.{IsAlike, IsForgetful, MacroState, gone, HasSpinner, local_state_of, ReachesMacroState}
 use Rattle.local_reduction.proofs.Spinning.{alone_processor}
@@ -417,9 +417,9 @@ module _ (at : ℕ → Setting) (code : List ℕ) (kept : LocalState → LocalSt
     -- If a processor refers to a word, and is at its reference n turns after that, the machine reaches it, by n turns of
     -- that processor, to the state with its new local state and the word written.
     pub reach_counted : (f : IsForgetful at code kept) (word : ℕ) (change : ℕ → ℕ) (after : ℕ → Processor × Retired) (other : ℕ → LocalState) (n : ℕ) →
-        ((x : ℕ) → kept (other x) ≡ kept (behind here (after x))) →
+        ((x : ℕ) → kept (other x) ≡ kept (retire here (after x))) →
         IsAtReference (at k) code (alone n (at k) code (other (slice_index s.shared word))).processor →
-        later k ≡ (behind here (after (slice_index m.shared word))).console →
+        later k ≡ (retire here (after (slice_index m.shared word))).console →
         ReachesIn
         (record m {
           processors = slice_set m.processors k (after (slice_index m.shared word)).0;
@@ -450,22 +450,22 @@ module _ (at : ℕ → Setting) (code : List ℕ) (kept : LocalState → LocalSt
         t : MacroState
         t = gone s k (kept (alone n (at k) code (other (slice_index s.shared word)))) word (change (slice_index s.shared word))
 
-        same : kept (alone n (at k) code (other (slice_index s.shared word))) ≡ kept (alone n (at k) code (behind here (after (slice_index s.shared word))))
-        same = alone_alike f n k (other (slice_index s.shared word)) (behind here (after (slice_index s.shared word))) (alike (slice_index s.shared word))
+        same : kept (alone n (at k) code (other (slice_index s.shared word))) ≡ kept (alone n (at k) code (retire here (after (slice_index s.shared word))))
+        same = alone_alike f n k (other (slice_index s.shared word)) (retire here (after (slice_index s.shared word))) (alike (slice_index s.shared word))
 
-        old_same : behind here (after (slice_index s.shared word)) ≡ behind here (after (slice_index m.shared word))
-        old_same = ap (λ ws. behind here (after (slice_index ws word))) h.shared
+        old_same : retire here (after (slice_index s.shared word)) ≡ retire here (after (slice_index m.shared word))
+        old_same = ap (λ ws. retire here (after (slice_index ws word))) h.shared
 
         by_place : (j : ℕ) (y : Processor) → ((j ≡ k) × (y ≡ (after (slice_index m.shared word)).0)) ⊎ ((j ≢ k) × (slice_get m.processors j ≡ Some y)) →
             StandsIn t j (put counts k n j) (local_state_of y (later j))
         by_place j y (inl x) =
             let stood = h.each k p there in
-            let is : behind here (after (slice_index m.shared word)) ≡ local_state_of y (later j) =
+            let is : retire here (after (slice_index m.shared word)) ≡ local_state_of y (later j) =
             λ i. local_state_of (sym x.1 i) ((sym printed ∙ ap later (sym x.0)) i) in
-            stands_same t j k (put counts k n j) n (local_state_of y (later j)) (behind here (after (slice_index s.shared word))) (sym x.0)
+            stands_same t j k (put counts k n j) n (local_state_of y (later j)) (retire here (after (slice_index s.shared word))) (sym x.0)
             (sym (put_here counts k n) ∙ ap (put counts k n) (sym x.0)) (old_same ∙ is) (
               set_there s.local_states k (kept q) _ stood.0 ∙ ap Some same,
-              at_reference_alike f k q (alone n (at k) code (behind here (after (slice_index s.shared word)))) same at_reference,
+              at_reference_alike f k q (alone n (at k) code (retire here (after (slice_index s.shared word)))) same at_reference,
             )
         by_place j y (inr x) =
             let stood = h.each j y x.1 in

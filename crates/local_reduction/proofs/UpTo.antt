@@ -5,7 +5,7 @@ use Rattle.flat_machine.specs.declared.setting.Setting.{Setting}
 use Rattle.flat_machine.specs.State.{FlatState, is_running, setting_of}
 use Rattle.flat_machine.specs.Turns.{turn_of}
 use Rattle.flat_machine.specs.Flat.{flat_run, flat_events}
-use Rattle.local_reduction.specs.LocalStates.{LocalState, behind, alone, consoles_after, turns, IsReference, IsAtReference}
+use Rattle.local_reduction.specs.LocalStates.{LocalState, retire, alone, consoles_after, turns, IsReference, IsAtReference}
 use Rattle.local_reduction.specs.Closing.{IsForgetful, MacroState, gone, HasSpinner, IsIn, IsMove, ReachesMacroState, IsKeptOf}
 use Rattle.local_reduction.specs.Exchanging.{IsBeside, IsExchangeOf, IsMoveUpTo, IsClosedUpTo}
 use Rattle.local_reduction.specs.Laws.{NumbersAreNotAskedFor, MovesAreOfAny, SetsClosedUpToContainAllFinalStates}
@@ -25,15 +25,15 @@ not_asked s t code count a b h = alone_same s t b code count a h
 -- A move after which the processor never asks for its number can be made by any processor of its class.
 pub of_any : MovesAreOfAny
 of_any at code kept classes s k i a word change after count f beside there runs turn at_reference asks j alike =
-    let same : alone count (at i) code (behind a (after (slice_index s.shared word))) ≡ alone count (at j) code (behind a (after (slice_index s.shared word))) =
-    alone_same (at i) (at j) (beside i j) code count (behind a (after (slice_index s.shared word))) (asks count) in
+    let same : alone count (at i) code (retire a (after (slice_index s.shared word))) ≡ alone count (at j) code (retire a (after (slice_index s.shared word))) =
+    alone_same (at i) (at j) (beside i j) code count (retire a (after (slice_index s.shared word))) (asks count) in
     subst (λ z. IsMove (λ _. at j) code kept s k (gone s k (kept z) word (change (slice_index s.shared word)))) (sym same)
     (moved (λ _. at j) code kept s k a word change after count
     (record { running = f.running; turn = λ _ b running. f.turn j b running; stopped = f.stopped; once = f.once }) there runs
     (sym (reference_same (at i) (at j) (beside i j) code a.processor (subst IsReference (sym turn) tt)) ∙ turn)
     (subst (λ z. IsAtReference (at j) code z.processor) same
-    (at_reference_same (at i) (at j) (beside i j) code (alone count (at i) code (behind a (after (slice_index s.shared word))))
-    (never_later count (at i) code (behind a (after (slice_index s.shared word))) asks) at_reference)))
+    (at_reference_same (at i) (at j) (beside i j) code (alone count (at i) code (retire a (after (slice_index s.shared word))))
+    (never_later count (at i) code (retire a (after (slice_index s.shared word))) asks) at_reference)))
 
 -- The settings of a flat machine's processors differ by their numbers alone.
 pub beside_all : (at : ℕ → Setting) (m : FlatState) → ((k : ℕ) → setting_of m k ≡ at k) → (j k : ℕ) → IsBeside (at j) (at k)

@@ -6,15 +6,15 @@ use Rattle.flat_machine.specs.declared.event.Retired.{Retired}
 use Rattle.flat_machine.specs.declared.event.Cause.{Cause}
 use Rattle.flat_machine.specs.State.{FlatState, Processor, is_running, setting_of}
 use Rattle.flat_machine.specs.Turns.{Turn, Retires, Reaches, Stops, turn_of}
-use Rattle.local_reduction.specs.LocalStates.{LocalState, behind, stopped_by, alone, IsReference, GoesOn, IsAtReference}
+use Rattle.local_reduction.specs.LocalStates.{LocalState, retire, stopped_by, alone, IsReference, GoesOn, IsAtReference}
 
 -- ---- what is forgotten
 
 -- Two turns go the same way, and leave the same of their local states, except for what is forgotten.
 abbrev pub IsAlike : (kept : LocalState → LocalState) → LocalState → LocalState → Turn → Turn → Type 0
-IsAlike kept a b (Retires p r) (Retires q o) = kept (behind a (p, r)) ≡ kept (behind b (q, o))
+IsAlike kept a b (Retires p r) (Retires q o) = kept (retire a (p, r)) ≡ kept (retire b (q, o))
 IsAlike kept a b (Reaches w c f) (Reaches v d g) =
-    (w ≡ v) × (c ≡ d) × ((x : ℕ) → kept (behind a (f x)) ≡ kept (behind b (g x)))
+    (w ≡ v) × (c ≡ d) × ((x : ℕ) → kept (retire a (f x)) ≡ kept (retire b (g x)))
 IsAlike kept a b (Stops c) (Stops d) = c ≡ d
 IsAlike kept a b _ _ = ⊥
 
@@ -61,9 +61,9 @@ pub record IsMove (at : ℕ → Setting) (code : List ℕ) (kept : LocalState �
   pub count : ℕ
   pub at_reference :
       IsAtReference (at k) code
-      (alone count (at k) code (behind local_state (after (slice_index s.shared word)))).processor
+      (alone count (at k) code (retire local_state (after (slice_index s.shared word)))).processor
   pub leaves :
-      t ≡ gone s k (kept (alone count (at k) code (behind local_state (after (slice_index s.shared word)))))
+      t ≡ gone s k (kept (alone count (at k) code (retire local_state (after (slice_index s.shared word)))))
       word (change (slice_index s.shared word))
 
 -- A processor runs, and its next turn is no reference. If each processor is at its reference, this one spins, and so no

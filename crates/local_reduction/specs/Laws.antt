@@ -5,7 +5,7 @@ use Rattle.flat_machine.specs.declared.event.Retired.{Retired}
 use Rattle.flat_machine.specs.State.{FlatState, Processor, is_running}
 use Rattle.flat_machine.specs.Turns.{Reaches, turn_of}
 use Rattle.flat_machine.specs.Flat.{flat_run, flat_events}
-use Rattle.local_reduction.specs.LocalStates.{LocalState, behind, alone, GoesOnFor, Spins, IsAtReference}
+use Rattle.local_reduction.specs.LocalStates.{LocalState, retire, alone, GoesOnFor, Spins, IsAtReference}
 use Rattle.local_reduction.specs.LocalStates.{consoles_after}
 use Rattle.local_reduction.specs.LocalStates.{turns}
 use Rattle.local_reduction.specs.Closing.{IsForgetful, if_running, MacroState, gone, IsIn, IsMove, IsClosed}
@@ -61,9 +61,9 @@ MovesOfWhatIsKept =
     (word : ℕ) (change : ℕ → ℕ) (after : ℕ → Processor × Retired) (count : ℕ) →
     IsForgetful at code kept → slice_get s.local_states k ≡ Some (kept a) → is_running a.processor.status ≡ true →
     turn_of (at k) code a.processor ≡ Reaches word change after →
-    IsAtReference (at k) code (alone count (at k) code (behind a (after (slice_index s.shared word)))).processor →
+    IsAtReference (at k) code (alone count (at k) code (retire a (after (slice_index s.shared word)))).processor →
     IsMove at code kept s k
-    (gone s k (kept (alone count (at k) code (behind a (after (slice_index s.shared word)))))
+    (gone s k (kept (alone count (at k) code (retire a (after (slice_index s.shared word)))))
     word (change (slice_index s.shared word)))
 
 -- If turns alone, in each of which it goes on, bring a processor back to where it was, it spins.
@@ -107,10 +107,10 @@ MovesAreOfAny =
     IsForgetful at code kept → ((i j : ℕ) → IsBeside (at i) (at j)) →
     slice_get s.local_states k ≡ Some (kept a) → is_running a.processor.status ≡ true →
     turn_of (at i) code a.processor ≡ Reaches word change after →
-    IsAtReference (at i) code (alone count (at i) code (behind a (after (slice_index s.shared word)))).processor →
-    NeverAsks (at i) code (behind a (after (slice_index s.shared word))) →
+    IsAtReference (at i) code (alone count (at i) code (retire a (after (slice_index s.shared word)))).processor →
+    NeverAsks (at i) code (retire a (after (slice_index s.shared word))) →
     IsMoveOfAny at code kept classes s k
-    (gone s k (kept (alone count (at i) code (behind a (after (slice_index s.shared word)))))
+    (gone s k (kept (alone count (at i) code (retire a (after (slice_index s.shared word)))))
     word (change (slice_index s.shared word)))
 
 -- Let a set be closed up to exchanges, and have a state an exchange of which the flat machine reaches. For each

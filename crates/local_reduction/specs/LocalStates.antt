@@ -41,15 +41,15 @@ pub record LocalState : Type 0 where
   pub console : List ℕ
 
 -- the local state after an instruction that retired
-abbrev pub behind : LocalState → Processor × Retired → LocalState
-behind a done = record { processor = done.0; console = with_byte a.console done.1.out }
+abbrev pub retire : LocalState → Processor × Retired → LocalState
+retire a done = record { processor = done.0; console = with_byte a.console done.1.out }
 
 abbrev pub stopped_by : LocalState → Cause → LocalState
 stopped_by a cause = record { processor = record a.processor { status = status_of cause }; console = a.console }
 
 -- the local state after a turn that needs no shared word
 abbrev pub alone_by : LocalState → Turn → LocalState
-alone_by a (Retires after retired) = behind a (after, retired)
+alone_by a (Retires after retired) = retire a (after, retired)
 alone_by a (Reaches word change after) = a
 alone_by a (Stops cause) = stopped_by a cause
 

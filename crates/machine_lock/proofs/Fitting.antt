@@ -24,7 +24,7 @@ use Rattle.machine_lock.specs.Lists.{pass_events_of, given_to, shown_at, is_poke
 use Rattle.machine_lock.specs.Passes.{Held, held, most_of, rows_of, IsWhole, new_passes}
 use Rattle.machine_log.specs.Lendings.{lent_at}
 use Rattle.machine_log.proofs.Lemmas.{replicate_none}
-use Rattle.machine_lock.specs.Rows.{new_row, with_answer, counted, behind, machine_after, pass_events_since, LastFits, RowFits, Fits, Follows, steps_of}
+use Rattle.machine_lock.specs.Rows.{new_row, with_answer, counted, steps_after, machine_after, pass_events_since, LastFits, RowFits, Fits, Follows, steps_of}
 use Rattle.machine_lock.proofs.Lists.{all_after-append, all-push, each-set, get-front, get-last, pass_events_pushed, length-slice_set}
 
 is_off : (b : Bool) → (b ≡ true → ⊥) → b ≡ false
@@ -114,8 +114,8 @@ module _ (opening : MachineLists) (first : List Step) where
         high = omega arith;
         outcome = f.outcome ∙ ap (λ t. answer_after opening t a.step) (sym (take-append-le a.place steps (s ∷ []) (omega arith)));
         stands = λ n. get-front steps (s ∷ []) a.place a.step (f.stands n);
-        final = subst (λ t. no_turn q t ≡ true) (sym (drop-append-le (behind a) steps (s ∷ []) high))
-            (all-push (λ t. not (is_turn_of q t)) (drop (behind a) steps) s f.final (ap not off));
+        final = subst (λ t. no_turn q t ≡ true) (sym (drop-append-le (steps_after a) steps (s ∷ []) high))
+            (all-push (λ t. not (is_turn_of q t)) (drop (steps_after a) steps) s f.final (ap not off));
       }
 
   -- The list of a processor over steps and one more is that over the steps, followed by what the last one gives.

@@ -23,10 +23,10 @@ abbrev events : List PassEvent → List Event
 events ns = map (λ n. n.event) ns
 
 -- What a turn of q shows comes after the events of p, if q is p.
-behind : (shown : ℕ → List Event) (q p place : ℕ) (e : Event) →
+shown_by_turn : (shown : ℕ → List Event) (q p place : ℕ) (e : Event) →
     put shown q (shown q ++ e ∷ []) p ≡ shown p ++ events (if q == p then record { event = e; place = place } ∷ [] else [])
 unfolding put
-behind shown q p place e = by (cases_eq p q)
+shown_by_turn shown q p place e = by (cases_eq p q)
   where
     by : (p ≡ q) ⊎ (p ≢ q) → cond (eqb p q) (shown q ++ e ∷ []) (shown p) ≡ shown p ++ events (if q == p then record { event = e; place = place } ∷ [] else [])
     by (inl same) = subst (λ (r : ℕ). cond (eqb r q) (shown q ++ e ∷ []) (shown r)
@@ -43,8 +43,8 @@ none shown p false = sym (append-nil (shown p))
 
 -- One step adds to the events of p what it gives p.
 step_is : (shown : ℕ → List Event) (p place : ℕ) (s : Step) (o : Outcome) → with_shown shown s o p ≡ shown p ++ events (given_to p place s o)
-step_is shown p place (step.Turn q) (Retired retired) = behind shown q p place (event.Retired retired)
-step_is shown p place (step.Turn q) (Stopped cause) = behind shown q p place (event.Stopped cause)
+step_is shown p place (step.Turn q) (Retired retired) = shown_by_turn shown q p place (event.Retired retired)
+step_is shown p place (step.Turn q) (Stopped cause) = shown_by_turn shown q p place (event.Stopped cause)
 step_is shown p place (step.Turn q) Issued = none shown p (q == p)
 step_is shown p place (step.Turn q) Moved = none shown p (q == p)
 step_is shown p place (step.Turn q) (Combined first second) = none shown p (q == p)
@@ -57,14 +57,14 @@ step_is shown p place (step.Serve m) o = sym (append-nil (shown p))
 step_is shown p place (step.Down s w) o = sym (append-nil (shown p))
 step_is shown p place (step.Poke poke) o = sym (append-nil (shown p))
 
-pub listed_behind : (c : Config) (code : List ℕ) (p place : ℕ) (M : Machine ObservedCore) (steps : List Step) (shown : ℕ → List Event) →
+pub listed_after : (c : Config) (code : List ℕ) (p place : ℕ) (M : Machine ObservedCore) (steps : List Step) (shown : ℕ → List Event) →
     shown_after c code M steps shown p ≡ shown p ++ events (pass_events_of c code p place M steps)
 unfolding shown_after
-listed_behind c code p place M [] shown = sym (append-nil (shown p))
-listed_behind c code p place M (s ∷ ss) shown =
+listed_after c code p place M [] shown = sym (append-nil (shown p))
+listed_after c code p place M (s ∷ ss) shown =
     let o : Outcome = outcome_of c code M s in
     let rest = pass_events_of c code p (suc place) (after c code M s) ss in
-    listed_behind c code p (suc place) (after c code M s) ss (with_shown shown s o)
+    listed_after c code p (suc place) (after c code M s) ss (with_shown shown s o)
     ∙ ap (λ es. es ++ events rest) (step_is shown p place s o)
     ∙ append_assoc (shown p) (events (given_to p place s o)) (events rest)
     ∙ ap (λ es. shown p ++ es) (sym (map-append (λ n. n.event) (given_to p place s o) rest))
@@ -72,4 +72,4 @@ listed_behind c code p place M (s ∷ ss) shown =
 -- A processor's list has the events that the outcomes of the steps have for it, in their order.
 pub events_are_listed : (c : Config) (code : List ℕ) (p place : ℕ) (M : Machine ObservedCore) (steps : List Step) →
     events (pass_events_of c code p place M steps) ≡ shown_after c code M steps (λ q. []) p
-events_are_listed c code p place M steps = sym (listed_behind c code p place M steps (λ q. []))
+events_are_listed c code p place M steps = sym (listed_after c code p place M steps (λ q. []))

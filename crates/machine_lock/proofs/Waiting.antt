@@ -57,22 +57,22 @@ count xs zero less = refl
 count [] (suc n) less = absurd (omega (arith, less))
 count (y ∷ xs) (suc n) less = ap suc (count xs n (omega (arith, less)))
 
-none_behind : (xs : List Step) (n : ℕ) → n ≡ length xs → drop n xs ≡ []
-none_behind [] zero e = refl
-none_behind [] (suc n) e = absurd (omega (arith, e))
-none_behind (y ∷ xs) zero e = absurd (omega (arith, e))
-none_behind (y ∷ xs) (suc n) e = none_behind xs n (omega (arith, e))
+none_after : (xs : List Step) (n : ℕ) → n ≡ length xs → drop n xs ≡ []
+none_after [] zero e = refl
+none_after [] (suc n) e = absurd (omega (arith, e))
+none_after (y ∷ xs) zero e = absurd (omega (arith, e))
+none_after (y ∷ xs) (suc n) e = none_after xs n (omega (arith, e))
 
 whole : (xs : List Step) → take (length xs) xs ≡ xs
 whole [] = refl
 whole (x ∷ xs) = ap (λ l. x ∷ l) (whole xs)
 
 -- The rest of a list from a place on is all that is left there.
-behind : (xs : List Step) (n : ℕ) → take (length xs - n) (drop n xs) ≡ drop n xs
-behind [] zero = refl
-behind [] (suc n) = ap (λ m. take m []) (let none : 0 - suc n ≡ 0 = omega arith in none)
-behind (x ∷ xs) zero = ap (λ m. take m (x ∷ xs)) (let all : length (x ∷ xs) - 0 ≡ length (x ∷ xs) = omega arith in all) ∙ whole (x ∷ xs)
-behind (x ∷ xs) (suc n) = ap (λ m. take m (drop n xs)) (let less : length (x ∷ xs) - suc n ≡ length xs - n = omega arith in less) ∙ behind xs n
+rest_after : (xs : List Step) (n : ℕ) → take (length xs - n) (drop n xs) ≡ drop n xs
+rest_after [] zero = refl
+rest_after [] (suc n) = ap (λ m. take m []) (let none : 0 - suc n ≡ 0 = omega arith in none)
+rest_after (x ∷ xs) zero = ap (λ m. take m (x ∷ xs)) (let all : length (x ∷ xs) - 0 ≡ length (x ∷ xs) = omega arith in all) ∙ whole (x ∷ xs)
+rest_after (x ∷ xs) (suc n) = ap (λ m. take m (drop n xs)) (let less : length (x ∷ xs) - suc n ≡ length xs - n = omega arith in less) ∙ rest_after xs n
 
 within : (xs : List Step) (n q : ℕ) → q < length (drop n xs) → n + q < length xs
 within xs zero q less = let all : q < length xs = less in omega (arith, all)
@@ -81,7 +81,7 @@ within (x ∷ xs) (suc n) q less = let below = within xs n q less in omega (arit
 
 -- A place among the steps after the first n is, n places later, a place among all steps.
 pub within_both : (xs : List Step) (n q : ℕ) → q < length (take (length xs - n) (drop n xs)) → n + q < length xs
-within_both xs n q less = within xs n q (subst (λ l. q < length l) (behind xs n) less)
+within_both xs n q less = within xs n q (subst (λ l. q < length l) (rest_after xs n) less)
 
 -- ---- answers that stalled
 
@@ -175,7 +175,7 @@ module _ (opening : MachineLists) where
   waited_both old between new steps n m i j w on =
       subst (λ l. HaveWaited opening old l (i + j) new) (sym (take-add n m steps))
       (waited_on old between new (take n steps) (take m (drop n steps)) i j w
-      (subst (λ l. HaveWaited opening between (take m l) j new) (behind steps n) on))
+      (subst (λ l. HaveWaited opening between (take m l) j new) (rest_after steps n) on))
 
   -- a round whose turn and step of the network stall
   abbrev idle_round : Result Round LockRefusal
@@ -242,7 +242,7 @@ module _ (opening : MachineLists) where
       waited = waited;
       round = on;
       idle = refl;
-      over = λ waits. none_behind steps (suc n) (let all = over waits in omega (arith, all));
+      over = λ waits. none_after steps (suc n) (let all = over waits in omega (arith, all));
     }
 
 -- ---- what a call does under the lock

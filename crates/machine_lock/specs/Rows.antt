@@ -47,13 +47,13 @@ with_retirements p r place (retired ∷ later) =
     with_retirements p (with_answer p r (step.Turn p) (outcome.Retired retired) place) (suc place) later
 
 -- how many steps the log had after the answer
-abbrev pub behind : Answer → ℕ
-behind a = a.place + counted a.outcome
+abbrev pub steps_after : Answer → ℕ
+steps_after a = a.place + counted a.outcome
 
 -- An answer at this place can come after this one, if there is one.
 abbrev pub Follows : Option Answer → ℕ → Type 0
 Follows None place = Unit {0}
-Follows (Some a) place = behind a ≤ place
+Follows (Some a) place = steps_after a ≤ place
 
 -- ---- the rows and the steps
 
@@ -71,10 +71,10 @@ all_since opening first steps =
 -- The answer was given at its place among the steps, which is not below `from`, and p has no later turn.
 pub record IsLast (opening : MachineLists) (from : ℕ) (steps : List Step) (p : ℕ) (a : Answer) : Type 0 where
   pub low : from ≤ a.place
-  pub high : behind a ≤ length steps
+  pub high : steps_after a ≤ length steps
   pub outcome : a.outcome ≡ answer_after opening (take a.place steps) a.step
   pub stands : is_stalled a.outcome ≡ false → slice_get steps a.place ≡ Some a.step
-  pub final : no_turn p (drop (behind a) steps) ≡ true
+  pub final : no_turn p (drop (steps_after a) steps) ≡ true
 
 abbrev pub LastFits : MachineLists → (from : ℕ) → List Step → (p : ℕ) → Option Answer → Type 0
 LastFits opening from steps p None = Unit {0}

@@ -82,8 +82,8 @@ module _ (catches : LocalTurnsCatchUp) (V : MachineLists) (is : IsMachine V) (p 
     unfolding machine_of_parts
     caught = catches V.config V.code M p taken core.state within shut local
 
-    behind_is : all_after V.config V.code M turns ≡ with_core M p gone
-    behind_is = sym (all_same V.config V.code turns M) ∙ caught.1
+    after_is : all_after V.config V.code M turns ≡ with_core M p gone
+    after_is = sym (all_same V.config V.code turns M) ∙ caught.1
 
     -- the events shown after the core is put in
     abbrev later : ℕ → List Event
@@ -109,7 +109,7 @@ module _ (catches : LocalTurnsCatchUp) (V : MachineLists) (is : IsMachine V) (p 
         ∙ ap (λ (f : ℕ → ObservedCore). record { net = M.net; mem = M.mem; core = f; is_open = M.is_open }) (fun_ext (λ q. stands q (cases_eq q p)))
 
     pub run_there : machine_of (with_core_at V p core) (events_of (all_after V.config V.code M turns)) ≡ all_after V.config V.code M turns
-    run_there = ap (λ (N : theory.Machine ObservedCore). machine_of (with_core_at V p core) (events_of N)) behind_is ∙ there ∙ sym behind_is
+    run_there = ap (λ (N : theory.Machine ObservedCore). machine_of (with_core_at V p core) (events_of N)) after_is ∙ there ∙ sym after_is
 
   pub turns_replay : IsReplay V turns (with_core_at V p core)
   turns_replay = record {

@@ -55,21 +55,21 @@ module _ (lent : List (Option Lent)) (shown : ℕ → List Event) where
   standing g p (Some l) = observed_lent p l
 
   module _ (M : theory.Machine ObservedCore) where
-    behind_here : (p : ℕ) (l : Option Lent) (cores : List (ℕ × ObservedCore)) →
+    after_here : (p : ℕ) (l : Option Lent) (cores : List (ℕ × ObservedCore)) →
         (with_cores M (behind p l cores)).core p ≡ standing ((with_cores M cores).core p) p l
-    behind_here p None cores = refl
-    behind_here p (Some l) cores = put_same (with_cores M cores).core p (observed_lent p l)
+    after_here p None cores = refl
+    after_here p (Some l) cores = put_same (with_cores M cores).core p (observed_lent p l)
 
-    behind_there : (p q : ℕ) (l : Option Lent) (cores : List (ℕ × ObservedCore)) → q ≢ p →
+    after_there : (p q : ℕ) (l : Option Lent) (cores : List (ℕ × ObservedCore)) → q ≢ p →
         (with_cores M (behind p l cores)).core q ≡ (with_cores M cores).core q
-    behind_there p q None cores apart = refl
-    behind_there p q (Some l) cores apart = put_other (with_cores M cores).core p (observed_lent p l) q apart
+    after_there p q None cores apart = refl
+    after_there p q (Some l) cores apart = put_other (with_cores M cores).core p (observed_lent p l) q apart
 
     -- Past the first n, the cores are the machine's.
     later_stand : (n q : ℕ) → n ≤ q → (with_cores M (cores_of n)).core q ≡ M.core q
     unfolding cores_of
     later_stand zero q past = refl
-    later_stand (suc n) q past = behind_there n q (lent_at lent n) (cores_of n) (λ e. absurd (omega (arith, e, past))) ∙ later_stand n q (omega (arith, past))
+    later_stand (suc n) q past = after_there n q (lent_at lent n) (cores_of n) (λ e. absurd (omega (arith, e, past))) ∙ later_stand n q (omega (arith, past))
 
     -- Among the first n, lent cores are in their places.
     first_stand : (n q : ℕ) → q < n → (with_cores M (cores_of n)).core q ≡ standing (M.core q) q (lent_at lent q)
@@ -82,10 +82,10 @@ module _ (lent : List (Option Lent)) (shown : ℕ → List Event) where
             (with_cores M (behind n (lent_at lent n) (cores_of n))).core q ≡ standing (M.core q) q (lent_at lent q)
         at earlier (inl same) =
             ap (λ i. (with_cores M (behind n (lent_at lent n) (cores_of n))).core i) same
-            ∙ behind_here n (lent_at lent n) (cores_of n)
+            ∙ after_here n (lent_at lent n) (cores_of n)
             ∙ ap (λ g. standing g n (lent_at lent n)) (later_stand n n (omega arith))
             ∙ ap (λ i. standing (M.core i) i (lent_at lent i)) (sym same)
-        at earlier (inr other) = behind_there n q (lent_at lent n) (cores_of n) other ∙ earlier (omega (arith, within, other))
+        at earlier (inr other) = after_there n q (lent_at lent n) (cores_of n) other ∙ earlier (omega (arith, within, other))
 
 -- ---- the machine with all cores back
 
@@ -174,19 +174,19 @@ module _ (laws : OthersDoNotNotice) (c : Config) (code : List ℕ) (net net' : N
   before : (ℕ → List Event) → theory.Machine ObservedCore
   before shown = machine_of_parts c net ports modules shown
 
-  behind_it : (ℕ → List Event) → theory.Machine ObservedCore
-  behind_it shown = machine_of_parts c net' ports' modules' shown
+  after_it : (ℕ → List Event) → theory.Machine ObservedCore
+  after_it shown = machine_of_parts c net' ports' modules' shown
 
   pub parts_back : IsStepOf c code net ports modules s o net' ports' modules' →
       IsStepOf c code net (all_back ports lent) modules s o net' (all_back ports' lent) modules'
-  unfolding before behind_it
+  unfolding before after_it
   parts_back st = record {
     outcome = st.outcome ∙ sym (unnoticed laws c code (before (λ p. [])) lent (λ p. []) s others (length lent)).0
         ∙ ap (λ W. outcome_of c code W s) (sym (back_is c net ports modules lent same (λ p. [])));
     after = λ shown.
         let cores = cores_of lent shown (length lent) in
         back_is c net' ports' modules' lent same' (with_shown shown s o)
-        ∙ ap (with_cores (behind_it (with_shown shown s o)))
+        ∙ ap (with_cores (after_it (with_shown shown s o)))
         (shown_alike lent shown (with_shown shown s o) (λ p l e. shown_so p shown s o (others p l e)) (length lent))
         ∙ ap (λ N. with_cores N cores) (st.after shown)
         ∙ sym (unnoticed laws c code (before shown) lent shown s others (length lent)).1

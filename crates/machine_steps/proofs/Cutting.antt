@@ -49,10 +49,10 @@ module _ (c : Config) (code : List ℕ) where
   all_joined M [] more = refl
   all_joined M (s ∷ ss) more = all_joined (after c code M s) ss more
 
-  none_behind : (M : Machine ObservedCore) (steps more : List Step) → NoneStalls c code M (steps ++ more) → NoneStalls c code (all_after c code M steps) more
+  none_after : (M : Machine ObservedCore) (steps more : List Step) → NoneStalls c code M (steps ++ more) → NoneStalls c code (all_after c code M steps) more
   unfolding all_after
-  none_behind M [] more moves = moves
-  none_behind M (s ∷ ss) more moves = none_behind (after c code M s) ss more moves.1
+  none_after M [] more moves = moves
+  none_after M (s ∷ ss) more moves = none_after (after c code M s) ss more moves.1
 
 -- ---- a replay, cut
 
@@ -82,9 +82,9 @@ module _ (opening mid new : MachineLists) (steps more : List Step) (first : IsRe
       let e = all_joined C opening.code (machine_of opening none) steps more in
       subst (λ (K : Machine ObservedCore). machine_of new (events_of K) ≡ K) e (all.run.after none)
 
-  behind : (shown : ℕ → List Event) →
+  later_machine : (shown : ℕ → List Event) →
       machine_of new (events_of (all_after C opening.code (machine_of mid shown) more)) ≡ all_after C opening.code (machine_of mid shown) more
-  behind shown =
+  later_machine shown =
       let X : Machine ObservedCore = all_after C opening.code (machine_of mid shown) more in
       let same : observe_as (events_of X) X ≡ observe_as (events_of X) N1 =
       all_alikes C opening.code (machine_of mid shown) M1 more (run_alike opening mid steps first.run shown) (events_of X) in
@@ -96,7 +96,7 @@ module _ (opening mid new : MachineLists) (steps more : List Step) (first : IsRe
   cut_moved : NoneStalls C opening.code (machine_of mid none) more
   cut_moved =
       none_alike C opening.code M1 (machine_of mid none) more (λ fact. sym (run_alike opening mid steps first.run none fact))
-      (none_behind C opening.code (machine_of opening none) steps more all.moved)
+      (none_after C opening.code (machine_of opening none) steps more all.moved)
 
   -- The steps of a replay after a machine on its way are a replay from that machine.
   pub cut_at : IsReplay mid more new
@@ -108,7 +108,7 @@ module _ (opening mid new : MachineLists) (steps more : List Step) (first : IsRe
       after =
           subst (λ (k : Config × List ℕ). (shown : ℕ → List Event) →
           machine_of new (events_of (all_after k.0 k.1 (machine_of mid shown) more)) ≡ all_after k.0 k.1 (machine_of mid shown) more)
-          (λ i. (sym first.run.config i, sym first.run.code i)) behind;
+          (λ i. (sym first.run.config i, sym first.run.code i)) later_machine;
     };
     moved = subst (λ (k : Config × List ℕ). NoneStalls k.0 k.1 (machine_of mid none) more) (λ i. (sym first.run.config i, sym first.run.code i)) cut_moved;
   }

@@ -19,7 +19,7 @@ pub use Rattle.machine_steps.proofs.Lone.{FirstTurn, IsAnswered, IsAsking, IsLon
 -- Runs and replays, one after another.
 pub use Rattle.machine_steps.proofs.Cutting.{all_joined, replay_joined}
 -- Steps that an observer sees, and the events of which their outcomes tell.
-pub use Rattle.machine_steps.proofs.Noting.{listed, noted_behind, noted_more}
+pub use Rattle.machine_steps.proofs.Noting.{listed, noted_after_run, noted_more}
 pub use Rattle.machine_steps.proofs.Events.{steps_tell}
 -- All machines that open on one image are the same.
 pub use Rattle.machine_steps.proofs.OneOpening.{alike, drained_alike, same_code, same_config, same_machine}

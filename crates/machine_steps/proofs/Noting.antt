@@ -47,9 +47,9 @@ module _ {N : Type 0} (R : N → Step → Outcome → N → Type 0) where
   )
 
   -- What an observer sees of steps from where a run ends, it sees of them after the steps of the run.
-  pub noted_behind : (opening mid : MachineLists) (steps more : List Step) (n n' : N) → IsRun opening steps mid → AreNoted R mid more n n' →
+  pub noted_after_run : (opening mid : MachineLists) (steps more : List Step) (n n' : N) → IsRun opening steps mid → AreNoted R mid more n n' →
       AreNotedFrom R opening.config opening.code (all_after opening.config opening.code (machine_of opening (λ p. [])) steps) more n n'
-  noted_behind opening mid steps more n n' r all =
+  noted_after_run opening mid steps more n n' r all =
       noted_alike opening.config opening.code (machine_of mid (λ p. [])) (all_after opening.config opening.code (machine_of opening (λ p. [])) steps) more n n'
       (run_alike opening mid steps r (λ p. []))
       (subst (λ (k : Config × List ℕ). AreNotedFrom R k.0 k.1 (machine_of mid (λ p. [])) more n n') (λ i. (r.config i, r.code i)) all)

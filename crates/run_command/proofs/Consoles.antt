@@ -39,17 +39,17 @@ one_byte : (console : List ℕ) (out : Option ℕ) → with_byte console out ≡
 one_byte console None = sym (append-nil console)
 one_byte console (Some byte) = refl
 
-shown_behind : (s : ShownBy) (events : List Event) → (shown_from s events).console ≡ s.console ++ console_bytes events
-shown_behind s [] = sym (append-nil s.console)
-shown_behind s (event.Retired retired ∷ events) =
-    shown_behind (with_event s (event.Retired retired)) events
+console_after_events : (s : ShownBy) (events : List Event) → (shown_from s events).console ≡ s.console ++ console_bytes events
+console_after_events s [] = sym (append-nil s.console)
+console_after_events s (event.Retired retired ∷ events) =
+    console_after_events (with_event s (event.Retired retired)) events
     ∙ ap (λ bytes. bytes ++ console_bytes events) (one_byte s.console retired.out)
     ∙ append_assoc s.console (held_of retired.out) (console_bytes events)
-shown_behind s (event.Stopped cause ∷ events) = shown_behind s events
+console_after_events s (event.Stopped cause ∷ events) = console_after_events s events
 
 -- The console bytes that a tally counts are those that the events have.
 shown_console : (events : List Event) → (shown_by events).console ≡ console_bytes events
-shown_console events = shown_behind nothing_shown events
+shown_console events = console_after_events nothing_shown events
 
 -- ---- the passes
 

@@ -15,7 +15,7 @@ use Rattle.machine_log.specs.Logs.{Log, entered}
 use Rattle.schedules.specs.Own.{AreOwn}
 use Rattle.schedules.specs.Sweeps.{IsFault, IsOver, RunsAfter, entered_of, status_after}
 use Rattle.schedules.proofs.Asking.{asked_append, none_asked}
-use Rattle.schedules.proofs.Own.{own_behind, own_entered}
+use Rattle.schedules.proofs.Own.{own_after, own_entered}
 
 -- If no more steps are entered than there were, the steps are those that there were.
 no_longer : (m : MachineLists) (done asked : List Step) → AreOwn asked → length (entered_of m done asked) ≤ length done → entered_of m done asked ≡ done
@@ -44,7 +44,7 @@ module _ (m n : MachineLists) (config : m.config ≡ n.config) (code : m.code �
 
   over_there : (start : ℕ) (done : List Step) → IsOver m start done → IsOver n start done
   over_there start done (inl f) =
-      inl (record { before = f.before; last = f.last; is = f.is; behind = f.behind; fault = subst IsFault (same_answer f.before f.last) f.fault })
+      inl (record { before = f.before; last = f.last; is = f.is; after = f.after; fault = subst IsFault (same_answer f.before f.last) f.fault })
   over_there start done (inr none) = inr (λ runs. none (runs_there done runs))
 
 -- ---- two logs
@@ -72,8 +72,8 @@ HasEnded limit m steps rest = IsOver m 0 steps ⊎ ((length steps ≡ limit) ⊎
 
 module _ {c : Config} {image : ImageContents} {limit : ℕ} {xs ys : List Step} {first second a b : Log} (one : WasAskedFor c image limit xs first a)
     (two : WasAskedFor c image limit ys second b) where
-  same_behind : (rest : List Step) → ys ≡ xs ++ rest → HasEnded limit a.opening first.steps rest → second.steps ≡ first.steps
-  same_behind rest is ended = there ∙ no_longer a.opening first.steps rest own
+  same_after : (rest : List Step) → ys ≡ xs ++ rest → HasEnded limit a.opening first.steps rest → second.steps ≡ first.steps
+  same_after rest is ended = there ∙ no_longer a.opening first.steps rest own
       (subst (λ n. n ≤ length first.steps) (ap length there) (short ended (cases_lt (length first.steps) (length second.steps))))
     where
       config_is : b.opening.config ≡ a.opening.config
@@ -94,7 +94,7 @@ module _ {c : Config} {image : ImageContents} {limit : ℕ} {xs ys : List Step} 
           ∙ ap (λ done. entered_of a.opening done rest) (sym one.steps)
 
       own : AreOwn rest
-      own = own_behind xs rest (subst AreOwn is two.own)
+      own = own_after xs rest (subst AreOwn is two.own)
 
       -- The second log begins with what the first entered.
       begins : take (length first.steps) second.steps ≡ first.steps
@@ -131,5 +131,5 @@ pub goes_on : {c : Config} {image : ImageContents} {limit : ℕ} {xs ys : List S
     WasAskedFor c image limit xs first a → WasAskedFor c image limit ys second b → GoesOnFrom xs ys ⊎ GoesOnFrom ys xs →
     ((rest : List Step) → ys ≡ xs ++ rest → HasEnded limit a.opening first.steps rest) →
     ((rest : List Step) → xs ≡ ys ++ rest → HasEnded limit b.opening second.steps rest) → a.steps ≡ b.steps
-goes_on one two (inl (rest, is)) there here = logs_alike one two (sym (same_behind one two rest is (there rest is)))
-goes_on one two (inr (rest, is)) there here = logs_alike one two (same_behind two one rest is (here rest is))
+goes_on one two (inl (rest, is)) there here = logs_alike one two (sym (same_after one two rest is (there rest is)))
+goes_on one two (inr (rest, is)) there here = logs_alike one two (same_after two one rest is (here rest is))

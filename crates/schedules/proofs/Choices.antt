@@ -20,10 +20,10 @@ get-front [] ys i s e = absurd (cc)
 get-front (x ∷ xs) ys zero s e = e
 get-front (x ∷ xs) ys (suc i) s e = get-front xs ys i s e
 
-get-behind : (xs ys : List Step) (i j : ℕ) (s : Step) → i ≡ length xs + j → slice_get ys j ≡ Some s → slice_get (xs ++ ys) i ≡ Some s
-get-behind [] ys i j s is e = let same : i ≡ j = omega arith in ap (slice_get ys) same ∙ e
-get-behind (x ∷ xs) ys zero j s is e = absurd (omega arith)
-get-behind (x ∷ xs) ys (suc i) j s is e = get-behind xs ys i j s (omega arith) e
+get-after : (xs ys : List Step) (i j : ℕ) (s : Step) → i ≡ length xs + j → slice_get ys j ≡ Some s → slice_get (xs ++ ys) i ≡ Some s
+get-after [] ys i j s is e = let same : i ≡ j = omega arith in ap (slice_get ys) same ∙ e
+get-after (x ∷ xs) ys zero j s is e = absurd (omega arith)
+get-after (x ∷ xs) ys (suc i) j s is e = get-after xs ys i j s (omega arith) e
 
 either_part : (xs ys : List Step) (i : ℕ) (s : Step) → slice_get (xs ++ ys) i ≡ Some s → (slice_get xs i ≡ Some s) ⊎ ((j : ℕ) × (slice_get ys j ≡ Some s))
 either_part [] ys i s e = inr (i, e)
@@ -65,7 +65,7 @@ module _ (k : ℕ) where
   stage_at (suc n) step row wire less within =
       let i = row * 2 ^ k + wire in
       dite (ℕ_discrete row n)
-      (λ e. get-behind (by_stage k n step) (by_wire k (step n)) i wire (step row wire)
+      (λ e. get-after (by_stage k n step) (by_wire k (step n)) i wire (step row wire)
       (ap (λ r. r * 2 ^ k + wire) e ∙ ap (λ l. l + wire) (sym (length-by_stage n step)))
       (wire_at (step n) wire within ∙ ap (λ r. Some (step r wire)) (sym e)))
       (λ other. get-front (by_stage k n step) (by_wire k (step n)) i (step row wire) (stage_at n step row wire (omega arith) within))
@@ -105,7 +105,7 @@ module _ (k : ℕ) where
   serve_at row wire is within =
       let ups = by_stage k k Up in let serves = by_wire k Serve in let downs = by_stage k k Down in
       let i = row * 2 ^ k + wire in
-      get-front (ups ++ serves) downs i (Serve wire) (get-behind ups serves i wire (Serve wire)
+      get-front (ups ++ serves) downs i (Serve wire) (get-after ups serves i wire (Serve wire)
       (ap (λ r. r * 2 ^ k + wire) is ∙ ap (λ l. l + wire) (sym (length-by_stage k Up))) (wire_at Serve wire within))
 
   -- Row k + 1 + s has the moves down of replies after stage s.
@@ -119,7 +119,7 @@ module _ (k : ℕ) where
       let sum : row ≡ suc k + stage = omega arith in
       let parts : row * 2 ^ k ≡ k * 2 ^ k + 2 ^ k + stage * 2 ^ k =
       ap (λ n. n * 2 ^ k) sum ∙ add-mul (suc k) stage (2 ^ k) ∙ ap (λ n. n + stage * 2 ^ k) (suc-mul k (2 ^ k)) in
-      get-behind (ups ++ serves) downs (row * 2 ^ k + wire) (stage * 2 ^ k + wire) (Down stage wire) (omega arith)
+      get-after (ups ++ serves) downs (row * 2 ^ k + wire) (stage * 2 ^ k + wire) (Down stage wire) (omega arith)
       (stage_at k Down stage wire (omega arith) within)
 
   -- ---- the laws

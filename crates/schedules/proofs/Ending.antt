@@ -93,7 +93,7 @@ module _ (m : MachineLists) (start : ℕ) where
   none_faulted steps short f =
       let count = ap length f.is in
       let more = length-append f.before (f.last ∷ []) in
-      let behind = f.behind in omega (arith, count, more, behind, short)
+      let behind = f.after in omega (arith, count, more, behind, short)
 
   -- After one more step that is not a fault, the sweep has not ended in a fault.
   pub sound_on : (done : List Step) (s : Step) → (IsFault (answer_after m done s) → ⊥) → (EndsInFault m start done → ⊥) →
@@ -113,7 +113,7 @@ module _ (m : MachineLists) (start : ℕ) where
     before = done;
     last = s;
     is = entered_moving done s (answer_after m done s) (no_stall (answer_after m done s) fault);
-    behind = behind;
+    after = behind;
     fault = fault;
   }
     where
@@ -152,7 +152,7 @@ module _ (m : MachineLists) (start : ℕ) where
 -- A sweep that is over is also over if it began earlier.
 pub over_sooner : (m : MachineLists) (start mid : ℕ) (steps : List Step) → start ≤ mid → IsOver m mid steps → IsOver m start steps
 over_sooner m start mid steps less (inl f) =
-    inl (record { before = f.before; last = f.last; is = f.is; behind = (let behind = f.behind in omega (arith, behind, less)); fault = f.fault })
+    inl (record { before = f.before; last = f.last; is = f.is; after = (let behind = f.after in omega (arith, behind, less)); fault = f.fault })
 over_sooner m start mid steps less (inr none) = inr none
 
 -- A sweep that is over is also over if it began later, but has a step of its own.
@@ -162,7 +162,7 @@ over_later m start mid steps more (inl f) =
       before = f.before;
       last = f.last;
       is = f.is;
-      behind = (let count = ap length f.is in let one = length-append f.before (f.last ∷ []) in omega (arith, count, one, more));
+      after = (let count = ap length f.is in let one = length-append f.before (f.last ∷ []) in omega (arith, count, one, more));
       fault = f.fault;
     })
 over_later m start mid steps more (inr none) = inr none

@@ -102,16 +102,16 @@ module _ (limit : ℕ) (old l new : Log) (f : IsFollowing limit old l) (size : l
   after = rounds_more old.opening old.steps l.steps new.steps k f.whole r.part so_far part_is
 
   -- The new steps come after the old ones.
-  behind : (rest : List Step) × (new.steps ≡ l.steps ++ rest)
-  behind = let e = own_entered old.opening l.steps (take r.part (round k)) (own_asked k 0 r.part) in (e.0, part_is ∙ e.2)
+  steps_go_on : (rest : List Step) × (new.steps ≡ l.steps ++ rest)
+  steps_go_on = let e = own_entered old.opening l.steps (take r.part (round k)) (own_asked k 0 r.part) in (e.0, part_is ∙ e.2)
 
   first_here : IsFirst old.opening (length l.steps) new.steps
   first_here = subst (λ m. IsFirst m (length l.steps) new.steps) f.opening r.first
 
   first_all : IsFirst old.opening start new.steps
   first_all =
-      subst (IsFirst old.opening start) (sym behind.1)
-      (first_joined old.opening start l.steps behind.0 f.longer f.first f.under (subst (IsFirst old.opening (length l.steps)) behind.1 first_here))
+      subst (IsFirst old.opening start) (sym steps_go_on.1)
+      (first_joined old.opening start l.steps steps_go_on.0 f.longer f.first f.under (subst (IsFirst old.opening (length l.steps)) steps_go_on.1 first_here))
 
   -- If the sweep is over after the next round, the log has followed the sweep to its end.
   pub following_over : b ≡ true → HasFollowed limit old Over new
@@ -141,7 +141,7 @@ module _ (limit : ℕ) (old l new : Log) (f : IsFollowing limit old l) (size : l
             before = e.before;
             last = e.last;
             is = e.is;
-            behind = (let one = length-append e.before (e.last ∷ []) in let some = g.some in omega (arith, count, one, some));
+            after = (let one = length-append e.before (e.last ∷ []) in let some = g.some in omega (arith, count, one, some));
             fault = subst (λ m. IsFault (answer_after m e.before e.last)) (sym f.opening) e.fault;
           })
 

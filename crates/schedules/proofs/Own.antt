@@ -27,9 +27,9 @@ own_both [] ys a b = b
 own_both (x ∷ xs) ys a b = (a.0, own_both xs ys a.1 b)
 
 -- If no step of two lists joined writes anything from outside, none of the second does.
-pub own_behind : (xs ys : List Step) → AreOwn (xs ++ ys) → AreOwn ys
-own_behind [] ys a = a
-own_behind (x ∷ xs) ys a = own_behind xs ys a.1
+pub own_after : (xs ys : List Step) → AreOwn (xs ++ ys) → AreOwn ys
+own_after [] ys a = a
+own_after (x ∷ xs) ys a = own_after xs ys a.1
 
 own_front : (n : ℕ) (xs : List Step) → AreOwn xs → AreOwn (take n xs)
 own_front zero xs a = tt
@@ -80,16 +80,16 @@ pub own_asked : (k whole part : ℕ) → AreOwn (rounds k whole ++ take part (ro
 own_asked k whole part = own_both (rounds k whole) (take part (round k)) (own_rounds k whole) (own_front part (round k) (own_round k))
 
 -- The new steps are the old ones, followed by steps that write nothing from outside.
-abbrev IsOwnBehind : (done new : List Step) → Type 0
-IsOwnBehind done new = (rest : List Step) × AreOwn rest × (new ≡ done ++ rest)
+abbrev IsOwnAfter : (done new : List Step) → Type 0
+IsOwnAfter done new = (rest : List Step) × AreOwn rest × (new ≡ done ++ rest)
 
 -- What is entered of steps that write nothing from outside follows the old steps, and writes nothing from outside either.
-pub own_entered : (m : MachineLists) (done asked : List Step) → AreOwn asked → IsOwnBehind done (entered_of m done asked)
+pub own_entered : (m : MachineLists) (done asked : List Step) → AreOwn asked → IsOwnAfter done (entered_of m done asked)
 unfolding entered_of
 own_entered m done [] own = ([], tt, sym (append-nil done))
 own_entered m done (s ∷ ss) own = by (is_stalled (answer_after m done s)) (λ now. own_entered m now ss own.1)
   where
-    by : (b : Bool) → ((now : List Step) → IsOwnBehind now (entered_of m now ss)) → IsOwnBehind done (entered_of m (if b then done else done ++ s ∷ []) ss)
+    by : (b : Bool) → ((now : List Step) → IsOwnAfter now (entered_of m now ss)) → IsOwnAfter done (entered_of m (if b then done else done ++ s ∷ []) ss)
     by true later = later done
     by false later = let r = later (done ++ s ∷ []) in (s ∷ r.0, (own.0, r.1), r.2 ∙ append_assoc done (s ∷ []) r.0)
 

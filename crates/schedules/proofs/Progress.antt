@@ -41,14 +41,14 @@ IsOfRound k (step.Poke q) = ⊥
 abbrev pub Stands : List Step → Step → Type 0
 Stands xs s = (i : ℕ) × (slice_get xs i ≡ Some s)
 
-in_front : (xs ys : List Step) (s : Step) → Stands xs s → Stands (xs ++ ys) s
-in_front [] ys s (i, e) = absurd (cc)
-in_front (x ∷ xs) ys s (zero, e) = (zero, e)
-in_front (x ∷ xs) ys s (suc i, e) = let h = in_front xs ys s (i, e) in (suc h.0, h.1)
+stands_before : (xs ys : List Step) (s : Step) → Stands xs s → Stands (xs ++ ys) s
+stands_before [] ys s (i, e) = absurd (cc)
+stands_before (x ∷ xs) ys s (zero, e) = (zero, e)
+stands_before (x ∷ xs) ys s (suc i, e) = let h = stands_before xs ys s (i, e) in (suc h.0, h.1)
 
-behind : (xs ys : List Step) (s : Step) → Stands ys s → Stands (xs ++ ys) s
-behind [] ys s h = h
-behind (x ∷ xs) ys s h = let t = behind xs ys s h in (suc t.0, t.1)
+stands_after : (xs ys : List Step) (s : Step) → Stands ys s → Stands (xs ++ ys) s
+stands_after [] ys s h = h
+stands_after (x ∷ xs) ys s h = let t = stands_after xs ys s h in (suc t.0, t.1)
 
 on_wire : (k : ℕ) (f : ℕ → Step) (w : ℕ) → w < 2 ^ k → Stands (on_each_wire k f) (f w)
 on_wire k f w within = (
@@ -62,18 +62,18 @@ in_ups k zero s w few within = absurd (omega (arith, few))
 in_ups k (suc stage) s w few within = by (cases_eq s stage) (λ less. in_ups k stage s w less within)
   where
     by : (s ≡ stage) ⊎ (s ≡ stage → ⊥) → (s < stage → Stands (ups k stage) (step.Up s w)) → Stands (ups k (suc stage)) (step.Up s w)
-    by (inl last) later = in_front (on_each_wire k (step.Up stage)) (ups k stage) (step.Up s w)
+    by (inl last) later = stands_before (on_each_wire k (step.Up stage)) (ups k stage) (step.Up s w)
         (subst (λ t. Stands (on_each_wire k (step.Up stage)) (step.Up t w)) (sym last) (on_wire k (step.Up stage) w within))
-    by (inr other) later = behind (on_each_wire k (step.Up stage)) (ups k stage) (step.Up s w) (later (omega (arith, few, other)))
+    by (inr other) later = stands_after (on_each_wire k (step.Up stage)) (ups k stage) (step.Up s w) (later (omega (arith, few, other)))
 
 in_downs : (k stages s w : ℕ) → s < stages → w < 2 ^ k → Stands (downs k stages) (step.Down s w)
 in_downs k zero s w few within = absurd (omega (arith, few))
 in_downs k (suc stage) s w few within = by (cases_eq s stage) (λ less. in_downs k stage s w less within)
   where
     by : (s ≡ stage) ⊎ (s ≡ stage → ⊥) → (s < stage → Stands (downs k stage) (step.Down s w)) → Stands (downs k (suc stage)) (step.Down s w)
-    by (inl last) later = behind (downs k stage) (on_each_wire k (step.Down stage)) (step.Down s w)
+    by (inl last) later = stands_after (downs k stage) (on_each_wire k (step.Down stage)) (step.Down s w)
         (subst (λ t. Stands (on_each_wire k (step.Down stage)) (step.Down t w)) (sym last) (on_wire k (step.Down stage) w within))
-    by (inr other) later = in_front (downs k stage) (on_each_wire k (step.Down stage)) (step.Down s w) (later (omega (arith, few, other)))
+    by (inr other) later = stands_before (downs k stage) (on_each_wire k (step.Down stage)) (step.Down s w) (later (omega (arith, few, other)))
 
 abbrev turns_and_ups : ℕ → List Step
 turns_and_ups k = on_each_wire k step.Turn ++ ups k k
@@ -82,17 +82,17 @@ turns_and_ups k = on_each_wire k step.Turn ++ ups k k
 pub in_round : (k : ℕ) (s : Step) → IsOfRound k s → Stands (round k) s
 unfolding round
 in_round k (step.Turn p) within =
-    in_front (turns_and_ups k ++ on_each_wire k step.Serve) (downs k k) (step.Turn p)
-    (in_front (turns_and_ups k) (on_each_wire k step.Serve) (step.Turn p)
-    (in_front (on_each_wire k step.Turn) (ups k k) (step.Turn p) (on_wire k step.Turn p within)))
+    stands_before (turns_and_ups k ++ on_each_wire k step.Serve) (downs k k) (step.Turn p)
+    (stands_before (turns_and_ups k) (on_each_wire k step.Serve) (step.Turn p)
+    (stands_before (on_each_wire k step.Turn) (ups k k) (step.Turn p) (on_wire k step.Turn p within)))
 in_round k (step.Up s w) within =
-    in_front (turns_and_ups k ++ on_each_wire k step.Serve) (downs k k) (step.Up s w)
-    (in_front (turns_and_ups k) (on_each_wire k step.Serve) (step.Up s w)
-    (behind (on_each_wire k step.Turn) (ups k k) (step.Up s w) (in_ups k k s w within.0 within.1)))
+    stands_before (turns_and_ups k ++ on_each_wire k step.Serve) (downs k k) (step.Up s w)
+    (stands_before (turns_and_ups k) (on_each_wire k step.Serve) (step.Up s w)
+    (stands_after (on_each_wire k step.Turn) (ups k k) (step.Up s w) (in_ups k k s w within.0 within.1)))
 in_round k (step.Serve m) within =
-    in_front (turns_and_ups k ++ on_each_wire k step.Serve) (downs k k) (step.Serve m)
-    (behind (turns_and_ups k) (on_each_wire k step.Serve) (step.Serve m) (on_wire k step.Serve m within))
-in_round k (step.Down s w) within = behind (turns_and_ups k ++ on_each_wire k step.Serve) (downs k k) (step.Down s w) (in_downs k k s w within.0 within.1)
+    stands_before (turns_and_ups k ++ on_each_wire k step.Serve) (downs k k) (step.Serve m)
+    (stands_after (turns_and_ups k) (on_each_wire k step.Serve) (step.Serve m) (on_wire k step.Serve m within))
+in_round k (step.Down s w) within = stands_after (turns_and_ups k ++ on_each_wire k step.Serve) (downs k k) (step.Down s w) (in_downs k k s w within.0 within.1)
 in_round k (step.Poke q) within = absurd within
 
 -- ---- steps that do not stall are of the round

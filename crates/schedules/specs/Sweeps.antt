@@ -57,7 +57,7 @@ pub record EndsInFault (opening : MachineLists) (start : ℕ) (steps : List Step
   pub before : List Step
   pub last : Step
   pub is : steps ≡ before ++ last ∷ []
-  pub behind : start ≤ length before
+  pub after : start ≤ length before
   pub fault : IsFault (answer_after opening before last)
 
 -- A sweep that began after `start` steps is over: a fault stopped a processor in its last step, or no processor runs.

@@ -14,7 +14,7 @@ use Rattle.hart.specs.declared.decision.Shape.{Shape}
 use Rattle.hart.specs.declared.decision.Decision.{Decision}
 use Rattle.hart.specs.declared.decision.Decision.TheVariants.{Local, Refer, Halt, Fault}
 use Rattle.hart.specs.Deciding.{Decides, after_reply}
-use Rattle.local_reduction.specs.LocalStates.{LocalState, behind, alone, IsAtReference, IsReference}
+use Rattle.local_reduction.specs.LocalStates.{LocalState, retire, alone, IsAtReference, IsReference}
 use Rattle.local_reduction.specs.Closing.{IsAlike, IsForgetful, MacroState, gone, IsMove}
 use Rattle.local_reduction.specs.Exchanging.{NeverAsks, IsMoveOfAny}
 use Rattle.local_reduction.specs.Laws.{MovesAreOfAny, MovesOfWhatIsKept}
@@ -23,7 +23,7 @@ use Rattle.local_reduction.specs.Live.{HasAllLive}
 use Rattle.local_reduction.specs.Forgetting.{with_live, kept_by, DeadAreForgotten}
 use Rattle.state_search.specs.declared.state_tables.Extent.{Extent}
 use Rattle.state_search.specs.Placed.{Placed}
-use Rattle.state_search.specs.StateTables.{TableLists, placed_at, words_at, HasGrown, setting_at, own_setting, means, IsRow, IsBehind}
+use Rattle.state_search.specs.StateTables.{TableLists, placed_at, words_at, HasGrown, setting_at, own_setting, means, IsRow, IsAfterReference}
 use Rattle.state_search.specs.Search.{AreClasses, CanMove, IsNext}
 use Rattle.state_search.proofs.Lemmas.{listed_there, listed_is, listed_set}
 use Rattle.state_search.proofs.Growing.{kept_on}
@@ -88,7 +88,7 @@ module _ (e : Extent) (code : List ℕ) (classes : List ℕ) (t u v : TableLists
     -- The word's old value is `before`.
     pub before_is : slice_index (words_at t (slice_index row e.processors)) word ≡ before
     -- The second tables have, under the number, the local state after the reference and some turns alone.
-    pub behind : IsBehind e.exchanged code before (placed_at t (slice_index row p)) u number
+    pub behind : IsAfterReference e.exchanged code before (placed_at t (slice_index row p)) u number
     -- The third tables have the written list.
     pub written_there : written < length v.words
     -- The written list is the row's list with the word written.
@@ -180,7 +180,7 @@ module _ (e : Extent) (code : List ℕ) (classes : List ℕ) (t u v : TableLists
     both = λ i. (own i, sym old_is i)
 
     abbrev turned : Setting × ℕ → LocalState
-    turned z = alone h.behind.count z.0 code (behind here.local_state (h.refers.after z.1))
+    turned z = alone h.behind.count z.0 code (retire here.local_state (h.refers.after z.1))
 
     at_reference : IsAtReference (own_setting e p) code (turned (own_setting e p, slice_index s.shared word)).processor
     at_reference = subst (λ (z : Setting × ℕ). IsAtReference z.0 code (turned z).processor) both (h.behind.at_reference (h.refers.after before) replied)
@@ -208,10 +208,10 @@ module _ (e : Extent) (code : List ℕ) (classes : List ℕ) (t u v : TableLists
         ∙ ap (slice_set (words_at t (slice_index row e.processors)) word) (sym h.refers.value_is ∙ ap h.refers.change (sym old_is))) in
         λ i. record { local_states = local_states i; shared = shared i }
 
-    quiet : e.exchanged ≡ true → NeverAsks (own_setting e p) code (behind here.local_state (h.refers.after (slice_index s.shared word)))
+    quiet : e.exchanged ≡ true → NeverAsks (own_setting e p) code (retire here.local_state (h.refers.after (slice_index s.shared word)))
     quiet on =
-        subst (λ (z : Setting × ℕ). NeverAsks z.0 code (behind here.local_state (h.refers.after z.1))) both
-        (never_from here.setting code h.behind.count (behind here.local_state (h.refers.after before))
+        subst (λ (z : Setting × ℕ). NeverAsks z.0 code (retire here.local_state (h.refers.after z.1))) both
+        (never_from here.setting code h.behind.count (retire here.local_state (h.refers.after before))
         (h.behind.quiet on (h.refers.after before) replied) (h.behind.later on (h.refers.after before) replied))
 
     stands_there : slice_get s.local_states p ≡ Some (kept_by v.live here.local_state)

@@ -12,23 +12,23 @@ use Rattle.flat_machine.specs.declared.setting.Setting.{Setting}
 use Rattle.flat_machine.specs.Turns.{turn_of}
 use Rattle.hart.specs.Deciding.{after_reply}
 use Rattle.local_reduction.specs.Exchanging.{AskNot}
-use Rattle.local_reduction.specs.LocalStates.{LocalState, behind, alone, IsAtReference}
+use Rattle.local_reduction.specs.LocalStates.{LocalState, retire, alone, IsAtReference}
 use Rattle.local_reduction.specs.Forgetting.{kept_by}
 use Rattle.state_search.specs.Placed.{Placed, IsSame, HasRetired, HasGone, IsStill, IsQuiet}
-use Rattle.state_search.specs.StateTables.{TableLists, placed_at, words_at, HasGrown, IsBehind}
+use Rattle.state_search.specs.StateTables.{TableLists, placed_at, words_at, HasGrown, IsAfterReference}
 use Rattle.state_search.specs.TransitionCache.{Remembered, nothing, answer_to, IsForgotten, IsNoted, KnowsLocalStates, KnowsLists}
 
-pub behind_kept : (quietly : Bool) (code : List ℕ) (before : ℕ) (old : Placed) (t u : TableLists) (number : ℕ) →
-    HasGrown t u → IsBehind quietly code before old t number →
-    IsBehind quietly code before old u number
-behind_kept quietly code before old t u number kept h =
+pub after_reference_kept : (quietly : Bool) (code : List ℕ) (before : ℕ) (old : Placed) (t u : TableLists) (number : ℕ) →
+    HasGrown t u → IsAfterReference quietly code before old t number →
+    IsAfterReference quietly code before old u number
+after_reference_kept quietly code before old t u number kept h =
     let same = kept.same_local_state number h.there in
     record {
       there = omega (arith, h.there, kept.local_states);
       setting = ap (λ (a : Placed). a.setting) same ∙ h.setting;
       count = h.count;
       gone = λ (done : Processor × Retired) is.
-          subst (λ live. kept_by live (placed_at u number).local_state ≡ kept_by live (alone h.count old.setting code (behind old.local_state done)))
+          subst (λ live. kept_by live (placed_at u number).local_state ≡ kept_by live (alone h.count old.setting code (retire old.local_state done)))
           (sym kept.live)
           (ap (λ (a : Placed). kept_by t.live a.local_state) same ∙ h.gone done is);
       at_reference = h.at_reference;
@@ -42,8 +42,8 @@ pub local_states_kept : (quietly : Bool) (code : List ℕ) (t u : TableLists) (m
 local_states_kept quietly code t u m kept h number word before behind fact =
     let k = h number word before behind fact in (
       omega (arith, k.0, kept.local_states),
-      subst (λ (a : Placed). IsBehind quietly code before a u behind) (sym (kept.same_local_state number k.0))
-          (behind_kept quietly code before (placed_at t number) t u behind kept k.1),
+      subst (λ (a : Placed). IsAfterReference quietly code before a u behind) (sym (kept.same_local_state number k.0))
+          (after_reference_kept quietly code before (placed_at t number) t u behind kept k.1),
     )
 
 -- The cache of written lists is still right after the tables have grown.
@@ -58,20 +58,20 @@ lists_kept t u m kept h number word value written fact =
 -- The cache of references is still right after a right answer is added.
 pub local_states_remembered : (quietly : Bool) (code : List ℕ) (t : TableLists) (m n : Remembered) (number word before behind : ℕ) →
     KnowsLocalStates quietly code t m →
-    IsNoted m (number ∷ word ∷ before ∷ []) behind n → number < length t.local_states → IsBehind quietly code before (placed_at t number) t behind →
+    IsNoted m (number ∷ word ∷ before ∷ []) behind n → number < length t.local_states → IsAfterReference quietly code before (placed_at t number) t behind →
     KnowsLocalStates quietly code t n
 local_states_remembered quietly code t m n number word before behind h noted there is i w x j fact = at (noted (i ∷ w ∷ x ∷ []) j fact)
   where
     at : (answer_to m (i ∷ w ∷ x ∷ []) ≡ Some j) ⊎ (((i ∷ w ∷ x ∷ []) ≡ (number ∷ word ∷ before ∷ [])) × (j ≡ behind)) →
-        (i < length t.local_states) × IsBehind quietly code x (placed_at t i) t j
+        (i < length t.local_states) × IsAfterReference quietly code x (placed_at t i) t j
     at (inl old) = h i w x j old
     at (inr new) =
         let first : number ≡ i = sym (ap (λ q. slice_index q 0) new.0) in
         let third : before ≡ x = sym (ap (λ q. slice_index q 2) new.0) in (
           subst (λ k. k < length t.local_states) first there,
-          subst (λ k. IsBehind quietly code x (placed_at t i) t k) (sym new.1)
-              (subst (λ y. IsBehind quietly code y (placed_at t i) t behind) third
-              (subst (λ k. IsBehind quietly code before (placed_at t k) t behind) first is)),
+          subst (λ k. IsAfterReference quietly code x (placed_at t i) t k) (sym new.1)
+              (subst (λ y. IsAfterReference quietly code y (placed_at t i) t behind) third
+              (subst (λ k. IsAfterReference quietly code before (placed_at t k) t behind) first is)),
         )
 
 -- The cache of written lists is still right after a right answer is added.
@@ -154,10 +154,10 @@ knows_no_lists t number word value written fact = absurd cc
 -- ---- the local state after a reference
 
 -- A local state that a reference and turns alone lead to is the one after that reference.
-pub behind_is : (quietly : Bool) (code : List ℕ) (before : ℕ) (old mid new : Placed) (t : TableLists) (number : ℕ) → HasRetired code before old mid →
+pub after_reference_is : (quietly : Bool) (code : List ℕ) (before : ℕ) (old mid new : Placed) (t : TableLists) (number : ℕ) → HasRetired code before old mid →
     HasGone quietly code mid new → IsStill code new → IsQuiet quietly code new → number < length t.local_states → IsSame t.live (placed_at t number) new →
-    IsBehind quietly code before old t number
-behind_is quietly code before old mid new t number r g still quiet there same = record {
+    IsAfterReference quietly code before old t number
+after_reference_is quietly code before old mid new t number r g still quiet there same = record {
   there = there;
   setting = same.setting ∙ settings;
   count = g.count;
@@ -174,5 +174,5 @@ behind_is quietly code before old mid new t number r g still quiet there same = 
     settings = g.setting ∙ r.setting
 
     gone : (done : Processor × Retired) → after_reply (turn_of old.setting code old.local_state.processor) before ≡ Some done →
-        new.local_state ≡ alone g.count old.setting code (behind old.local_state done)
+        new.local_state ≡ alone g.count old.setting code (retire old.local_state done)
     gone done is = g.gone ∙ (λ i. alone g.count (r.setting i) code (r.retired done is i))

@@ -6,7 +6,7 @@ use Rattle.flat_machine.specs.State.{Processor, is_running}
 use Rattle.flat_machine.specs.Turns.{turn_of}
 use Rattle.hart.specs.State.{CoreState}
 use Rattle.hart.specs.Deciding.{after_reply}
-use Rattle.local_reduction.specs.LocalStates.{LocalState, behind, with_byte, alone, alone_once, IsReference, GoesOn}
+use Rattle.local_reduction.specs.LocalStates.{LocalState, retire, with_byte, alone, alone_once, IsReference, GoesOn}
 use Rattle.local_reduction.specs.LocalStates.{IsAtReference}
 use Rattle.local_reduction.specs.Closing.{if_running}
 use Rattle.local_reduction.specs.Exchanging.{Asks, AskNot, NeverAsks}
@@ -46,7 +46,7 @@ pub record HasRetired (code : List ℕ) (before : ℕ) (old new : Placed) : Type
   pub setting : new.setting ≡ old.setting
   pub retired : (done : Processor × Retired) →
       after_reply (turn_of old.setting code old.local_state.processor) before ≡ Some done →
-      new.local_state ≡ behind old.local_state done
+      new.local_state ≡ retire old.local_state done
 
 -- A turn alone leads from old to new. If `quietly` is set, it does not ask for the processor's own number.
 pub record HasTurned (quietly : Bool) (code : List ℕ) (old new : Placed) : Type 0 where

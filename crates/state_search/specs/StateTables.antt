@@ -8,7 +8,7 @@ use Rattle.flat_machine.specs.declared.event.Status.TheVariants.{Halted}
 use Rattle.flat_machine.specs.State.{Processor}
 use Rattle.flat_machine.specs.Turns.{turn_of}
 use Rattle.hart.specs.Deciding.{after_reply}
-use Rattle.local_reduction.specs.LocalStates.{behind, alone, IsAtReference}
+use Rattle.local_reduction.specs.LocalStates.{retire, alone, IsAtReference}
 use Rattle.local_reduction.specs.Closing.{MacroState}
 use Rattle.local_reduction.specs.Exchanging.{AskNot, NeverAsks}
 use Rattle.local_reduction.specs.Forgetting.{kept_by}
@@ -84,7 +84,7 @@ pub record IsRow (e : Extent) (t : TableLists) (row : List ℕ) : Type 0 where
 
 -- The tables have, under this number, the local state after a reference to a word with the old value `before`, and some
 -- turns alone after it.
-pub record IsBehind (quietly : Bool) (code : List ℕ) (before : ℕ) (old : Placed) (t : TableLists)
+pub record IsAfterReference (quietly : Bool) (code : List ℕ) (before : ℕ) (old : Placed) (t : TableLists)
     (number : ℕ) : Type 0 where
   pub there : number < length t.local_states
   pub setting : (placed_at t number).setting ≡ old.setting
@@ -92,13 +92,13 @@ pub record IsBehind (quietly : Bool) (code : List ℕ) (before : ℕ) (old : Pla
   pub gone : (done : Processor × Retired) →
       after_reply (turn_of old.setting code old.local_state.processor) before ≡ Some done →
       kept_by t.live (placed_at t number).local_state
-      ≡ kept_by t.live (alone count old.setting code (behind old.local_state done))
+      ≡ kept_by t.live (alone count old.setting code (retire old.local_state done))
   pub at_reference : (done : Processor × Retired) →
       after_reply (turn_of old.setting code old.local_state.processor) before ≡ Some done →
-      IsAtReference old.setting code (alone count old.setting code (behind old.local_state done)).processor
+      IsAtReference old.setting code (alone count old.setting code (retire old.local_state done)).processor
   pub quiet : quietly ≡ true → (done : Processor × Retired) →
       after_reply (turn_of old.setting code old.local_state.processor) before ≡ Some done →
-      AskNot count old.setting code (behind old.local_state done)
+      AskNot count old.setting code (retire old.local_state done)
   pub later : quietly ≡ true → (done : Processor × Retired) →
       after_reply (turn_of old.setting code old.local_state.processor) before ≡ Some done →
-      NeverAsks old.setting code (alone count old.setting code (behind old.local_state done))
+      NeverAsks old.setting code (alone count old.setting code (retire old.local_state done))

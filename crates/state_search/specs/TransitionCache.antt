@@ -2,7 +2,7 @@
 use Rattle.std.specs.Prelude.{◌≡◌, ◌⊎◌, Bool, ℕ, ◌<◌, List, [], ◌∷◌, Option, Some, length, nat_eq, slice_set}
 use Rattle.std.specs.Cmp.Lexicographic.{pointwise}
 use Rattle.std.specs.Map.{lookup}
-use Rattle.state_search.specs.StateTables.{TableLists, placed_at, words_at, IsBehind}
+use Rattle.state_search.specs.StateTables.{TableLists, placed_at, words_at, IsAfterReference}
 
 -- questions, each a list of numbers, with their answers
 pub record Remembered : Type 0 where
@@ -29,7 +29,7 @@ IsForgotten old new = (q : List ℕ) (a : ℕ) → answer_to new q ≡ Some a �
 abbrev pub KnowsLocalStates : (quietly : Bool) → (code : List ℕ) → TableLists → Remembered → Type 0
 KnowsLocalStates quietly code t m =
     (number word before behind : ℕ) → answer_to m (number ∷ word ∷ before ∷ []) ≡ Some behind →
-    (number < length t.local_states) × IsBehind quietly code before (placed_at t number) t behind
+    (number < length t.local_states) × IsAfterReference quietly code before (placed_at t number) t behind
 
 -- Each answer is right: a write of `value` to a word of the list `number` gives the list of the answer.
 abbrev pub KnowsLists : TableLists → Remembered → Type 0

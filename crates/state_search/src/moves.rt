@@ -7,7 +7,7 @@ ghost use Rattle.hart.specs.Deciding.{IsReference};
 ghost use Rattle.local_reduction.specs.Live.{HasAllLive};
 ghost use Rattle.state_search.specs.TransitionCache.{KnowsLists, KnowsLocalStates};
 ghost use Rattle.state_search.specs.Search.{AreClasses, IsNext};
-ghost use Rattle.state_search.specs.StateTables.{IsBehind, HasGrown, IsRow, means, placed_at, words_at};
+ghost use Rattle.state_search.specs.StateTables.{IsAfterReference, HasGrown, IsRow, means, placed_at, words_at};
 
 use crate::refusal::MoveRefusal;
 use crate::state_tables::{Extent, StateTables, StateVector};
@@ -99,14 +99,14 @@ impl StateTables {
         requires known { KnowsLocalStates quietly code.now self.old transition_cache.old }
         ensures kept { OnOk result (HasGrown self.old self.new) }
         ensures known { OnOk result (KnowsLocalStates quietly code.now self.new transition_cache.new) }
-        ensures behind { IfOk result (IsBehind quietly code.now before (placed_at self.old number) self.new) }
+        ensures after { IfOk result (IsAfterReference quietly code.now before (placed_at self.old number) self.new) }
     {
-        if let Some(behind) = transition_cache.get([number, word, before]) {
-            return Ok(behind);
+        if let Some(after) = transition_cache.get([number, word, before]) {
+            return Ok(after);
         }
-        let behind = self.make_reference(code, quietly, number, before)?;
-        transition_cache.remember([number, word, before], behind);
-        Ok(behind)
+        let after = self.make_reference(code, quietly, number, before)?;
+        transition_cache.remember([number, word, before], after);
+        Ok(after)
     }
 
     /// Makes the reference, runs the processor alone after it, and returns the number of the local state reached.
@@ -122,7 +122,7 @@ impl StateTables {
         requires refers { IsReference (turn_of (placed_at self.old number).setting code.now
             (placed_at self.old number).local_state.processor) }
         ensures kept { OnOk result (HasGrown self.old self.new) }
-        ensures behind { IfOk result (IsBehind quietly code.now before (placed_at self.old number) self.new) }
+        ensures after { IfOk result (IsAfterReference quietly code.now before (placed_at self.old number) self.new) }
     {
         let Ok(mut local_state) = self.local_state(number).restore() else {
             return Err(MoveRefusal::Memory);
@@ -131,8 +131,8 @@ impl StateTables {
             return Err(MoveRefusal::Memory);
         };
         local_state.run_to_reference(code, quietly)?;
-        let behind = self.local_state_number(local_state)?;
-        Ok(behind)
+        let after = self.local_state_number(local_state)?;
+        Ok(after)
     }
 
     /// Returns the number of a list of words after a write of one word.

@@ -21,7 +21,7 @@ use Rattle.run_counts.specs.Longest.{at_stage, no_longest, of_held}
 use Rattle.run_counts.specs.declared.longest.Held.{Held}
 use Rattle.run_counts.specs.declared.longest.Held.TheVariants.{Requests, Records, Replies}
 use Rattle.run_counts.specs.declared.longest.Longest.{Longest}
-use Rattle.trace_commands.specs.Longest.{AreLongest, IsMet, IsMost, count_of, longest_after, most_of, net_behind}
+use Rattle.trace_commands.specs.Longest.{AreLongest, IsMet, IsMost, count_of, longest_after, most_of, net_after}
 use Rattle.trace_commands.proofs.Growing.{Grows, grows_there}
 
 -- ---- the maximum of numbers
@@ -52,7 +52,7 @@ most_met f (suc n) before = by (cases_lt (most_of f n before) (f n)) (most_met f
 -- ---- one more step
 
 -- The network after the steps that a machine has taken is the machine's.
-stands : (opening mid : MachineLists) (done : List Step) → IsRun opening done mid → net_behind opening done ≡ net_of mid.network
+stands : (opening mid : MachineLists) (done : List Step) → IsRun opening done mid → net_after opening done ≡ net_of mid.network
 unfolding machine_of_parts
 stands opening mid done run = sym (ap (λ (M : theory.Machine ObservedCore). M.net) (run.after (λ p. [])))
 
@@ -84,14 +84,14 @@ module _ (opening mid new : MachineLists) (done : List Step) (s : Step) (o : Out
         count : length (done ++ s ∷ []) ≡ length done + 1
         count = length-append done (s ∷ [])
 
-        before : (passed : ℕ) → passed ≤ length done → net_behind opening (take passed (done ++ s ∷ [])) ≡ net_behind opening (take passed done)
-        before passed there = ap (net_behind opening) (take-append-le passed done (s ∷ []) there)
+        before : (passed : ℕ) → passed ≤ length done → net_after opening (take passed (done ++ s ∷ [])) ≡ net_after opening (take passed done)
+        before passed there = ap (net_after opening) (take-append-le passed done (s ∷ []) there)
 
-        behind : (passed : ℕ) → length (done ++ s ∷ []) ≤ passed → net_behind opening (take passed (done ++ s ∷ [])) ≡ net
-        behind passed all = ap (net_behind opening) (take_all passed (done ++ s ∷ []) all) ∙ stands opening new (done ++ s ∷ []) next
+        behind : (passed : ℕ) → length (done ++ s ∷ []) ≤ passed → net_after opening (take passed (done ++ s ∷ [])) ≡ net
+        behind passed all = ap (net_after opening) (take_all passed (done ++ s ∷ []) all) ∙ stands opening new (done ++ s ∷ []) next
 
         bound : (passed w : ℕ) → w < 2 ^ k → (passed < length (done ++ s ∷ [])) ⊎ (length (done ++ s ∷ []) ≤ passed) →
-            count_of held (net_behind opening (take passed (done ++ s ∷ []))) t w ≤ n'
+            count_of held (net_after opening (take passed (done ++ s ∷ []))) t w ≤ n'
         bound passed w small (inl less) =
             let there : passed ≤ length done = (let all = count in omega (arith, less, all)) in
             let had = old.bound passed there w small in
@@ -128,8 +128,8 @@ module _ (opening mid new : MachineLists) (done : List Step) (s : Step) (o : Out
       where
         within : (v : ℕ) → v < 2 ^ k → count_of held net t v ≤ n
         within v small =
-            let whole : net_behind opening (take (length done) done) ≡ net_of mid.network
-            = ap (net_behind opening) (take_all (length done) done (omega arith)) ∙ stands opening mid done run in
+            let whole : net_after opening (take (length done) done) ≡ net_of mid.network
+            = ap (net_after opening) (take_all (length done) done (omega arith)) ∙ stands opening mid done run in
             let had = subst (λ (m : Net). count_of held m t v ≤ n) whole (old.bound (length done) (omega arith) v small) in
             let less = grows_less held t v below away in
             omega (arith, had, less)
@@ -272,5 +272,5 @@ none_longest m few empty held t below = record {
     zeros Records = get_or-replicate 6 t 0 0 (omega (arith, below, few))
     zeros Replies = get_or-replicate 6 t 0 0 (omega (arith, below, few))
 
-    here : (passed w : ℕ) → count_of held (net_behind m (take passed [])) t w ≡ 0
-    here passed w = ap (λ (ss : List Step). count_of held (net_behind m ss) t w) (take-nil passed) ∙ nothing held w
+    here : (passed w : ℕ) → count_of held (net_after m (take passed [])) t w ≡ 0
+    here passed w = ap (λ (ss : List Step). count_of held (net_after m ss) t w) (take-nil passed) ∙ nothing held w

@@ -15,7 +15,7 @@ use Rattle.machine_steps.specs.Machines.{MachineLists, machine_of}
 use Rattle.machine_steps.specs.Runs.{all_after, events_of, IsReplay}
 use Rattle.machine_steps.specs.Laws.{shown_after}
 use Rattle.machine_steps.specs.Noting.{AreNoted, AreNotedFrom}
-use Rattle.machine_steps.proofs.Lemmas.{all_joined, noted_behind, replay_joined, shown_is, steps_tell}
+use Rattle.machine_steps.proofs.Lemmas.{all_joined, noted_after_run, replay_joined, shown_is, steps_tell}
 use Rattle.command_io.specs.Tallies.{TallyState, nothing_shown, noted_after}
 use Rattle.command_io.specs.Events.{IsTally}
 use Rattle.trace_commands.specs.CountedReplays.{events_in, IsReplayCounted, IsTallied}
@@ -70,7 +70,7 @@ drain_replayed opening old new steps more t t' r replay observed = record {
       let M1 : theory.Machine ObservedCore = all_after opening.config opening.code (machine_of opening (λ p. [])) steps in
       let all : IsTally n t' (events_of (all_after opening.config opening.code M1 more)) (length steps + length more) =
       tally_all n opening.config opening.code M1 more t t' (length steps)
-      (noted_behind StepObserver opening old steps more t t' r.replay.run observed) r.tally in
+      (noted_after_run StepObserver opening old steps more t t' r.replay.run observed) r.tally in
       let joined : all_after opening.config opening.code M1 more ≡ all_after opening.config opening.code (machine_of opening (λ p. [])) (steps ++ more) =
       sym (all_joined opening.config opening.code (machine_of opening (λ p. [])) steps more) in
       subst (λ M. IsTally n t' (events_of M) (length (steps ++ more))) joined

@@ -18,8 +18,8 @@ count_of Records net s w = length (net.records s w)
 count_of Replies net s w = length (net.replies s w)
 
 -- the network after these steps
-abbrev pub net_behind : (opening : MachineLists) → (steps : List Step) → Net
-net_behind m steps = (all_after m.config m.code (machine_of m (λ p. [])) steps).net
+abbrev pub net_after : (opening : MachineLists) → (steps : List Step) → Net
+net_after m steps = (all_after m.config m.code (machine_of m (λ p. [])) steps).net
 
 -- After some number of the steps, from none to all, one wire of the stage has this count.
 pub record IsMet (opening : MachineLists) (steps : List Step) (held : Held) (stage most : ℕ) : Type 0 where
@@ -27,12 +27,12 @@ pub record IsMet (opening : MachineLists) (steps : List Step) (held : Held) (sta
   pub there : passed ≤ length steps
   pub wire : ℕ
   pub small : wire < 2 ^ opening.config.k
-  pub is : count_of held (net_behind opening (take passed steps)) stage wire ≡ most
+  pub is : count_of held (net_after opening (take passed steps)) stage wire ≡ most
 
 -- This is the greatest count at a wire of the stage, after any number of the steps.
 pub record IsMost (opening : MachineLists) (steps : List Step) (held : Held) (stage most : ℕ) : Type 0 where
   pub bound : (passed : ℕ) → passed ≤ length steps → (w : ℕ) → w < 2 ^ opening.config.k →
-      count_of held (net_behind opening (take passed steps)) stage w ≤ most
+      count_of held (net_after opening (take passed steps)) stage w ≤ most
   pub met : IsMet opening steps held stage most
 
 -- These are the greatest counts of requests, records and replies at each stage.

@@ -18,7 +18,7 @@ first_of (Some count) steps = take count steps
 
 -- The machine of this size that opens on the image takes this many of the steps of a trace and a drain. The text is the
 -- drawing of its view after them, and the exit status is that of the machine then.
-pub record IsDrawnBehind (draws : Draws) (c : Config) (image : ImageContents) (steps : List Step) (step : Option ℕ)
+pub record IsDrawnAfter (draws : Draws) (c : Config) (image : ImageContents) (steps : List Step) (step : Option ℕ)
     (text : List ℕ) (status : ℕ) : Type 0 where
   pub all : List Step
   pub home : IsDrainedWithSteps c image steps all
@@ -30,5 +30,5 @@ pub record IsDrawnBehind (draws : Draws) (c : Config) (image : ImageContents) (s
   pub exit : IsExitOf machine status
 
 -- what `ultra picture` prints for steps
-abbrev pub draws_behind : Draws → Option ℕ → ReportRelation
-draws_behind draws step c image steps text status = IsDrawnBehind draws c image steps step text status
+abbrev pub draws_after : Draws → Option ℕ → ReportRelation
+draws_after draws step c image steps text status = IsDrawnAfter draws c image steps step text status

@@ -29,9 +29,9 @@ pub struct Picture<D> {
 }
 
 impl<D: Draw> TraceReport for Picture<D> {
-    ghost use Rattle.trace_commands.specs.Pictures.{draws_behind};
+    ghost use Rattle.trace_commands.specs.Pictures.{draws_after};
 
-    ghost reports = { λ picture. draws_behind (D.draws picture.drawing) picture.step };
+    ghost reports = { λ picture. draws_after (D.draws picture.drawing) picture.step };
 
     fn text(
         &self,

@@ -10,7 +10,7 @@ use Rattle.trace_file.specs.declared.error.TraceError.{TraceError}
 use Rattle.trace_file.specs.declared.error.TraceError.TheVariants as error
 use Rattle.trace_file.specs.Records.{fields_of, record_bytes, HasRecord}
 use Rattle.trace_file.specs.Traces.{records_bytes}
-use Rattle.trace_file.specs.Reading.{fields_in, Adds, AddsRead, IsNotAdded, IsStopped, StopsBehind}
+use Rattle.trace_file.specs.Reading.{fields_in, Adds, AddsRead, IsNotAdded, IsStopped, StopsAfter}
 use Rattle.trace_file.proofs.Numbers.{fields_in-field_bytes}
 use Rattle.trace_file.proofs.Named.{fields_fit}
 use Rattle.trace_file.proofs.Records.{length-records_bytes, records_bytes-append, records_bytes-more, one_record, records_join}
@@ -101,10 +101,10 @@ joined k m old mid a b c steps rest p consumed =
     (sym (ap (λ (x : List ℕ). x ++ rest) (records_bytes-append p.added steps) ∙ append_assoc (records_bytes p.added) (records_bytes steps) rest))
     (Consumes-trans a b c _ _ p.consumed consumed)
 
-behind : (k m n count : ℕ) (old mid : List Step) (a b : Option (List ℕ)) (steps : List Step) (rest : List ℕ) (fault : TraceError) → m + n ≤ count →
-    (p : AddsRead k m old mid a b) → StopsBehind k n steps rest fault →
-    StopsBehind k count (p.added ++ steps) rest fault
-behind k m n count old mid a b steps rest fault sum p stops = record {
+stops_later : (k m n count : ℕ) (old mid : List Step) (a b : Option (List ℕ)) (steps : List Step) (rest : List ℕ) (fault : TraceError) → m + n ≤ count →
+    (p : AddsRead k m old mid a b) → StopsAfter k n steps rest fault →
+    StopsAfter k count (p.added ++ steps) rest fault
+stops_later k m n count old mid a b steps rest fault sum p stops = record {
   records = records_join k p.added steps p.records stops.records;
   few = omega (arith, length-append p.added steps, p.whole, stops.few);
   wrong = stops.wrong;
@@ -129,7 +129,7 @@ stopped_later k m n count old mid a b c error.Truncated sum p (steps, rest, cons
   p.added ++ steps,
   rest,
   (joined k m old mid a b c steps rest p consumed.0, consumed.1),
-  behind k m n count old mid a b steps rest error.Truncated sum p stops,
+  stops_later k m n count old mid a b steps rest error.Truncated sum p stops,
 )
 stopped_later k m n count old mid a b c error.Record sum p (steps, rest, consumed, stops, bound) =
-    (p.added ++ steps, rest, joined k m old mid a b c steps rest p consumed, behind k m n count old mid a b steps rest error.Record sum p stops, bound)
+    (p.added ++ steps, rest, joined k m old mid a b c steps rest p consumed, stops_later k m n count old mid a b steps rest error.Record sum p stops, bound)

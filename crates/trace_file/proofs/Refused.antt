@@ -14,7 +14,7 @@ use Rattle.trace_file.specs.declared.error.TraceError.{TraceError}
 use Rattle.trace_file.specs.declared.error.TraceError.TheVariants as error
 use Rattle.trace_file.specs.Traces.{header_bytes, header_length, records_bytes, IsHeader}
 use Rattle.trace_file.specs.Faults.{BeginsWith, IsRefused, header_size, most_trace_bytes}
-use Rattle.trace_file.specs.Reading.{AddsRead, IsStopped, IsNoEnd, StopsBehind}
+use Rattle.trace_file.specs.Reading.{AddsRead, IsStopped, IsNoEnd, StopsAfter}
 use Rattle.trace_file.proofs.Numbers.{length-header_bytes, length_within, size_stays, size_within}
 use Rattle.trace_file.proofs.Records.{length-records_bytes}
 
@@ -62,7 +62,7 @@ header_failed a b c front size few first most (rest, less, second) =
     (front ++ rest, omega (arith, length-append front rest), Consumes-trans a b c front rest first second)
 
 module _ (h : Header) (header : IsHeader h) where
-  begins : (steps : List Step) (rest : List ℕ) (fault : TraceError) → StopsBehind h.k h.count steps rest fault →
+  begins : (steps : List Step) (rest : List ℕ) (fault : TraceError) → StopsAfter h.k h.count steps rest fault →
       BeginsWith h steps rest (header_bytes h ++ (records_bytes steps ++ rest))
   begins steps rest fault stops = record { header = header; records = stops.records; few = omega (arith, stops.few); spelled = refl }
 

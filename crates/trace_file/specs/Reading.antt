@@ -87,7 +87,7 @@ pub record AddsRead (k count : ℕ) (old new : List Step) (before after : Option
   pub consumed : Consumes before after (records_bytes added)
 
 -- The records of these steps were read, and then the rest, in which the next of this many records is wrong.
-pub record StopsBehind (k count : ℕ) (steps : List Step) (rest : List ℕ) (fault : TraceError) : Type 0 where
+pub record StopsAfter (k count : ℕ) (steps : List Step) (rest : List ℕ) (fault : TraceError) : Type 0 where
   pub records : HaveRecords k steps
   pub few : length steps < count
   pub wrong : RecordFault k rest fault
@@ -100,10 +100,10 @@ IsStopped piece k count old new error.Header = ⊥
 IsStopped piece k count old new error.Trailing = ⊥
 IsStopped piece k count old new error.Truncated =
     (steps : List Step) × (rest : List ℕ) × ConsumesAll old new (records_bytes steps ++ rest)
-    × StopsBehind k count steps rest error.Truncated
+    × StopsAfter k count steps rest error.Truncated
 IsStopped piece k count old new error.Record =
     (steps : List Step) × (rest : List ℕ) × Consumes old new (records_bytes steps ++ rest)
-    × StopsBehind k count steps rest error.Record × (length rest ≤ piece)
+    × StopsAfter k count steps rest error.Record × (length rest ≤ piece)
 
 -- There was no end: the link failed before a byte was read, or there is a byte.
 abbrev pub IsNoEnd : (old new : Option (List ℕ)) → TraceError → Type 0

@@ -24,14 +24,14 @@ step_text (step.Poke q) = codes "poke " ++ owner_text q ++ codes " " ++ written_
 -- ---- what it did
 
 -- the depth of a message after this move
-abbrev pub depth_behind : Step → ℕ
-depth_behind (step.Up s w) = s + 1
-depth_behind (step.Down s w) = s
-depth_behind _ = 0
+abbrev pub depth_after : Step → ℕ
+depth_after (step.Up s w) = s + 1
+depth_after (step.Down s w) = s
+depth_after _ = 0
 
 -- `moves to depth D`
 abbrev pub depth_text : Step → List ℕ
-depth_text s = codes "moves to depth " ++ decimal (depth_behind s)
+depth_text s = codes "moves to depth " ++ decimal (depth_after s)
 
 -- the stage at which a request is combined or a reply is split
 abbrev pub stage_of : Step → ℕ

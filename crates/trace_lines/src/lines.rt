@@ -4,7 +4,7 @@ ghost use Rattle.std.specs.Prelude.{◌≡◌, ◌++◌, OnOk, codes, string_byt
 ghost use Rattle.std.specs.Fmt.{decimal};
 ghost use Rattle.messages.specs.Seconds.{seconds_of};
 ghost use Rattle.trace_lines.specs.StoryLines.{line_of};
-ghost use Rattle.trace_lines.specs.StoryTexts.{depth_behind, depth_text, group_text, members_text, outcome_text};
+ghost use Rattle.trace_lines.specs.StoryTexts.{depth_after, depth_text, group_text, members_text, outcome_text};
 ghost use Rattle.trace_lines.specs.StoryTexts.{stage_of, step_text};
 
 use crate::texts::{push_event, push_owner, push_written};
@@ -96,13 +96,13 @@ fn push_outcome(
 fn push_depth(text: &mut String, step: &Step) -> Result<(), AllocError>
     ensures { OnOk result (string_bytes text.new ≡ string_bytes text.old ++ depth_text step.now) }
 {
-    let depth = depth_behind(step);
+    let depth = depth_after(step);
     write!(text, "moves to depth {depth}")
 }
 
 /// The depth of a message after this move.
-fn depth_behind(step: &Step) -> u16
-    ensures { result ≡ depth_behind step.now }
+fn depth_after(step: &Step) -> u16
+    ensures { result ≡ depth_after step.now }
 {
     match *step {
         Step::Up { stage, .. } => u16::from(stage) + 1,

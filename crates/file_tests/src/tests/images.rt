@@ -120,7 +120,7 @@ fn added(alloc: Global) -> Result<Bytes, AllocError> {
 }
 
 #[test]
-fn bytes_are_added_behind_the_last(rt: HostRuntime) {
+fn bytes_are_added_after_the_last(rt: HostRuntime) {
     assert!(rt; Bytes::new(rt.alloc()).is_empty());
     let bytes = added(rt.alloc()).expect(&rt, "memory");
     assert_same!(rt; (bytes.as_slice(), bytes.len()), ([7, 8, 9, 0, 0].as_slice(), 5));

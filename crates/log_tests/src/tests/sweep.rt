@@ -64,7 +64,7 @@ static DRAINED: [Step; 14] = [
 /// Processor 1 stops by a fault in the round in which processor 0 issues its reference. A drain then completes it:
 /// the request goes up to module 0 and is served, the reply comes down, and the processor takes it.
 #[test]
-fn drains_behind_a_fault(rt: HostRuntime) -> Result<(), Fail> {
+fn drains_after_a_fault(rt: HostRuntime) -> Result<(), Fail> {
     lend(log_of(rt.alloc(), FAULTS, tight_size(1))?, |log| {
         assert_same!(rt; follow_sweep(log, 100), Ok(SweepEnd::Over));
         assert_same!(rt; log.steps(), DRAINED.as_slice());
@@ -78,7 +78,7 @@ const LOADS: &str = "lui x5, 0x80000\nlw x6, 0(x5)\necall";
 
 /// A reference that is open when the budget is used up is drained too.
 #[test]
-fn drains_behind_the_budget(rt: HostRuntime) -> Result<(), Fail> {
+fn drains_after_the_budget(rt: HostRuntime) -> Result<(), Fail> {
     lend(log_of(rt.alloc(), LOADS, tight_size(0))?, |log| {
         assert_same!(rt; follow_sweep(log, 2), Ok(SweepEnd::Budget));
         let taken = [Step::Turn(0), Step::Turn(0), Step::Serve(0), Step::Turn(0)];

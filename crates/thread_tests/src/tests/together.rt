@@ -102,7 +102,7 @@ fn end_a_loan<N: Run, R: Wait + Abort>(
 
 /// The core takes one instruction on loan, and then the processor adds, in four rounds: the turn that takes the reply
 /// is in the last.
-pub(super) fn behind_a_loan<N: Run, R: Wait + Abort>(
+pub(super) fn after_a_loan<N: Run, R: Wait + Abort>(
     rt: &R,
     alloc: Global,
     shared: Shared<N>,
@@ -119,5 +119,5 @@ pub(super) fn behind_a_loan<N: Run, R: Wait + Abort>(
 #[test]
 fn from_a_loan_to_the_reply(rt: HostRuntime) -> Result<(), Fail> {
     let logged = log_of(rt.alloc(), ADDS, size(1))?;
-    attempt(&rt, rt.alloc(), logged, Trial::BehindALoan)
+    attempt(&rt, rt.alloc(), logged, Trial::AfterALoan)
 }

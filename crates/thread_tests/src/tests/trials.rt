@@ -5,7 +5,7 @@ ghost use Rattle.std.specs.Prelude.{◌≡◌, ◌^◌};
 use super::loans::{both_away, lend_at_the_limit, lend_twice, lose};
 use super::passes::add_by_passes;
 use super::refusals::refuse_without_memory;
-use super::together::{behind_a_loan, turn_by_turn};
+use super::together::{after_a_loan, turn_by_turn};
 use ghost_map::NewTable;
 use machine_lock::{PassState, Run, Shared};
 use machine_log::Logged;
@@ -25,7 +25,7 @@ pub(super) enum Trial {
     Lost,
     Refused,
     TurnByTurn,
-    BehindALoan,
+    AfterALoan,
 }
 
 /// Makes the trial with the passes of this log, in this table.
@@ -53,7 +53,7 @@ fn go<N: Run, R: Wait + Abort>(
         Trial::Lost => lose(rt, alloc, shared, passes),
         Trial::Refused => refuse_without_memory(rt, alloc, shared, passes),
         Trial::TurnByTurn => turn_by_turn(rt, shared, passes),
-        Trial::BehindALoan => behind_a_loan(rt, alloc, shared, passes),
+        Trial::AfterALoan => after_a_loan(rt, alloc, shared, passes),
     }
 }
 

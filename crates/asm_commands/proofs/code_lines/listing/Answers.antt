@@ -8,7 +8,7 @@ returns c =
     record {
       count = c.word_count-index-end.result;
       within = c.word_count-index-end.ensures.few;
-      behind = c.word_count-index-end.ensures.behind;
+      after = c.word_count-index-end.ensures.after;
       last = c.word_count-index-end.ensures.last;
       lines = c.loop-index.invariant ∙ ap (lines_of c.args.code.now) all;
     }

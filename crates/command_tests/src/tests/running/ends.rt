@@ -71,7 +71,7 @@ processor 1 pc 00010010 run retired 3 console -
 /// Processor 1 stops by EBREAK in the round in which processor 0 issues a reference. The reference still completes: the
 /// trace ends with the steps of a drain, and a replay of it prints the same report.
 #[test]
-fn drains_behind_a_fault(rt: HostRuntime) -> Result<(), Fail> {
+fn drains_after_a_fault(rt: HostRuntime) -> Result<(), Fail> {
     let alloc = rt.alloc();
     let text = "
  addi x17, x0, 2

@@ -72,7 +72,7 @@ fn refuses_what_is_no_trace(rt: HostRuntime) -> Result<(), Fail> {
 /// The third of three turns sends a request. It is served and retires in the drain, and the report shows what it adds
 /// and that it retired.
 #[test]
-fn drains_behind_the_trace(rt: HostRuntime) -> Result<(), Fail> {
+fn drains_after_the_trace(rt: HostRuntime) -> Result<(), Fail> {
     let alloc = rt.alloc();
     let text = "
  lui x5, 0x80000

@@ -133,7 +133,7 @@ fn registers(alloc: Global) -> Result<Vec<u8>, AllocError> {
 /// A reference that is open when a session begins is completed before a line is answered: two moves up, a service, two
 /// moves down and a turn.
 #[test]
-fn answers_behind_the_drain(rt: HostRuntime) -> Result<(), Fail> {
+fn answers_after_the_drain(rt: HostRuntime) -> Result<(), Fail> {
     lend(adders(rt.alloc())?, |log| {
         enter_adds(log, 1)?;
         let before = log.steps().len();

@@ -76,7 +76,7 @@ fn more_bytes_than_a_queue_holds(rt: HostRuntime) -> Result<(), Fail> {
 /// Processor 0 stops by EBREAK, and the other goes on until it halts with its number, which it has written twice to the
 /// console.
 #[test]
-fn goes_on_behind_a_fault(rt: HostRuntime) -> Result<(), Fail> {
+fn goes_on_after_a_fault(rt: HostRuntime) -> Result<(), Fail> {
     let text = "
  addi x17, x0, 2
  ecall

@@ -106,7 +106,7 @@ fn first_comes_first(rt: HostRuntime) -> Result<(), Fail> {
 
 /// All steps are taken if no number is given, or if the number is that of all steps or more.
 #[test]
-fn behind_all(rt: HostRuntime) -> Result<(), Fail> {
+fn after_all(rt: HostRuntime) -> Result<(), Fail> {
     let alloc = rt.alloc();
     let image = image_of(alloc, ADD_AT_X12)?;
     let trace = trace_of(alloc, (2, 4, 4), &FOUR_ADDS)?;
@@ -129,7 +129,7 @@ fn behind_all(rt: HostRuntime) -> Result<(), Fail> {
 /// Steps after the end of a cut trace are those of a drain. Its first two, after the service, bring the reply down one
 /// stage, and then those of 0 and 2 down the other.
 #[test]
-fn behind_a_drain(rt: HostRuntime) -> Result<(), Fail> {
+fn after_a_drain(rt: HostRuntime) -> Result<(), Fail> {
     let alloc = rt.alloc();
     let image = image_of(alloc, ADD_AT_X12)?;
     let trace = trace_of(alloc, (2, 4, 4), &FOUR_ADDS[..20])?;

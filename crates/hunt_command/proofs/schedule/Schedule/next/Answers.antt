@@ -21,5 +21,5 @@ returns-clause-next c =
     let some = c.if-self-eq0.false in
     sym c.self.view_is
     ∙ turn_next i.k i.number i.state i.favourite i.turns i.place c.next_state-self-inside.result c.favoured_processor-self-inside.result
-    c.place_behind-self-inside.result (omega (arith, all, past)) (λ none. absurd (omega (arith, some, none))) c.next_state-self-inside.ensures
-    c.favoured_processor-self-inside.ensures.favoured_processor c.place_behind-self-inside.ensures
+    c.place_after-self-inside.result (omega (arith, all, past)) (λ none. absurd (omega (arith, some, none))) c.next_state-self-inside.ensures
+    c.favoured_processor-self-inside.ensures.favoured_processor c.place_after-self-inside.ensures

@@ -1,11 +1,11 @@
 use Rattle.std.proofs.Common.{rules, ◌==◌}
 use Rattle.line_faults.specs.Spans.{span_of, operand_spans}
-use Rattle.line_faults.proofs.OperandSpans.{behind_shorter, operands_more, operands_all}
+use Rattle.line_faults.proofs.OperandSpans.{rest_shorter, operands_more, operands_all}
 use Rattle.line_faults.proofs.parts.Parts.operands.Goals as goal
 
 pub loop-operand-smaller : goal.loop-operand-smaller
 loop-operand-smaller c =
-    behind_shorter (λ b. b == 44) (span_of c.loop-operand.rest) (span_of c.in-Some.operand, span_of c.in-Some.behind) c.in-Some.ensures.value
+    rest_shorter (λ b. b == 44) (span_of c.loop-operand.rest) (span_of c.in-Some.operand, span_of c.in-Some.behind) c.in-Some.ensures.value
 
 pub loop-operand-preserved : goal.loop-operand-preserved
 loop-operand-preserved c =

@@ -5,7 +5,7 @@ use Rattle.flat_machine.specs.Turns.{turn_of}
 use Rattle.hart.specs.declared.decision.Decision.TheVariants.{Refer}
 use Rattle.hart.specs.Deciding.{Decides}
 use Rattle.state_search.specs.Placed.{Placed}
-use Rattle.state_search.specs.StateTables.{placed_at, setting_at, words_at, IsBehind}
+use Rattle.state_search.specs.StateTables.{placed_at, setting_at, words_at, IsAfterReference}
 use Rattle.state_search.proofs.Growing.{kept_all}
 use Rattle.state_search.proofs.Moving.{IsReferred, looked, referred, undecided, stopped_has_none, local_has_none}
 use Rattle.state_search.proofs.Remembering.{local_states_kept, lists_kept}
@@ -61,9 +61,9 @@ returns-clause-next g c =
       named = subst (λ (a : Placed). c.in-Refer.word < a.setting.shared_words) is c.in-Refer.ensures.word;
       before_is = ap (λ i. slice_index (words_at c.args.self.now (slice_index c.args.row i)) c.in-Refer.word) (sym c.from-words_place.ensures)
           ∙ (ap (λ xs. slice_index xs c.in-Refer.word) (sym c.words.ensures) ∙ sym c.get-before.ensures.word);
-      behind = subst (λ i. IsBehind c.args.extent.exchanged c.args.code.now c.get-before.result
+      behind = subst (λ i. IsAfterReference c.args.extent.exchanged c.args.code.now c.get-before.result
           (placed_at c.args.self.now (slice_index c.args.row i)) c.state_after_reference.new.self
-          c.in_ok-after.after) c.from-place.ensures c.in_ok-after.ensures.behind;
+          c.in_ok-after.after) c.from-place.ensures c.in_ok-after.ensures.after;
       written_there = c.in_ok-written.ensures.there;
       written_is = c.in_ok-written.ensures.written
           ∙ ap (λ i. slice_set (words_at c.state_after_reference.new.self (slice_index c.args.row i)) c.in-Refer.word c.apply.result)
