@@ -63,18 +63,18 @@ record First (r : ℕ) (queue : List Request) (x : Request) : Type 0 where
   combines : CombinesAt r queue x place entry phi
   first : NoneInFront r queue x place
 
-behind_at : (r : ℕ) (d : Request) (ds : List Request) (x : Request) (i : ℕ) (e : Request) (phi : Phi) → CombinesAt r ds x i e phi →
+combines_later : (r : ℕ) (d : Request) (ds : List Request) (x : Request) (i : ℕ) (e : Request) (phi : Phi) → CombinesAt r ds x i e phi →
     CombinesAt r (d ∷ ds) x (suc i) e phi
-behind_at r d ds x i e phi at = record { there = at.there; fewer = at.fewer; same_word = at.same_word; composes = at.composes }
+combines_later r d ds x i e phi at = record { there = at.there; fewer = at.fewer; same_word = at.same_word; composes = at.composes }
 
 -- If an entry that does not combine is put in front, still no entry before the place combines.
-none_behind : (r : ℕ) (d : Request) (ds : List Request) (x : Request) (i : ℕ) → joint r x d ≡ None → NoneInFront r ds x i → NoneInFront r (d ∷ ds) x (suc i)
-none_behind r d ds x i is none zero e phi below at =
+none_after : (r : ℕ) (d : Request) (ds : List Request) (x : Request) (i : ℕ) → joint r x d ≡ None → NoneInFront r ds x i → NoneInFront r (d ∷ ds) x (suc i)
+none_after r d ds x i is none zero e phi below at =
     let there : d ≡ e = let some : Some d ≡ Some e = at.there in cc in
     let joins : joint r x e ≡ Some phi = joint_is r x e phi at.fewer at.same_word at.composes in
     let some : None ≡ Some phi = sym is ∙ ap (joint r x) there ∙ joins in
     cc
-none_behind r d ds x i is none (suc j) e phi below at =
+none_after r d ds x i is none (suc j) e phi below at =
     none j e phi (omega arith) (record { there = at.there; fewer = at.fewer; same_word = at.same_word; composes = at.composes })
 
 -- Either some entry is the first that combines, or none combines.
@@ -96,10 +96,10 @@ first_or_none r (d ∷ ds) x = go (joint r x d) refl (first_or_none r ds x)
       place = suc f.place;
       entry = f.entry;
       phi = f.phi;
-      combines = behind_at r d ds x f.place f.entry f.phi f.combines;
-      first = none_behind r d ds x f.place is f.first;
+      combines = combines_later r d ds x f.place f.entry f.phi f.combines;
+      first = none_after r d ds x f.place is f.first;
     })
-    go None is (inr none) = inr (none_behind r d ds x (length ds) is none)
+    go None is (inr none) = inr (none_after r d ds x (length ds) is none)
 
 -- ---- an output
 
@@ -144,16 +144,16 @@ can_combine : (o : OutputLists) (x : Request) → length o.records < o.b → Fir
 can_combine o x free f = record { free = free; place = f.place; entry = f.entry; phi = f.phi; combines = f.combines }
 
 -- the output with the request as the last of its queue
-abbrev behind_all : OutputLists → Request → OutputLists
-behind_all o x = record { c = o.c; b = o.b; r = o.r; requests = o.requests ++ unmarked x ∷ []; records = o.records }
+abbrev with_request : OutputLists → Request → OutputLists
+with_request o x = record { c = o.c; b = o.b; r = o.r; requests = o.requests ++ unmarked x ∷ []; records = o.records }
 
 queued_with_room : (o : OutputLists) (x : Request) → combination o.b o.r x o.requests o.records ≡ None → length o.requests < o.c →
-    accepted o x ≡ (Queued, behind_all o x)
-queued_with_room o x is room = accepted_is o x None is ∙ ap (λ b. if b then (Queued, behind_all o x) else (Full, o)) (lt-ltb (length o.requests) o.c room)
+    accepted o x ≡ (Queued, with_request o x)
+queued_with_room o x is room = accepted_is o x None is ∙ ap (λ b. if b then (Queued, with_request o x) else (Full, o)) (lt-ltb (length o.requests) o.c room)
 
 refused_without : (o : OutputLists) (x : Request) → combination o.b o.r x o.requests o.records ≡ None → o.c ≤ length o.requests →
     accepted o x ≡ (Full, o)
-refused_without o x is none = accepted_is o x None is ∙ ap (λ b. if b then (Queued, behind_all o x) else (Full, o)) (le-ltb (length o.requests) o.c none)
+refused_without o x is none = accepted_is o x None is ∙ ap (λ b. if b then (Queued, with_request o x) else (Full, o)) (le-ltb (length o.requests) o.c none)
 
 -- ---- the laws
 

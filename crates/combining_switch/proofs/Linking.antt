@@ -12,7 +12,7 @@ use Rattle.combining_switch.specs.Links.{AreApart, IsUnlinked, LinkLists, queue_
 use Rattle.combining_switch.specs.Walks.{IsLinked, KnowsLast, last_or, lists_of, no_ends, walk, walk_of}
 use Rattle.combining_switch.proofs.Lists.{AreApart-pop, AreApart-push, In-slice_get, few_below, get_or-map_past}
 use Rattle.combining_switch.proofs.Lists.{last_or-In, last_or-drop, last_or-push, set-map_same}
-use Rattle.combining_switch.proofs.Walks.{length-walk, walk_behind, walk_longer, walk_outside}
+use Rattle.combining_switch.proofs.Walks.{length-walk, walk_after, walk_longer, walk_outside}
 
 -- ---- reading
 
@@ -53,14 +53,14 @@ front_some next queues v q e is there at some =
     ap (λ ps. slice_get ps 0) (queue_is next queues v q e is there at) ∙ walk_front next e.first e.count some
 
 -- If a number is not at the last place of its queue, the table has for it the number at the next place.
-pub behind_some : (next : List ℕ) (queues : List Ends) (v : LinkLists) (q : ℕ) (e : Ends) (i p d : ℕ) → lists_of next queues ≡ v → q < length v.queues →
+pub number_after_some : (next : List ℕ) (queues : List Ends) (v : LinkLists) (q : ℕ) (e : Ends) (i p d : ℕ) → lists_of next queues ≡ v → q < length v.queues →
     e ≡ get_or queues q e → slice_get (queue_at v q) i ≡ Some p → i + 1 < e.count → p < length next → d ≡ get_or next p d
     → Some d ≡ slice_get (queue_at v q) (suc i)
-behind_some next queues v q e i p d is there at stands more below read =
+number_after_some next queues v q e i p d is there at stands more below read =
     let ps : queue_at v q ≡ walk_of next e = queue_is next queues v q e is there at in
     let found : slice_get (walk_of next e) i ≡ Some p = ap (λ xs. slice_get xs i) (sym ps) ∙ stands in
     let same : d ≡ get_or next p 0 = read ∙ default next p d below in
-    ap Some same ∙ sym (ap (λ xs. slice_get xs (suc i)) ps ∙ walk_behind next e.first e.count i p found (omega arith))
+    ap Some same ∙ sym (ap (λ xs. slice_get xs (suc i)) ps ∙ walk_after next e.first e.count i p found (omega arith))
   where
     default : (xs : List ℕ) (j d : ℕ) → j < length xs → get_or xs j d ≡ get_or xs j 0
     default [] j d lt = absurd (omega arith)
@@ -68,8 +68,8 @@ behind_some next queues v q e i p d is there at stands more below read =
     default (x ∷ xs) (suc j) d lt = default xs j d (omega arith)
 
 -- A list has no number after its last place.
-pub behind_none : (ps : List ℕ) (n i : ℕ) → n ≡ length ps → n ≤ i + 1 → None ≡ slice_get ps (suc i)
-behind_none ps n i is none = sym (slice_get_past ps (suc i) (omega arith))
+pub number_after_none : (ps : List ℕ) (n i : ℕ) → n ≡ length ps → n ≤ i + 1 → None ≡ slice_get ps (suc i)
+number_after_none ps n i is none = sym (slice_get_past ps (suc i) (omega arith))
 
 -- A number of a queue has a row in the table.
 pub row_within : (next : List ℕ) (queues : List Ends) (v : LinkLists) (q i p : ℕ) → lists_of next queues ≡ v → IsLinked next queues →

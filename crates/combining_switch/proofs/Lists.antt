@@ -131,11 +131,11 @@ slice_get_In (y ∷ xs) x (inl e) = (0, omega arith, ap Some (sym e))
 slice_get_In (y ∷ xs) x (inr m) = let h = slice_get_In xs x m in (suc h.0, omega (arith, h.1), h.2)
 
 -- A list that has nothing at a place has nothing at a later place.
-pub none_behind : {X : Type 0} (xs : List X) (i j : ℕ) → slice_get xs i ≡ None → i ≤ j → slice_get xs j ≡ None
-none_behind [] i j none le = refl
-none_behind (x ∷ xs) zero j none le = cc
-none_behind (x ∷ xs) (suc i) zero none le = absurd (omega arith)
-none_behind (x ∷ xs) (suc i) (suc j) none le = none_behind xs i j none (omega arith)
+pub none_after : {X : Type 0} (xs : List X) (i j : ℕ) → slice_get xs i ≡ None → i ≤ j → slice_get xs j ≡ None
+none_after [] i j none le = refl
+none_after (x ∷ xs) zero j none le = cc
+none_after (x ∷ xs) (suc i) zero none le = absurd (omega arith)
+none_after (x ∷ xs) (suc i) (suc j) none le = none_after xs i j none (omega arith)
 
 -- ---- one element of a mapped list is replaced
 

@@ -15,12 +15,12 @@ as_is : (o : OutputLists) (x : Request) (j : Option Combination) → combination
 unfolding accepted
 as_is o x j is = ap (λ k. (accepted_as o x k).0) is
 
-abbrev behind_all : OutputLists → Request → OutputLists
-behind_all o x = record { c = o.c; b = o.b; r = o.r; requests = o.requests ++ unmarked x ∷ []; records = o.records }
+abbrev with_request : OutputLists → Request → OutputLists
+with_request o x = record { c = o.c; b = o.b; r = o.r; requests = o.requests ++ unmarked x ∷ []; records = o.records }
 
 answer_of : (o : OutputLists) (x : Request) (b : Bool) → nat_lt (length o.requests) o.c ≡ b →
-    queued o x ≡ (if b then (Queued, behind_all o x) else (Full, o))
-answer_of o x b f = ap (λ (v : Bool). if v then (Queued, behind_all o x) else (Full, o)) f
+    queued o x ≡ (if b then (Queued, with_request o x) else (Full, o))
+answer_of o x b f = ap (λ (v : Bool). if v then (Queued, with_request o x) else (Full, o)) f
 
 abbrev first_of : Accepted × OutputLists → Accepted
 first_of r = r.0

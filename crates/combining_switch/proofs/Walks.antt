@@ -35,11 +35,11 @@ walk_longer next p f (suc m) below once =
     ∙ ap (λ ps. f ∷ ps) (walk_longer next p g m (λ q i. below q (inr i)) once.1)
 
 -- The number after another one of a walk is the one that the table has for it.
-pub walk_behind : (next : List ℕ) (f n i p : ℕ) → slice_get (walk next f n) i ≡ Some p → suc i < n →
+pub walk_after : (next : List ℕ) (f n i p : ℕ) → slice_get (walk next f n) i ≡ Some p → suc i < n →
     slice_get (walk next f n) (suc i) ≡ Some (get_or next p 0)
 unfolding walk
-walk_behind next f zero i p at within = absurd (omega arith)
-walk_behind next f (suc zero) i p at within = absurd (omega arith)
-walk_behind next f (suc (suc n)) zero p at within =
+walk_after next f zero i p at within = absurd (omega arith)
+walk_after next f (suc zero) i p at within = absurd (omega arith)
+walk_after next f (suc (suc n)) zero p at within =
     let same : f ≡ p = cc in ap (λ x. Some (get_or next x 0)) same
-walk_behind next f (suc (suc n)) (suc i) p at within = walk_behind next (get_or next f 0) (suc n) i p at (omega arith)
+walk_after next f (suc (suc n)) (suc i) p at within = walk_after next (get_or next f 0) (suc n) i p at (omega arith)

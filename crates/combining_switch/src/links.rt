@@ -136,7 +136,7 @@ impl Links {
     }
 
     /// The number after the one at `place` of a queue.
-    pub fn behind(&self, queue: usize, place: usize, number: u8) -> Option<u8>
+    pub fn number_after(&self, queue: usize, place: usize, number: u8) -> Option<u8>
         requires queue { queue < length self.now.queues }
         requires there { slice_get (queue_at self.now queue) place ≡ Some number }
         ensures { result ≡ slice_get (queue_at self.now queue) (suc place) }
@@ -156,7 +156,7 @@ impl Links {
     {
         let mut found = self.front(queue);
         for before in 0..place {
-            found = self.behind(queue, before, found?);
+            found = self.number_after(queue, before, found?);
         }
         found
     }

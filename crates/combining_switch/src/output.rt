@@ -222,7 +222,7 @@ fn first_partner(pool: &Pool, queue: usize, most_marks: u8, request: &Request) -
                 joint,
             });
         }
-        next = pool.request_behind(queue, place, entry.leader);
+        next = pool.request_after(queue, place, entry.leader);
     }
     None
 }

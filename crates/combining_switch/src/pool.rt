@@ -172,13 +172,13 @@ impl Pool {
     }
 
     /// The request after the one at `place` of a queue, which has this leader.
-    pub fn request_behind(&self, queue: usize, place: usize, leader: u8) -> Option<Request>
+    pub fn request_after(&self, queue: usize, place: usize, leader: u8) -> Option<Request>
         requires queue { queue < length self.now.requests }
         requires there { option_map leader_of_request (slice_get (requests_at self.now queue) place) ≡ Some leader }
         ensures { result ≡ slice_get (requests_at self.now queue) (suc place) }
     {
         self.links.are_apart();
-        let next = self.links.behind(queue, place, leader)?;
+        let next = self.links.number_after(queue, place, leader)?;
         Some(request_in(&self.cells, next))
     }
 

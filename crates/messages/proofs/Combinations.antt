@@ -5,12 +5,12 @@ use Rattle.std.specs.Prelude.{slice_get, ◌==◌, if◌then◌else◌}
 use Rattle.phi_algebra.specs.declared.phi.Phi.{Phi}
 use Rattle.phi_algebra.specs.Composition.{composed}
 use Rattle.messages.specs.declared.message.Request.{Request}
-use Rattle.messages.specs.Queues.{Combination, behind, combined_in, joint, merged, record_of}
+use Rattle.messages.specs.Queues.{Combination, with_front, combined_in, joint, merged, record_of}
 
 -- the combination with the first entry, or with a later one
 abbrev with_first : ℕ → (x e : Request) → List Request → Option Phi → Option Combination
 with_first r x e es (Some phi) = Some (record { queue = merged e phi ∷ es; made = record_of x e })
-with_first r x e es None = behind e (combined_in r x es)
+with_first r x e es None = with_front e (combined_in r x es)
 
 first_is : (r : ℕ) (x e : Request) (es : List Request) → combined_in r x (e ∷ es) ≡ with_first r x e es (joint r x e)
 unfolding combined_in
@@ -32,7 +32,7 @@ combined_at r x (d ∷ ds) zero e phi at before is =
     ∙ refl
 combined_at r x (d ∷ ds) (suc i) e phi at before is =
     first_is r x d ds ∙ ap (with_first r x d ds) (before 0 d (omega arith) refl)
-    ∙ ap (behind d) (combined_at r x ds i e phi at (λ j y below there. before (suc j) y (omega arith) there) is)
+    ∙ ap (with_front d) (combined_at r x ds i e phi at (λ j y below there. before (suc j) y (omega arith) there) is)
 
 -- A request that combines with no entry of a queue is not combined.
 pub combined_nowhere : (r : ℕ) (x : Request) (queue : List Request) → NoneBefore r x queue (length queue) → combined_in r x queue ≡ None
@@ -40,7 +40,7 @@ unfolding combined_in
 combined_nowhere r x [] before = refl
 combined_nowhere r x (d ∷ ds) before =
     first_is r x d ds ∙ ap (with_first r x d ds) (before 0 d (omega arith) refl)
-    ∙ ap (behind d) (combined_nowhere r x ds (λ j y below there. before (suc j) y (omega arith) there))
+    ∙ ap (with_front d) (combined_nowhere r x ds (λ j y below there. before (suc j) y (omega arith) there))
 
 -- An entry with which a request combines was combined fewer than r times.
 pub joint_fewer : (r : ℕ) (x e : Request) (phi : Phi) → joint r x e ≡ Some phi → e.marks < r

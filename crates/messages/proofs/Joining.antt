@@ -35,7 +35,7 @@ unfolding combined_in
 combine_joins r x [] j s = cc
 combine_joins r x (e ∷ es) j s = go (combine_joins r x es) (joint r x e) refl s
   where
-    deeper : (o : Option Combination) → ((i : Combination) → o ≡ Some i → Joins r x es i) → queues.behind e o ≡ Some j → Joins r x (e ∷ es) j
+    deeper : (o : Option Combination) → ((i : Combination) → o ≡ Some i → Joins r x es i) → queues.with_front e o ≡ Some j → Joins r x (e ∷ es) j
     deeper None rec f = cc
     deeper (Some i) rec f =
         let g = rec i refl in
@@ -62,7 +62,7 @@ combine_joins r x (e ∷ es) j s = go (combine_joins r x es) (joint r x e) refl 
               second = x.leader;
             };
           })
-          | None ↦ queues.behind e (combined_in r x es)
+          | None ↦ queues.with_front e (combined_in r x es)
         ] ≡ Some j → Joins r x (e ∷ es) j
     go rec None t f = deeper (combined_in r x es) rec f
     go rec (Some h) t f =

@@ -33,16 +33,16 @@ merged e phi = record { leader = e.leader; word = e.word; phi = phi; marks = suc
 abbrev pub record_of : (request entry : Request) → Record
 record_of x e = record { leader = e.leader; phi = e.phi; second = x.leader }
 
-abbrev pub behind : Request → Option Combination → Option Combination
-behind e None = None
-behind e (Some j) = Some (record { queue = e ∷ j.queue; made = j.made })
+abbrev pub with_front : Request → Option Combination → Option Combination
+with_front e None = None
+with_front e (Some j) = Some (record { queue = e ∷ j.queue; made = j.made })
 
 -- the combination of the request with the first entry, from the front, with which it combines
 unfoldable pub combined_in : (r : ℕ) → Request → List Request → Option Combination
 combined_in r x [] = None
 combined_in r x (e ∷ es) = elim (joint r x e) [
   | Some phi ↦ Some (record { queue = merged e phi ∷ es; made = record_of x e })
-  | None ↦ behind e (combined_in r x es)
+  | None ↦ with_front e (combined_in r x es)
 ]
 
 -- the combination at an output, if it has fewer than b records

@@ -51,8 +51,8 @@ with_replies z goes net d w xs ok these = record {
 }
 
 -- What holds of each element of a list, and of y, holds of each element of the list with y appended.
-each_behind : {X : Type 0} (P : X → Type 0) (xs : List X) (y : X) → ((x : X) → In x xs → P x) → P y → (x : X) → In x (xs ++ y ∷ []) → P x
-each_behind P xs y each last x m = elim (In-append x xs (y ∷ []) m) [
+each_appended : {X : Type 0} (P : X → Type 0) (xs : List X) (y : X) → ((x : X) → In x xs → P x) → P y → (x : X) → In x (xs ++ y ∷ []) → P x
+each_appended P xs y each last x m = elim (In-append x xs (y ∷ []) m) [
   | inl o ↦ each x o
   | inr (inl e) ↦ subst P (sym e) last
   | inr (inr o) ↦ absurd o
@@ -107,7 +107,7 @@ pub injecting : InjectingKeepsToPaths
 unfolding injected path
 injecting z goes net x ok small there =
     with_requests z goes net 0 x.leader (net.requests 0 x.leader ++ x ∷ []) ok
-    (each_behind (RequestOnPath z.k goes 0 x.leader) (net.requests 0 x.leader) x (ok.requests 0 x.leader)
+    (each_appended (RequestOnPath z.k goes 0 x.leader) (net.requests 0 x.leader) x (ok.requests 0 x.leader)
     (record { goes_there = there; wire = refl; deep = omega arith; processor = small }))
 
 -- A network keeps to the paths if a module takes a request, and if it replies to one whose reference goes there.
@@ -117,7 +117,7 @@ serving path_ends z goes net m ok = (
   with_requests z goes net z.k m (drop 1 (net.requests z.k m)) ok (λ x i. ok.requests z.k m x (In-drop x (net.requests z.k m) i)),
   λ x small led there.
       with_replies z goes net z.k m (net.replies z.k m ++ x ∷ []) ok
-      (each_behind (ReplyOnPath z.k goes z.k m) (net.replies z.k m) x (ok.replies z.k m)
+      (each_appended (ReplyOnPath z.k goes z.k m) (net.replies z.k m) x (ok.replies z.k m)
       (record { from_module = m; a_module = small; goes_there = there; wire = path_ends z.k x.leader m led small; deep = omega arith; processor = led })),
 )
 
@@ -133,7 +133,7 @@ on_alone : (z : Sizes) (goes : ℕ → ℕ → Bool) (net : Net) (s w : ℕ) (x 
     → KeepToPaths z goes (put_requests net (suc s) w (net.requests (suc s) w ++ unmarked x ∷ []))
 on_alone z goes net s w x ok on =
     with_requests z goes net (suc s) w (net.requests (suc s) w ++ unmarked x ∷ []) ok
-    (each_behind (RequestOnPath z.k goes (suc s) w) (net.requests (suc s) w) (unmarked x) (ok.requests (suc s) w)
+    (each_appended (RequestOnPath z.k goes (suc s) w) (net.requests (suc s) w) (unmarked x) (ok.requests (suc s) w)
     (record { goes_there = on.goes_there; wire = on.wire; deep = on.deep; processor = on.processor }))
 
 -- The network keeps to the paths if a request becomes part of an entry of a queue on its path.
@@ -165,7 +165,7 @@ on_together z goes net s w x j ok on J =
     subst (λ (i : Combination). KeepToPaths z goes (combined net s w i).1) (sym J.is)
     (with_records z goes (put_requests net (suc s) w queue) s w (net.records s w ++ made ∷ [])
     (with_requests z goes net (suc s) w queue ok each)
-    (each_behind (RecordOnPath z.k goes s w) (net.records s w) made (ok.records s w) kept))
+    (each_appended (RecordOnPath z.k goes s w) (net.records s w) made (ok.records s w) kept))
 
 -- A network keeps to the paths if a request moves up, or is combined.
 pub moving_up : MovingUpKeepsToPaths
@@ -209,7 +209,7 @@ pushed z goes wire s [] net ok each = ok
 pushed z goes wire s (y ∷ ys) net ok each =
     pushed z goes wire s ys (put_replies net s (wire y.leader) (net.replies s (wire y.leader) ++ y ∷ []))
     (with_replies z goes net s (wire y.leader) (net.replies s (wire y.leader) ++ y ∷ []) ok
-    (each_behind (ReplyOnPath z.k goes s (wire y.leader)) (net.replies s (wire y.leader)) y (ok.replies s (wire y.leader)) (each y (inl refl))))
+    (each_appended (ReplyOnPath z.k goes s (wire y.leader)) (net.replies s (wire y.leader)) y (ok.replies s (wire y.leader)) (each y (inl refl))))
     (λ x m. each x (inr m))
 
 -- A reply for p, at an output on p's path, is on p's path before that stage.

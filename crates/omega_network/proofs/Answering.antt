@@ -11,7 +11,7 @@ use Rattle.combining_switch.specs.declared.answers.Answered.{Answered}
 use Rattle.combining_switch.specs.declared.answers.Answered.TheVariants.{NoRoom}
 use Rattle.combining_switch.specs.Switches.{CanBeQueued, SwitchState, answered, records_at}
 use Rattle.omega_network.specs.Answers.{down_of}
-use Rattle.omega_network.specs.Networks.{IsNetwork, MayLead, NetworkLists, net_of, records_behind, sizes_of, switch_at}
+use Rattle.omega_network.specs.Networks.{IsNetwork, MayLead, NetworkLists, net_of, records_after, sizes_of, switch_at}
 use Rattle.omega_network.proofs.Offering.{Found, left_by}
 use Rattle.omega_network.proofs.Replies.{Answers, answered_keeps, answered_there, can_be_queued, down_stalls}
 use Rattle.omega_network.proofs.Switches.{with_pool, with_switch}
@@ -20,16 +20,16 @@ pub record Replied (m : NetworkLists) (s w : ℕ) (x : Reply) (answer : DownMove
   -- The lists that the call leaves are those of a network.
   pub is : IsNetwork l
   -- The call's answer is the outcome of answering the reply in the network of places.
-  pub answer_is : answer ≡ (moves.answer (sizes_of m) (net_of m) (net_of m) s w x (records_of x.leader (records_behind m s w))).0
+  pub answer_is : answer ≡ (moves.answer (sizes_of m) (net_of m) (net_of m) s w x (records_of x.leader (records_after m s w))).0
   -- The network that the call leaves is the one after the reply is answered.
-  pub net_is : net_of l ≡ (moves.answer (sizes_of m) (net_of m) (net_of m) s w x (records_of x.leader (records_behind m s w))).1
+  pub net_is : net_of l ≡ (moves.answer (sizes_of m) (net_of m) (net_of m) s w x (records_of x.leader (records_after m s w))).1
 
 module _ {n m : NetworkLists} {s w number : ℕ} {u : SwitchState} (found : Found n m s w number u) (x : Reply) where
   abbrev t : SwitchState
   t = switch_at n s (w / 2)
 
   is_fact : Answers n s (w / 2) (answered t n.pool (w % 2) x)
-      (moves.answer (sizes_of n) (net_of n) (net_of n) s w x (records_of x.leader (records_behind n s w)))
+      (moves.answer (sizes_of n) (net_of n) (net_of n) s w x (records_of x.leader (records_after n s w)))
   is_fact = answered_there n found.is s w found.stage found.wire x
 
   same : answered u n.pool (w % 2) x ≡ answered t n.pool (w % 2) x
@@ -68,10 +68,10 @@ module _ {n m : NetworkLists} {s w number : ℕ} {u : SwitchState} (found : Foun
 
   -- The switch has room for the replies exactly if the move does not stall.
   pub would_answer_end : (b : Bool) → IsTrue b ↔ ((answered u n.pool (w % 2) x).0 ≡ NoRoom → ⊥)
-      → IsTrue b ↔ ((moves.answer (sizes_of m) (net_of m) (net_of m) s w x (records_of x.leader (records_behind m s w))).0 ≡ down.Stalled → ⊥)
+      → IsTrue b ↔ ((moves.answer (sizes_of m) (net_of m) (net_of m) s w x (records_of x.leader (records_after m s w))).0 ≡ down.Stalled → ⊥)
   would_answer_end b would =
       subst (λ (l : NetworkLists). IsTrue b
-      ↔ ((moves.answer (sizes_of l) (net_of l) (net_of l) s w x (records_of x.leader (records_behind l s w))).0 ≡ down.Stalled → ⊥)) found.view (
+      ↔ ((moves.answer (sizes_of l) (net_of l) (net_of l) s w x (records_of x.leader (records_after l s w))).0 ≡ down.Stalled → ⊥)) found.view (
         (λ yes stalled. would.0 yes (first ∙ (down_stalls (answered t n.pool (w % 2) x).0).0 (is_fact.answer ∙ stalled))),
         (λ goes. would.1 (λ none. goes (sym is_fact.answer ∙ (down_stalls (answered t n.pool (w % 2) x).0).1 (sym first ∙ none)))),
       )

@@ -12,7 +12,7 @@ use Rattle.messages.proofs.Lemmas.{is_put2}
 use Rattle.combining_switch.specs.Pools.{replies_at, requests_at, with_replies, with_requests}
 use Rattle.combining_switch.specs.Outputs.{OutputState, output_with}
 use Rattle.combining_switch.specs.Switches.{SwitchState, no_output, output_of, records_at, with_records}
-use Rattle.omega_network.specs.Networks.{IsNetwork, NetworkLists, half, net_of, on_wire, place, records_behind, replies_before, requests_before, switch_at}
+use Rattle.omega_network.specs.Networks.{IsNetwork, NetworkLists, half, net_of, on_wire, place, records_after, replies_before, requests_before, switch_at}
 use Rattle.omega_network.proofs.Switches.{half_of_wire, one_place, switch_kept, switch_put, with_pool, with_switch}
 
 -- A wire that is one of the network has its own messages.
@@ -51,20 +51,20 @@ module _ (n : NetworkLists) (d w : ℕ) (wire : w < 2 ^ n.k) where
   -- If a queue of requests is replaced in the pool, it is replaced at its place, and nothing else changes.
   pub requests_put : (xs : List Request) → place n.k d w < length n.pool.requests →
       net_of (with_pool n (with_requests n.pool (place n.k d w) xs)) ≡ put_requests (net_of n) d w xs
-  unfolding requests_before records_behind replies_before
+  unfolding requests_before records_after replies_before
   requests_put xs there = λ j. record {
     requests = queue_put n.pool.requests n.k d w xs wire there j;
-    records = records_behind n;
+    records = records_after n;
     replies = replies_before n;
   }
 
   -- If a queue of replies is replaced in the pool, it is replaced at its place, and nothing else changes.
   pub replies_put : (ys : List Reply) → place n.k d w < length n.pool.replies →
       net_of (with_pool n (with_replies n.pool (place n.k d w) ys)) ≡ put_replies (net_of n) d w ys
-  unfolding requests_before records_behind replies_before
+  unfolding requests_before records_after replies_before
   replies_put ys there = λ j. record {
     requests = requests_before n;
-    records = records_behind n;
+    records = records_after n;
     replies = queue_put n.pool.replies n.k d w ys wire there j;
   }
 
@@ -103,9 +103,9 @@ module _ (n : NetworkLists) (is : IsNetwork n) (s w : ℕ) (stage : s < n.k) (wi
   put = switch_put n s (w / 2) changed stage number is.all_switches
 
   -- If a switch's records at an output are replaced, they are replaced at the place of the wire, and nowhere else.
-  pub records_put : records_behind new ≡ put2 (records_behind n) s w es
-  unfolding records_behind
-  records_put = is_put2 (records_behind n) (records_behind new) s w es
+  pub records_put : records_after new ≡ put2 (records_after n) s w es
+  unfolding records_after
+  records_put = is_put2 (records_after n) (records_after new) s w es
       (inside n.k w (records_at (switch_at new s (w / 2)) (w % 2)) wire
       ∙ ap (λ (t : SwitchState). records_at t (w % 2)) put ∙ records_here (switch_at n s (w / 2)) (w % 2) es two)
       (λ s' w' away. same_on_wire n.k w' (records_at (switch_at new s' (w' / 2)) (w' % 2)) (records_at (switch_at n s' (w' / 2)) (w' % 2))
@@ -130,8 +130,8 @@ module _ (n : NetworkLists) (is : IsNetwork n) (s w : ℕ) (stage : s < n.k) (wi
 -- ---- the lists at a place
 
 -- The records at the place of a wire are those at the wire's output of its switch.
-pub at_output : (n : NetworkLists) (s w : ℕ) → w < 2 ^ n.k → records_behind n s w ≡ records_at (switch_at n s (w / 2)) (w % 2)
-unfolding records_behind
+pub at_output : (n : NetworkLists) (s w : ℕ) → w < 2 ^ n.k → records_after n s w ≡ records_at (switch_at n s (w / 2)) (w % 2)
+unfolding records_after
 at_output n s w wire = inside n.k w (records_at (switch_at n s (w / 2)) (w % 2)) wire
 
 -- The requests at a depth on a wire are those of the queue of that number in the pool.

@@ -10,7 +10,7 @@ use Rattle.messages.specs.Network.{IsEmptyNet}
 use Rattle.combining_switch.specs.Pools.{replies_at, requests_at}
 use Rattle.combining_switch.specs.Switches.{SwitchState, records_at}
 use Rattle.omega_network.specs.Networks.{HasNoMessage, HasNoRecord, IsNetwork, NetworkLists, half, net_of, no_switch}
-use Rattle.omega_network.specs.Networks.{on_wire, place, records_behind, replies_before, requests_before, switch_at}
+use Rattle.omega_network.specs.Networks.{on_wire, place, records_after, replies_before, requests_before, switch_at}
 use Rattle.omega_network.proofs.Changes.{at_output, at_queue, at_reply_queue}
 use Rattle.omega_network.proofs.Switches.{two_halves}
 
@@ -52,7 +52,7 @@ at_either t none (suc (suc v)) l = absurd (omega arith)
 
 -- If no queue has a message and no switch has a record, the network is empty.
 pub empty_net : (n : NetworkLists) → HasNoMessage n.pool → All HasNoRecord n.switches → IsEmptyNet (net_of n)
-unfolding requests_before records_behind replies_before
+unfolding requests_before records_after replies_before
 empty_net n messages records d w = (
   nothing_on n.k w _ ((messages (place n.k d w)).0),
   nothing_on n.k w _ (at_either (switch_at n d (w / 2)) (each_switch HasNoRecord n records (refl, refl) d (w / 2)) (w % 2) (omega arith)),
@@ -84,7 +84,7 @@ module _ (n : NetworkLists) (is : IsNetwork n) (j : ℕ) (there : j < length n.s
   again = div-add-mod' j (half n.k)
 
   -- The records at an output of the switch with this number are those at the place of the output.
-  pub at_number : (d : SwitchState) (v : ℕ) → v < 2 → records_at (get_or n.switches j d) v ≡ records_behind n (j / half n.k) (2 * (j % half n.k) + v)
+  pub at_number : (d : SwitchState) (v : ℕ) → v < 2 → records_at (get_or n.switches j d) v ≡ records_after n (j / half n.k) (2 * (j % half n.k) + v)
   at_number d v l =
       let e = two_halves n.k (j / half n.k) stage in
       let m = number in

@@ -5,7 +5,7 @@ use Rattle.messages.specs.declared.message.Record.{Record}
 use Rattle.messages.specs.Places.{put2}
 use Rattle.combining_switch.specs.Pools.{PoolLists}
 use Rattle.combining_switch.specs.Switches.{SwitchState, records_at, with_records}
-use Rattle.omega_network.specs.Networks.{AreSeconds, IsNetwork, NetworkLists, half, records_behind, switch_at, the_switch}
+use Rattle.omega_network.specs.Networks.{AreSeconds, IsNetwork, NetworkLists, half, records_after, switch_at, the_switch}
 use Rattle.omega_network.proofs.Changes.{records_put}
 use Rattle.omega_network.proofs.Switches.{half_of_wire, switch_kept, switch_put, with_pool, with_switch}
 
@@ -19,8 +19,8 @@ pub record IsLike (pool pool' : PoolLists) : Type 0 where
   pub replies : length pool'.replies ≡ length pool.replies
 
 -- A network with another pool of the same sizes is again one, if the seconds of its records have free cells there.
-pub pool_kept : (n : NetworkLists) (pool : PoolLists) → IsNetwork n → IsLike n.pool pool → AreSeconds pool (records_behind n) → IsNetwork (with_pool n pool)
-unfolding records_behind
+pub pool_kept : (n : NetworkLists) (pool : PoolLists) → IsNetwork n → IsLike n.pool pool → AreSeconds pool (records_after n) → IsNetwork (with_pool n pool)
+unfolding records_after
 pool_kept n pool is like seconds = record {
   few = is.few;
   all_cells = like.cells ∙ is.all_cells;
@@ -46,7 +46,7 @@ form_kept k c b r s i t out es l form = subst (λ u. HasForm k c b r s i (with_r
 
 -- A network with other records at an output is again one, if each second has a free cell and is that of one record.
 pub records_kept : (n : NetworkLists) (is : IsNetwork n) (s w : ℕ) (stage : s < n.k) (wire : w < 2 ^ n.k) (es : List Record)
-    → AreSeconds n.pool (put2 (records_behind n) s w es)
+    → AreSeconds n.pool (put2 (records_after n) s w es)
     → IsNetwork (with_switch n s (w / 2) (with_records (switch_at n s (w / 2)) (w % 2) es))
 records_kept n is s w stage wire es seconds = record {
   few = is.few;

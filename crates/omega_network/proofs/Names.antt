@@ -11,7 +11,7 @@ use Rattle.messages.specs.Places.{In}
 use Rattle.messages.proofs.Lemmas.{In-map}
 use Rattle.combining_switch.specs.Pools.{IsFree, leader_of_reply, leader_of_request, replies_at, requests_at}
 use Rattle.combining_switch.specs.Switches.{SwitchState, records_at}
-use Rattle.omega_network.specs.Networks.{IsNetwork, NetworkLists, half, no_switch, on_wire, place, records_behind, replies_before, requests_before, switch_at}
+use Rattle.omega_network.specs.Networks.{IsNetwork, NetworkLists, half, no_switch, on_wire, place, records_after, replies_before, requests_before, switch_at}
 use Rattle.omega_network.proofs.Changes.{at_queue, at_reply_queue, inside, outside}
 use Rattle.omega_network.proofs.Empty.{at_number, on_a_wire, place_of}
 
@@ -120,14 +120,14 @@ module _ (n : NetworkLists) (is : IsNetwork n) (f : Record → Bool) where
 
   -- If the look through the switches finds a record that passes a test, one is at some output of the network.
   pub record_seen : list_any (λ t. list_any f (records_at t 0) || list_any f (records_at t 1)) n.switches ≡ true
-      → (s w : ℕ) × (e : Record) × In e (records_behind n s w) × (f e ≡ true)
+      → (s w : ℕ) × (e : Record) × In e (records_after n s w) × (f e ≡ true)
   record_seen fact =
       let h = any_in at_one n.switches fact in
       let at = stands_at n.switches h.0 h.1 in
       go at.0 at.1 h.0 at.2 (either (list_any f (records_at h.0 0)) (list_any f (records_at h.0 1)) h.2)
     where
       there : (j : ℕ) → j < length n.switches → (t : SwitchState) → get_or n.switches j no_switch ≡ t → (v : ℕ) → v < 2 → list_any f (records_at t v) ≡ true
-          → (s w : ℕ) × (e : Record) × In e (records_behind n s w) × (f e ≡ true)
+          → (s w : ℕ) × (e : Record) × In e (records_after n s w) × (f e ≡ true)
       there j l t e v two any =
           let r = any_in f (records_at t v) any in (
             j / half n.k,
@@ -140,14 +140,14 @@ module _ (n : NetworkLists) (is : IsNetwork n) (f : Record → Bool) where
 
       go : (j : ℕ) → j < length n.switches → (t : SwitchState) → get_or n.switches j no_switch ≡ t
           → (list_any f (records_at t 0) ≡ true) ⊎ (list_any f (records_at t 1) ≡ true)
-          → (s w : ℕ) × (e : Record) × In e (records_behind n s w) × (f e ≡ true)
+          → (s w : ℕ) × (e : Record) × In e (records_after n s w) × (f e ≡ true)
       go j l t e (inl a) = there j l t e 0 (omega arith) a
       go j l t e (inr a) = there j l t e 1 (omega arith) a
 
   -- If a record at some output of the network passes a test, the look through the switches finds one.
-  pub seen_record : (s w : ℕ) (e : Record) → In e (records_behind n s w) → f e ≡ true
+  pub seen_record : (s w : ℕ) (e : Record) → In e (records_after n s w) → f e ≡ true
       → list_any (λ t. list_any f (records_at t 0) || list_any f (records_at t 1)) n.switches ≡ true
-  unfolding records_behind
+  unfolding records_after
   seen_record s w e m holds = go (cases_lt (s * half n.k + w / 2) (length n.switches))
     where
       here : In e (records_at (switch_at n s (w / 2)) (w % 2))

@@ -14,7 +14,7 @@ use Rattle.messages.specs.Network.{IsEmptyNet}
 use Rattle.combining_switch.specs.Pools.{PoolLists, empty_pool, replies_at, requests_at}
 use Rattle.combining_switch.specs.Switches.{SwitchState, records_at}
 use Rattle.omega_network.specs.Networks.{AreNew, HasNoMessage, HasNoRecord, IsNetwork, NetworkLists, half, net_of}
-use Rattle.omega_network.specs.Networks.{no_switch, records_behind, second_of, switch_at, the_switch}
+use Rattle.omega_network.specs.Networks.{no_switch, records_after, second_of, switch_at, the_switch}
 use Rattle.omega_network.proofs.Empty.{empty_net}
 use Rattle.omega_network.proofs.Switches.{place_within}
 
@@ -117,5 +117,5 @@ module _ (n : NetworkLists) (new : AreNew n.k n.c n.b n.r n.switches) (cells que
     };
   }
     where
-      none : (s w : ℕ) (e : Record) → In e (records_behind n s w) → ⊥
+      none : (s w : ℕ) (e : Record) → In e (records_after n s w) → ⊥
       none s w e m = subst (In e) ((new_empty s w).1) m

@@ -18,7 +18,7 @@ use Rattle.combining_switch.specs.declared.answers.Accepted.TheVariants.{Full}
 use Rattle.combining_switch.specs.Outputs.{OutputLists, accepted, output_in}
 use Rattle.combining_switch.specs.Switches.{StandsIn, SwitchState, output_of, with_records}
 use Rattle.omega_network.specs.Answers.{up_of}
-use Rattle.omega_network.specs.Networks.{AreSeconds, IsNetwork, MayLead, NetworkLists, half, net_of, no_switch, place, records_behind, sizes_of, switch_at}
+use Rattle.omega_network.specs.Networks.{AreSeconds, IsNetwork, MayLead, NetworkLists, half, net_of, no_switch, place, records_after, sizes_of, switch_at}
 use Rattle.omega_network.proofs.Changes.{at_queue, requests_put, switch_records_put}
 use Rattle.omega_network.proofs.Forms.{in_pool, lists_are, queue_is}
 use Rattle.omega_network.proofs.Kept.{pool_kept, records_kept}
@@ -98,7 +98,7 @@ module _ (n : NetworkLists) (is : IsNetwork n) (s w : ℕ) (stage : s < n.k) (wi
 
   module _ (may : MayLead n x.leader) where
     -- A leader of a request that is queued after the offer is the second of no record.
-    none : (s' w' : ℕ) (e : Record) → In e (records_behind n s' w') → IsFree n.pool e.second → In e.second (map leader_of_request r.1.requests) → ⊥
+    none : (s' w' : ℕ) (e : Record) → In e (records_after n s' w') → IsFree n.pool e.second → In e.second (map leader_of_request r.1.requests) → ⊥
     none s' w' e m free o = go (fact.leaders e.second o)
       where
         go : In e.second (map leader_of_request ((net_of n).requests (suc s) w)) ⊎ (e.second ≡ x.leader) → ⊥
@@ -107,19 +107,19 @@ module _ (n : NetworkLists) (is : IsNetwork n) (s w : ℕ) (stage : s < n.k) (wi
 
     first_is : IsNetwork first
     first_is = pool_kept n pool is (record { cells = refl; requests = length-set n.pool.requests q r.1.requests; replies = refl })
-        (queues_changed n.pool pool (records_behind n) is.seconds refl
+        (queues_changed n.pool pool (records_after n) is.seconds refl
         (λ s' w' e m free. free_of_requests n.pool q e.second r.1.requests (none s' w' e m free) free))
 
-    seconds : AreSeconds pool (put2 (records_behind n) s w r.1.records)
-    unfolding records_behind
+    seconds : AreSeconds pool (put2 (records_after n) s w r.1.records)
+    unfolding records_after
     seconds = go fact.became
       where
-        go : Became x (output_at (sizes_of n) (net_of n) s w) r.1 → AreSeconds pool (put2 (records_behind n) s w r.1.records)
+        go : Became x (output_at (sizes_of n) (net_of n) s w) r.1 → AreSeconds pool (put2 (records_after n) s w r.1.records)
         go (same_records same) =
-            subst (AreSeconds pool) (sym (ap (put2 (records_behind n) s w) same ∙ put2_id (records_behind n) s w)) first_is.seconds
+            subst (AreSeconds pool) (sym (ap (put2 (records_after n) s w) same ∙ put2_id (records_after n) s w)) first_is.seconds
         go (one_more e more second leaders) =
-            subst (AreSeconds pool) (sym (ap (put2 (records_behind n) s w) more))
-            (record_added (records_behind n) s w e pool first_is.seconds (subst (λ p. p < n.pool.cells) (sym second) may.below)
+            subst (AreSeconds pool) (sym (ap (put2 (records_after n) s w) more))
+            (record_added (records_after n) s w e pool first_is.seconds (subst (λ p. p < n.pool.cells) (sym second) may.below)
             (subst (IsFree pool) (sym second) (free_of_requests n.pool q x.leader r.1.requests (λ o. led (subst (In x.leader) leaders o)) may.free))
             (λ s' w' f m same. may.no_second s' w' f m (same ∙ second)))
           where
@@ -128,7 +128,7 @@ module _ (n : NetworkLists) (is : IsNetwork n) (s w : ℕ) (stage : s < n.k) (wi
 
     pub offered_keeps : IsNetwork (with_switch (with_pool n (with_requests n.pool (output_of (switch_at n s (w / 2)) (w % 2)).queue r.1.requests)) s (w / 2)
         (with_records (switch_at n s (w / 2)) (w % 2) r.1.records))
-    unfolding records_behind
+    unfolding records_after
     offered_keeps = records_kept first first_is s w stage wire r.1.records seconds
 
     pub offered_net : net_of (with_switch (with_pool n (with_requests n.pool (output_of (switch_at n s (w / 2)) (w % 2)).queue r.1.requests)) s (w / 2)

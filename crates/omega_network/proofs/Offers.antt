@@ -8,7 +8,7 @@ use Rattle.messages.specs.declared.message.Record.{Record}
 use Rattle.messages.specs.declared.moves.UpMove.{UpMove}
 use Rattle.messages.specs.declared.moves.UpMove.TheVariants as up
 use Rattle.messages.specs.Places.{In, put2}
-use Rattle.messages.specs.Queues.{Combination, behind, combination, combined_in, joint, unmarked}
+use Rattle.messages.specs.Queues.{Combination, with_front, combination, combined_in, joint, unmarked}
 use Rattle.messages.specs.Network.{Net, Sizes, put_records, put_requests}
 use Rattle.messages.specs.Moves as moves
 use Rattle.messages.proofs.Lemmas.{In-append, put2_id}
@@ -29,7 +29,7 @@ unfolding combined_in
 made_of r x [] j e = cc
 made_of r x (d ∷ ds) j e = go (made_of r x ds) (joint r x d) e
   where
-    later : (o : Option Combination) → ((i : Combination) → o ≡ Some i → Made x ds i) → behind d o ≡ Some j → Made x (d ∷ ds) j
+    later : (o : Option Combination) → ((i : Combination) → o ≡ Some i → Made x ds i) → with_front d o ≡ Some j → Made x (d ∷ ds) j
     later None rest f = cc
     later (Some i) rest f =
         let had : Made x ds i = rest i refl in
@@ -42,7 +42,7 @@ made_of r x (d ∷ ds) j e = go (made_of r x ds) (joint r x d) e
             queue = record { leader = d.leader; word = d.word; phi = phi; marks = suc d.marks } ∷ ds;
             made = record { leader = d.leader; phi = d.phi; second = x.leader };
           })
-          | None ↦ behind d (combined_in r x ds)
+          | None ↦ with_front d (combined_in r x ds)
         ] ≡ Some j
         → Made x (d ∷ ds) j
     go rest None f = later (combined_in r x ds) rest f
@@ -91,8 +91,8 @@ module _ (z : Sizes) (net : Net) (s w : ℕ) (x : Request) where
   abbrev o : OutputLists
   o = output_at z net s w
 
-  abbrev behind_all : OutputLists
-  behind_all = record { c = z.c; b = z.b; r = z.r; requests = net.requests (suc s) w ++ unmarked x ∷ []; records = net.records s w }
+  abbrev with_request : OutputLists
+  with_request = record { c = z.c; b = z.b; r = z.r; requests = net.requests (suc s) w ++ unmarked x ∷ []; records = net.records s w }
 
   unchanged : after net s w o ≡ net
   unchanged = λ j. record {
@@ -104,7 +104,7 @@ module _ (z : Sizes) (net : Net) (s w : ℕ) (x : Request) where
   records_unchanged : (q : List Request) → put_records (put_requests net (suc s) w q) s w (net.records s w) ≡ put_requests net (suc s) w q
   records_unchanged q = λ j. record { requests = put2 net.requests (suc s) w q; records = put2_id net.records s w j; replies = net.replies }
 
-  by_test : (b : Bool) → Offered z net s w x (if b then (Queued, behind_all) else (Full, o))
+  by_test : (b : Bool) → Offered z net s w x (if b then (Queued, with_request) else (Full, o))
       (if b then (up.Moved, put_requests net (suc s) w (net.requests (suc s) w ++ unmarked x ∷ [])) else (up.Stalled, net))
   by_test true = record {
     answer = refl;

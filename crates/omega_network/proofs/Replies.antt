@@ -24,7 +24,7 @@ use Rattle.combining_switch.specs.Switches.{CanBeQueued, SwitchState, answered, 
 use Rattle.combining_switch.specs.Switches.{put_replies, put_reply, records_at, with_records}
 use Rattle.omega_network.specs.Answers.{down_of}
 use Rattle.omega_network.specs.Networks.{IsNetwork, MayLead, NetworkLists, half, net_of, no_switch, place}
-use Rattle.omega_network.specs.Networks.{records_behind, replies_before, second_of, sizes_of, switch_at}
+use Rattle.omega_network.specs.Networks.{records_after, replies_before, second_of, sizes_of, switch_at}
 use Rattle.omega_network.proofs.Changes.{at_output, at_reply_queue, replies_put, switch_records_put}
 use Rattle.omega_network.proofs.Forms.{form, input_is, on_way}
 use Rattle.omega_network.proofs.Kept.{IsLike, pool_kept, records_kept}
@@ -128,7 +128,7 @@ module _ (n : NetworkLists) (is : IsNetwork n) (s w : ℕ) (stage : s < n.k) (wi
   abbrev left : NetworkLists
   left = with_switch n s (w / 2) (with_records t (w % 2) (records_but x.leader own))
 
-  own_is : own ≡ records_behind n s w
+  own_is : own ≡ records_after n s w
   own_is = sym (at_output n s w wire)
 
   forgotten : net_of left ≡ put_records (net_of n) s w (records_but x.leader own)
@@ -164,7 +164,7 @@ module _ (n : NetworkLists) (is : IsNetwork n) (s w : ℕ) (stage : s < n.k) (wi
 
   -- What a switch does with a reply is what answering the reply does in a network of places.
   pub answered_there : Answers n s (w / 2) (answered (switch_at n s (w / 2)) n.pool (w % 2) x)
-      (moves.answer (sizes_of n) (net_of n) (net_of n) s w x (records_of x.leader (records_behind n s w)))
+      (moves.answer (sizes_of n) (net_of n) (net_of n) s w x (records_of x.leader (records_after n s w)))
   unfolding answered
   answered_there = subst (Answers n s (w / 2) (answered t n.pool (w % 2) x)) (ap answer_with own_is)
       (go (has_room t.c t.its_bit t.inputs all ys) refl)
@@ -175,7 +175,7 @@ module _ (n : NetworkLists) (is : IsNetwork n) (s w : ℕ) (stage : s < n.k) (wi
 
   -- ---- the network stays one
 
-  is_own : (e : Record) → In e own → In e (records_behind n s w)
+  is_own : (e : Record) → In e own → In e (records_after n s w)
   is_own e m = subst (In e) own_is m
 
   apart : ApartBy second_of own
@@ -227,18 +227,18 @@ module _ (n : NetworkLists) (is : IsNetwork n) (s w : ℕ) (stage : s < n.k) (wi
             subst (IsFree n.pool) h.2 (is.seconds.free s w h.0 (is_own h.0 ((one_of h.0 h.1).0)))
 
     left_is : IsNetwork left
-    left_is = records_kept n is s w stage wire (records_but x.leader own) (records_dropped (records_behind n) s w (records_but x.leader own)
+    left_is = records_kept n is s w stage wire (records_but x.leader own) (records_dropped (records_after n) s w (records_but x.leader own)
         (λ e m. is_own e ((one_but e m).0)) n.pool is.seconds (ApartBy-filter second_of (λ (f : Record). not (f.leader == x.leader)) own apart))
 
     -- The seconds of the records that are left get no reply.
-    none : (s' w' : ℕ) (e : Record) → In e (records_behind left s' w') → In e.second (map leader_of_reply ys) → ⊥
+    none : (s' w' : ℕ) (e : Record) → In e (records_after left s' w') → In e.second (map leader_of_reply ys) → ⊥
     none s' w' e m o = go (leads e.second o)
       where
-        was : In e (put2 (records_behind n) s w (records_but x.leader own) s' w')
+        was : In e (put2 (records_after n) s w (records_but x.leader own) s' w')
         was = subst (λ (net : Net). In e (net.records s' w')) forgotten m
 
         other : (f : Record) → In f (records_of x.leader own) → f.second ≡ e.second
-            → ((s' ≡ s) × (w' ≡ w) × In e (records_but x.leader own)) ⊎ ((s' ≡ s → w' ≡ w → ⊥) × In e (records_behind n s' w')) → ⊥
+            → ((s' ≡ s) × (w' ≡ w) × In e (records_but x.leader own)) ⊎ ((s' ≡ s → w' ≡ w → ⊥) × In e (records_after n s' w')) → ⊥
         other f o q (inl h) =
             let same : f ≡ e = ApartBy-same second_of f e own apart ((one_of f o).0) ((one_but e h.2).0) q in
             (one_but e h.2).1 (sym (ap (λ (g : Record). g.leader) same) ∙ (one_of f o).1)
@@ -247,8 +247,8 @@ module _ (n : NetworkLists) (is : IsNetwork n) (s w : ℕ) (stage : s < n.k) (wi
             h.0 (sym at.0) (sym at.1)
 
         go : (e.second ≡ x.leader) ⊎ ((f : Record) × In f (records_of x.leader own) × (f.second ≡ e.second)) → ⊥
-        go (inl q) = may.no_second s' w' e (was_there (records_behind n) s w (records_but x.leader own) (λ f m. is_own f ((one_but f m).0)) s' w' e was) q
-        go (inr h) = other h.0 h.1 h.2 (In-put2 (records_behind n) s w (records_but x.leader own) s' w' e was)
+        go (inl q) = may.no_second s' w' e (was_there (records_after n) s w (records_but x.leader own) (λ f m. is_own f ((one_but f m).0)) s' w' e was) q
+        go (inr h) = other h.0 h.1 h.2 (In-put2 (records_after n) s w (records_but x.leader own) s' w' e was)
 
     -- The network after a reply is answered is again a network, if the reply's leader may lead it.
     pub answered_keeps : (r : Answered × SwitchState × PoolLists) → r ≡ answered (switch_at n s (w / 2)) n.pool (w % 2) x →
@@ -259,7 +259,7 @@ module _ (n : NetworkLists) (is : IsNetwork n) (s w : ℕ) (stage : s < n.k) (wi
       where
         whole : IsNetwork (with_pool left all)
         whole = pool_kept left all left_is (put_like t.its_bit t.inputs ys n.pool)
-            (queues_changed n.pool all (records_behind left) left_is.seconds (sym ((put_like t.its_bit t.inputs ys n.pool).cells))
+            (queues_changed n.pool all (records_after left) left_is.seconds (sym ((put_like t.its_bit t.inputs ys n.pool).cells))
             (λ s' w' e m free. put_free t.its_bit t.inputs ys n.pool e.second (none s' w' e m) free))
 
         go : (b : Bool) → has_room t.c t.its_bit t.inputs all ys ≡ b

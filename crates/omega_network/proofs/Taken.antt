@@ -12,7 +12,7 @@ use Rattle.messages.proofs.Lemmas.{In-append}
 use Rattle.messages.specs.Naming.{Names, Unnamed}
 use Rattle.combining_switch.specs.Pools.{IsFree, PoolLists, leader_of_reply, leader_of_request, with_replies, with_requests}
 use Rattle.combining_switch.proofs.Lemmas.{free_of_replies, free_of_requests}
-use Rattle.omega_network.specs.Networks.{IsNetwork, MayLead, NetworkLists, net_of, place, records_behind, replies_before, requests_before}
+use Rattle.omega_network.specs.Networks.{IsNetwork, MayLead, NetworkLists, net_of, place, records_after, replies_before, requests_before}
 use Rattle.omega_network.proofs.Changes.{at_queue, at_reply_queue, replies_put, requests_put}
 use Rattle.omega_network.proofs.Kept.{IsLike, pool_kept}
 use Rattle.omega_network.proofs.Naming.{unnamed_is_free}
@@ -148,15 +148,15 @@ module _ {X : Type 0} (K : Kind X) {n m : NetworkLists} {d w q : ℕ} (found : Q
         ∙ K.puts n d w found.wire xs (subst (λ v. v < length (K.queues n.pool)) found.at within)
         ∙ ap (λ (l : NetworkLists). K.put (net_of l) d w xs) found.view
 
-    kept : ((p : ℕ) → In p (map K.leader xs) → In p (map K.leader here) ⊎ ((s v : ℕ) (e : Record) → In e (records_behind n s v) → e.second ≡ p → ⊥))
+    kept : ((p : ℕ) → In p (map K.leader xs) → In p (map K.leader here) ⊎ ((s v : ℕ) (e : Record) → In e (records_after n s v) → e.second ≡ p → ⊥))
         → IsNetwork (with_pool n pool)
     kept led = subst (λ (p : PoolLists). IsNetwork (with_pool n p)) (sym pool_is)
         (pool_kept n (K.with_queue n.pool q xs) found.is (K.like n.pool q xs)
-        (queues_changed n.pool (K.with_queue n.pool q xs) (records_behind n) found.is.seconds (sym (K.like n.pool q xs).cells)
+        (queues_changed n.pool (K.with_queue n.pool q xs) (records_after n) found.is.seconds (sym (K.like n.pool q xs).cells)
         (λ s v e m free. K.stays_free n.pool q e.second xs (λ o. none s v e m free (led e.second o)) free)))
       where
-        none : (s v : ℕ) (e : Record) → In e (records_behind n s v) → IsFree n.pool e.second
-            → In e.second (map K.leader here) ⊎ ((s v : ℕ) (f : Record) → In f (records_behind n s v) → f.second ≡ e.second → ⊥) → ⊥
+        none : (s v : ℕ) (e : Record) → In e (records_after n s v) → IsFree n.pool e.second
+            → In e.second (map K.leader here) ⊎ ((s v : ℕ) (f : Record) → In f (records_after n s v) → f.second ≡ e.second → ⊥) → ⊥
         none s v e m free (inl o) = K.none_led n.pool e.second free q o
         none s v e m free (inr none_of) = none_of s v e m refl
 
@@ -173,7 +173,7 @@ module _ {X : Type 0} (K : Kind X) {n m : NetworkLists} {d w q : ℕ} (found : Q
     -- The leader of a message that was taken may lead one again.
     pub leader_may : (o : Option X) → o ≡ slice_get here 0 → IfSome o (λ x. K.leader x < n.pool.cells) → IfSome o (λ x. IsFree pool (K.leader x))
         → IfSome o (λ x. MayLead (with_pool n pool) (K.leader x))
-    unfolding records_behind
+    unfolding records_after
     leader_may None first below free = tt
     leader_may (Some x) first below free = record {
       below = subst (λ (p : PoolLists). K.leader x < p.cells) (sym taken) (subst (λ c. K.leader x < c) (sym (K.like n.pool q (drop 1 here)).cells) below);
@@ -189,7 +189,7 @@ module _ {X : Type 0} (K : Kind X) {n m : NetworkLists} {d w q : ℕ} (found : Q
     put_kept may = kept (here ++ x ∷ []) put (λ p o. go p (one_of_more K.leader p here x o))
       where
         go : (p : ℕ) → In p (map K.leader here) ⊎ (p ≡ K.leader x)
-            → In p (map K.leader here) ⊎ ((s v : ℕ) (f : Record) → In f (records_behind n s v) → f.second ≡ p → ⊥)
+            → In p (map K.leader here) ⊎ ((s v : ℕ) (f : Record) → In f (records_after n s v) → f.second ≡ p → ⊥)
         go p (inl o) = inl o
         go p (inr e) = inr (λ s v f m same. may.no_second s v f m (same ∙ e))
 

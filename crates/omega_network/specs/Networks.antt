@@ -47,14 +47,14 @@ on_wire k w xs = if nat_lt w (2 ^ k) then xs else []
 unfoldable pub requests_before : NetworkLists → (depth wire : ℕ) → List Request
 requests_before n d w = on_wire n.k w (requests_at n.pool (place n.k d w))
 
-unfoldable pub records_behind : NetworkLists → (stage wire : ℕ) → List Record
-records_behind n s w = on_wire n.k w (records_at (switch_at n s (w / 2)) (w % 2))
+unfoldable pub records_after : NetworkLists → (stage wire : ℕ) → List Record
+records_after n s w = on_wire n.k w (records_at (switch_at n s (w / 2)) (w % 2))
 
 unfoldable pub replies_before : NetworkLists → (depth wire : ℕ) → List Reply
 replies_before n d w = on_wire n.k w (replies_at n.pool (place n.k d w))
 
 abbrev pub net_of : NetworkLists → Net
-net_of n = record { requests = requests_before n; records = records_behind n; replies = replies_before n }
+net_of n = record { requests = requests_before n; records = records_after n; replies = replies_before n }
 
 -- ---- the invariant of a network
 
@@ -90,13 +90,13 @@ pub record IsNetwork (n : NetworkLists) : Type 0 where
   pub all_switches : length n.switches ≡ n.k * half n.k
   pub each_switch : (s i : ℕ) → s < n.k → i < half n.k →
       switch_at n s i ≡ the_switch n.k n.c n.b n.r s i (records_at (switch_at n s i) 0) (records_at (switch_at n s i) 1)
-  pub seconds : AreSeconds n.pool (records_behind n)
+  pub seconds : AreSeconds n.pool (records_after n)
 
 -- The processor may lead a message that is put in: it leads none, and is the second of no record.
 pub record MayLead (n : NetworkLists) (p : ℕ) : Type 0 where
   pub below : p < n.pool.cells
   pub free : IsFree n.pool p
-  pub no_second : (s w : ℕ) (e : Record) → In e (records_behind n s w) → e.second ≡ p → ⊥
+  pub no_second : (s w : ℕ) (e : Record) → In e (records_after n s w) → e.second ≡ p → ⊥
 
 -- ---- looks through the whole network
 

@@ -337,7 +337,7 @@ impl Network {
         requires wire { wire < 2 ^ self.now.k }
         ensures { result.now ≡ (net_of self.now).records stage wire }
     {
-        self.switches[self.switch_behind(stage, wire)].records(wire % 2)
+        self.switches[self.switch_after(stage, wire)].records(wire % 2)
     }
 
     /// The first request before a stage on a wire, or at a module if the stage is `k`.
@@ -394,7 +394,7 @@ impl Network {
             ↔ ((offered (sizes_of self.now) (net_of self.now) (net_of self.now) stage wire request.now).0
             ≡ up.Stalled → ⊥) }
     {
-        self.switches[self.switch_behind(stage, wire)].would_take(&self.pool, wire % 2, request)
+        self.switches[self.switch_after(stage, wire)].would_take(&self.pool, wire % 2, request)
     }
 
     /// Offers a request, which was taken out of its place, to the output of a wire after a stage.
@@ -409,7 +409,7 @@ impl Network {
         ensures sizes { sizes_of self.new ≡ sizes_of self.old }
     {
         let second = request.leader;
-        let place = self.switch_behind(stage, wire);
+        let place = self.switch_after(stage, wire);
         let answer = self.switches[place].accept(&mut self.pool, wire % 2, request);
         up_of(answer, second)
     }
@@ -421,7 +421,7 @@ impl Network {
         ensures { IsTrue result ↔ ((answer (sizes_of self.now) (net_of self.now) (net_of self.now) stage wire reply.now
             (records_of reply.now.leader ((net_of self.now).records stage wire))).0 ≡ down.Stalled → ⊥) }
     {
-        self.switches[self.switch_behind(stage, wire)].would_answer(&self.pool, wire % 2, reply)
+        self.switches[self.switch_after(stage, wire)].would_answer(&self.pool, wire % 2, reply)
     }
 
     /// Answers a reply, which was taken out of its place, at the output of a wire after a stage.
@@ -436,7 +436,7 @@ impl Network {
             (records_of reply.leader ((net_of self.old).records stage wire))).1 }
         ensures sizes { sizes_of self.new ≡ sizes_of self.old }
     {
-        let place = self.switch_behind(stage, wire);
+        let place = self.switch_after(stage, wire);
         let answer = self.switches[place].answer(&mut self.pool, wire % 2, reply);
         down_of(answer)
     }
@@ -454,7 +454,7 @@ impl Network {
 
     /// The index, among all switches, of the one that a wire comes from after a stage.
     #[tactic(auto, using(crate::proofs::Switches::place_is, crate::proofs::Switches::half_of_wire, crate::proofs::Switches::place_within))]
-    fn switch_behind(&self, stage: u8, wire: u8) -> usize
+    fn switch_after(&self, stage: u8, wire: u8) -> usize
         requires stage { stage < self.now.k }
         requires wire { wire < 2 ^ self.now.k }
         ensures exact { result ≡ stage * half self.now.k + wire / 2 }

@@ -12,7 +12,7 @@ HasNoneIn s from to = (w : ℕ) → from ≤ w → w < to → s w ≡ false
 
 -- The wire is the first of the set from this one on.
 pub record IsFirst (s : ℕ → Bool) (from w : ℕ) : Type 0 where
-  pub behind : from ≤ w
+  pub after : from ≤ w
   pub few : w < 64
   pub member : s w ≡ true
   pub first : HasNoneIn s from w

@@ -13,7 +13,7 @@ use Rattle.messages.specs.declared.message.Reply.{Reply}
 use Rattle.messages.specs.Places.{put2}
 use Rattle.ring_network.specs.Switches.{SwitchLists, records_at, replies_at, requests_at}
 use Rattle.omega_network.specs.Networks.{half}
-use Rattle.ring_network.specs.Networks.{IsNetwork, NetworkLists, at_output, records_behind, replies_before, requests_before, slot_of, switch_at}
+use Rattle.ring_network.specs.Networks.{IsNetwork, NetworkLists, at_output, records_after, replies_before, requests_before, slot_of, switch_at}
 use Rattle.ring_network.specs.Changes.{with_module_slot, with_slot, with_switch}
 use Rattle.messages.proofs.Lemmas.{is_put2}
 use Rattle.omega_network.proofs.Lemmas.{half_of_wire}
@@ -81,9 +81,9 @@ module _ (n : NetworkLists) (is : IsNetwork n) (s w : ℕ) (stage : s < n.k) (wi
 
   -- If a switch has other records at one output alone, they are replaced at the place of its wire, and nowhere else.
   pub records_put : ((v : ℕ) → v < 2 → (v ≡ w % 2 → ⊥) → records_at t v ≡ records_at (switch_at n s (w / 2)) v)
-      → records_behind (with_switch n s (w / 2) t) ≡ put2 (records_behind n) s w (records_at t (w % 2))
-  unfolding records_behind
-  records_put same = is_put2 (records_behind n) (records_behind (with_switch n s (w / 2) t)) s w (records_at t (w % 2)) (output_here records_at)
+      → records_after (with_switch n s (w / 2) t) ≡ put2 (records_after n) s w (records_at t (w % 2))
+  unfolding records_after
+  records_put same = is_put2 (records_after n) (records_after (with_switch n s (w / 2) t)) s w (records_at t (w % 2)) (output_here records_at)
       (output_other records_at same)
 
 -- ---- what a change leaves
@@ -112,8 +112,8 @@ module _ (n : NetworkLists) (is : IsNetwork n) (s i : ℕ) (stage : s < n.k) (nu
       at (suc s') w' = outputs_left requests_at same s' w'
 
   -- If a switch is replaced by one with the same records, all records of the network stay.
-  pub records_left : ((v : ℕ) → v < 2 → records_at t v ≡ records_at (switch_at n s i) v) → records_behind (with_switch n s i t) ≡ records_behind n
-  unfolding records_behind
+  pub records_left : ((v : ℕ) → v < 2 → records_at t v ≡ records_at (switch_at n s i) v) → records_after (with_switch n s i t) ≡ records_after n
+  unfolding records_after
   records_left same = fun_ext (λ s'. fun_ext (λ w'. outputs_left records_at same s' w'))
 
 -- ---- inputs

@@ -12,7 +12,7 @@ use Rattle.messages.specs.declared.message.Reply.{Reply}
 use Rattle.ring_network.specs.Switches.{IsEmptySwitch, SwitchLists, empty_switch, records_at, replies_at, requests_at}
 use Rattle.messages.specs.Network.{IsEmptyNet}
 use Rattle.omega_network.specs.Networks.{half}
-use Rattle.ring_network.specs.Networks.{IsNetwork, NetworkLists, net_of, records_behind, replies_before, requests_before, slot_of, switch_at}
+use Rattle.ring_network.specs.Networks.{IsNetwork, NetworkLists, net_of, records_after, replies_before, requests_before, slot_of, switch_at}
 use Rattle.ring_network.proofs.Kept.{get_or_any}
 use Rattle.omega_network.proofs.Lemmas.{two_halves}
 use Rattle.ring_network.proofs.Changes.{at_input, at_module}
@@ -77,14 +77,14 @@ small_rest w = omega arith
 
 -- If no slot has a message and each switch is empty, the network is empty.
 pub empty_net : (n : NetworkLists) → All IsNone n.slots → All IsEmptySwitch n.switches → All IsNone n.module_slots → IsEmptyNet (net_of n)
-unfolding requests_before records_behind replies_before
+unfolding requests_before records_after replies_before
 empty_net n slots switches module_slots d w = (requests d, records, replies)
   where
     requests : (d : ℕ) → requests_before n d w ≡ []
     requests zero = slot_empty n.slots slots w
     requests (suc s) = if_same (nat_lt w (2 ^ n.k)) (requests_at (switch_at n s (w / 2)) (w % 2)) (requests_none n switches s (w / 2) (w % 2) (small_rest w))
 
-    records : records_behind n d w ≡ []
+    records : records_after n d w ≡ []
     records = if_same (nat_lt w (2 ^ n.k)) (records_at (switch_at n d (w / 2)) (w % 2)) (records_none n switches d (w / 2) (w % 2) (small_rest w))
 
     replies : replies_before n d w ≡ []
@@ -133,7 +133,7 @@ module _ (inverse : RotationsAreInverse) (on_wires : RotationsStayOnWires) (n : 
         ∙ (empty (suc s) (i * 2 + v)).0
 
     record_none : records_at (switch_at n s i) v ≡ []
-    unfolding records_behind
+    unfolding records_after
     record_none =
         (λ j. records_at (switch_at n s (sym at_half j)) (sym at_rest j))
         ∙ sym (ap (λ (b : Bool). if b then records_at (switch_at n s ((i * 2 + v) / 2)) ((i * 2 + v) % 2) else []) (lt-ltb (i * 2 + v) (2 ^ n.k) on))

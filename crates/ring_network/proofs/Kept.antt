@@ -187,9 +187,9 @@ pub record Found (n m : NetworkLists) (s i place : ℕ) (u : SwitchLists) : Type
   pub at : u ≡ get_or n.switches place u
 
 -- The switch at the place of a stage and a wire after it is the one that the wire comes from.
-pub found_behind : {n m : NetworkLists} {s w place : ℕ} {u : SwitchLists} → n ≡ m → IsNetwork n → s < m.k → w < 2 ^ m.k →
+pub found_after : {n m : NetworkLists} {s w place : ℕ} {u : SwitchLists} → n ≡ m → IsNetwork n → s < m.k → w < 2 ^ m.k →
     place ≡ s * half m.k + w / 2 → u ≡ get_or n.switches place u → Found n m s (w / 2) place u
-found_behind {n} {m} {s} {w} view is stage wire exact at =
+found_after {n} {m} {s} {w} view is stage wire exact at =
     record { view = view; is = is; stage = stage; number = half_of_wire m.k s w stage wire; exact = exact; at = at }
 
 -- The switch at the place of a stage and a wire before it is the one that the wire goes into.

@@ -23,7 +23,7 @@ use Rattle.combining_switch.specs.Switches.{answered_for}
 use Rattle.ring_network.specs.Switches.{SwitchLists, answered, empty_switch, has_room, output_of, put_replies}
 use Rattle.ring_network.specs.Switches.{put_reply, records_at, replies_at, requests_at, with_inputs, with_records}
 use Rattle.omega_network.specs.Networks.{half}
-use Rattle.ring_network.specs.Networks.{IsNetwork, IsSwitchOf, NetworkLists, net_of, records_behind, replies_before, sizes_of, switch_at}
+use Rattle.ring_network.specs.Networks.{IsNetwork, IsSwitchOf, NetworkLists, net_of, records_after, replies_before, sizes_of, switch_at}
 use Rattle.ring_network.specs.Changes.{with_switch}
 use Rattle.ring_network.specs.Offers.{answered_on, first_reply_taken}
 use Rattle.omega_network.proofs.Lemmas.{half_of_wire, two_halves}
@@ -177,8 +177,8 @@ module _ (inverse : RotationsAreInverse) (on_wires : RotationsStayOnWires) where
       output_in : w % 2 < length u.outputs
       output_in = let two = ok.two_outputs in let r = rest in omega arith
 
-      records_are : own ≡ records_behind n s w
-      unfolding records_behind
+      records_are : own ≡ records_after n s w
+      unfolding records_after
       records_are =
           ap (λ t. records_at t (w % 2)) found
           ∙ sym (ap (λ (b : Bool). if b then records_at (switch_at n s (w / 2)) (w % 2) else []) (lt-ltb w (2 ^ n.k) wire))
@@ -210,7 +210,7 @@ module _ (inverse : RotationsAreInverse) (on_wires : RotationsStayOnWires) where
       forgotten = λ j. record {
         requests = requests_left n is s (w / 2) stage number left requests_same j;
         records = (records_put n is s w stage wire left (λ v l away. ap (λ (o : OutputLists). o.records) (out_other v away) ∙ ap (λ t. records_at t v) found)
-            ∙ ap (λ (o : OutputLists). put2 (records_behind n) s w o.records) out_here) j;
+            ∙ ap (λ (o : OutputLists). put2 (records_after n) s w o.records) out_here) j;
         replies = replies_left inverse on_wires n is s (w / 2) stage number left (ap (λ (t : SwitchLists). t.inputs) found) j;
       }
 

@@ -13,7 +13,7 @@ use Rattle.combining_switch.specs.declared.answers.Accepted.TheVariants.{Combine
 use Rattle.combining_switch.specs.Outputs.{OutputLists, accepted, accepted_as}
 use Rattle.ring_network.specs.Outputs.{empty_output}
 use Rattle.ring_network.specs.Switches.{SwitchLists, output_of, records_at, requests_at, with_output, with_requests}
-use Rattle.ring_network.specs.Networks.{NetworkLists, at_output, net_of, records_behind, replies_before, requests_before, sizes_of, switch_at}
+use Rattle.ring_network.specs.Networks.{NetworkLists, at_output, net_of, records_after, replies_before, requests_before, sizes_of, switch_at}
 use Rattle.ring_network.specs.Changes.{with_switch}
 use Rattle.ring_network.specs.Offers.{accepted_on, accepted_where, first_request_taken}
 use Rattle.messages.proofs.Lemmas.{put2_id}
@@ -101,7 +101,7 @@ module _ (inverse : RotationsAreInverse) (on_wires : RotationsStayOnWires)
       ∙ sym (ap (λ (b : Bool). if b then f (switch_at n s (w / 2)) (w % 2) else []) (lt-ltb w (2 ^ n.k) wire_is))
 
   output_is : IsOutput (sizes_of n) (net_of n) s w (output_of u (w % 2))
-  unfolding requests_before records_behind
+  unfolding requests_before records_after
   output_is =
       let had = (had_is n m s (w / 2) place u found).outputs (w % 2) rest (empty_output 0 0 0) in
       record { c_is = had.0; b_is = had.1; r_is = had.2; requests_are = at_place requests_at; records_are = at_place records_at }
@@ -114,7 +114,7 @@ module _ (inverse : RotationsAreInverse) (on_wires : RotationsStayOnWires)
     requests = (requests_put n found.is s w stage wire_is t (λ v l away. ap (λ (p : OutputLists). p.requests) (other v away))
         ∙ (λ i. put2 (requests_before n) (suc s) w ((here i).requests))) j;
     records = (records_put n found.is s w stage wire_is t (λ v l away. ap (λ (p : OutputLists). p.records) (other v away))
-        ∙ (λ i. put2 (records_behind n) s w ((here i).records))) j;
+        ∙ (λ i. put2 (records_after n) s w ((here i).records))) j;
     replies =
         replies_left inverse on_wires n found.is s (w / 2) stage (number_is n m s (w / 2) place u found) t (ap (λ (v : SwitchLists). v.inputs) found_switch) j;
   }
@@ -149,6 +149,6 @@ module _ (inverse : RotationsAreInverse) (on_wires : RotationsStayOnWires)
       subst (λ (l : NetworkLists). net_of (put_at n place t) ≡ first_request_taken (net_of l) (suc s) w) found.view
       (put_there t _ same ∙ (λ j. record {
         requests = put2 (requests_before n) (suc s) w (drop 1 (is.requests_are j));
-        records = ((λ i. put2 (records_behind n) s w (is.records_are i)) ∙ put2_id (records_behind n) s w) j;
+        records = ((λ i. put2 (records_after n) s w (is.records_are i)) ∙ put2_id (records_after n) s w) j;
         replies = replies_before n;
       }))

@@ -9,7 +9,7 @@ use Rattle.messages.specs.declared.message.Reply.{Reply}
 use Rattle.messages.specs.Network.{Net, Sizes, put_replies, put_requests}
 use Rattle.messages.specs.Moves.{injected, module_replied}
 use Rattle.ring_network.specs.Switches.{SwitchLists, replies_at, requests_at}
-use Rattle.ring_network.specs.Networks.{IsNetwork, NetworkLists, net_of, records_behind, replies_before, requests_before, switch_at}
+use Rattle.ring_network.specs.Networks.{IsNetwork, NetworkLists, net_of, records_after, replies_before, requests_before, switch_at}
 use Rattle.ring_network.specs.Changes.{with_module_slot, with_slot}
 use Rattle.ring_network.specs.Offers.{first_reply_taken, first_request_taken}
 use Rattle.ring_network.proofs.Kept.{Found, get_or_any, switch_is}
@@ -25,18 +25,18 @@ module _ (n m : NetworkLists) (view : n ≡ m) (is : IsNetwork n) (w : ℕ) (wir
 
   -- If a processor's slot is replaced, the requests at its place are, and nothing else changes.
   pub put_slot_net : (i : ℕ) → i ≡ w → (x : Option Request) → net_of (with_slot n i x) ≡ put_requests (net_of m) 0 w (option_to_list x)
-  unfolding records_behind replies_before
+  unfolding records_after replies_before
   put_slot_net i at x =
       ap (λ v. net_of (with_slot n v x)) at
-      ∙ (λ j. record { requests = slot_put n w x within j; records = records_behind n; replies = replies_before n })
+      ∙ (λ j. record { requests = slot_put n w x within j; records = records_after n; replies = replies_before n })
       ∙ ap (λ (l : NetworkLists). put_requests (net_of l) 0 w (option_to_list x)) view
 
   -- If a module's slot is replaced, the replies at its place are, and nothing else changes.
   pub put_module_slot_net : (i : ℕ) → i ≡ w → (y : Option Reply) → net_of (with_module_slot n i y) ≡ put_replies (net_of m) m.k w (option_to_list y)
-  unfolding requests_before records_behind
+  unfolding requests_before records_after
   put_module_slot_net i at y =
       ap (λ v. net_of (with_module_slot n v y)) at
-      ∙ (λ j. record { requests = requests_before n; records = records_behind n; replies = module_slot_put n w y module_within j })
+      ∙ (λ j. record { requests = requests_before n; records = records_after n; replies = module_slot_put n w y module_within j })
       ∙ ap (λ (l : NetworkLists). put_replies (net_of l) l.k w (option_to_list y)) view
 
   -- What a processor's slot has is the first request at depth 0 on its wire.

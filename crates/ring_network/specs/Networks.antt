@@ -42,8 +42,8 @@ unfoldable pub requests_before : NetworkLists → (depth wire : ℕ) → List Re
 requests_before n zero w = slot_of n.slots w
 requests_before n (suc s) w = at_output requests_at n s w
 
-unfoldable pub records_behind : NetworkLists → (stage wire : ℕ) → List Record
-records_behind n s w = at_output records_at n s w
+unfoldable pub records_after : NetworkLists → (stage wire : ℕ) → List Record
+records_after n s w = at_output records_at n s w
 
 -- the replies before a stage on a wire: the queue at the input that the wire goes to, or after the last stage the
 -- module's slot
@@ -54,7 +54,7 @@ replies_before n d w =
     []
 
 abbrev pub net_of : NetworkLists → Net
-net_of n = record { requests = requests_before n; records = records_behind n; replies = replies_before n }
+net_of n = record { requests = requests_before n; records = records_after n; replies = replies_before n }
 
 -- ---- the invariant of a network
 

@@ -303,7 +303,7 @@ impl Network {
         ensures { result ≡ length ((net_of self.now).requests (suc stage) wire) }
     {
         omega_wires::laws::rotations_are_inverse();
-        let switch = self.place_behind(stage, wire);
+        let switch = self.place_after(stage, wire);
         self.switches[switch].request_count(wire % 2)
     }
 
@@ -325,7 +325,7 @@ impl Network {
         ensures { result.now ≡ (net_of self.now).records stage wire }
     {
         omega_wires::laws::rotations_are_inverse();
-        let switch = self.place_behind(stage, wire);
+        let switch = self.place_after(stage, wire);
         self.switches[switch].records(wire % 2)
     }
 
@@ -339,7 +339,7 @@ impl Network {
             self.slots[usize::from(wire)]
         } else {
             omega_wires::laws::rotations_are_inverse();
-            let place = self.place_behind(stage - 1, wire);
+            let place = self.place_after(stage - 1, wire);
             self.switches[place].front(wire % 2)
         }
     }
@@ -354,19 +354,19 @@ impl Network {
         if stage == 0 {
             self.put_slot(wire, None);
         } else {
-            self.take_behind(stage - 1, wire);
+            self.take_after(stage - 1, wire);
         }
     }
 
     /// Takes the first request at the output of a wire after a stage.
-    fn take_behind(&mut self, stage: u8, wire: u8)
+    fn take_after(&mut self, stage: u8, wire: u8)
         requires stage { stage < self.old.k }
         requires wire { wire < 2 ^ self.old.k }
         ensures taken { net_of self.new ≡ first_request_taken (net_of self.old) (suc stage) wire }
         ensures sizes { sizes_of self.new ≡ sizes_of self.old }
     {
         omega_wires::laws::rotations_are_inverse();
-        let place = self.place_behind(stage, wire);
+        let place = self.place_after(stage, wire);
         self.switches[place].take(wire % 2);
     }
 
@@ -381,7 +381,7 @@ impl Network {
         // The proof needs this field's type to be named.
         let _phi = request.phi;
         omega_wires::laws::rotations_are_inverse();
-        let place = self.place_behind(stage, wire);
+        let place = self.place_after(stage, wire);
         self.switches[place].accept(wire % 2, request)
     }
 
@@ -436,7 +436,7 @@ impl Network {
         ensures sizes { sizes_of self.new ≡ sizes_of self.old }
     {
         omega_wires::laws::rotations_are_inverse();
-        let place = self.place_behind(stage, wire);
+        let place = self.place_after(stage, wire);
         self.switches[place].answer(wire % 2, reply)
     }
 
@@ -460,7 +460,7 @@ impl Network {
 
     /// The index, among all switches, of the one that a wire comes from after a stage.
     #[tactic(auto, using(omega_network::proofs::Lemmas::place_is, omega_network::proofs::Lemmas::half_of_wire, omega_network::proofs::Lemmas::place_within))]
-    fn place_behind(&self, stage: u8, wire: u8) -> usize
+    fn place_after(&self, stage: u8, wire: u8) -> usize
         requires stage { stage < self.now.k }
         requires wire { wire < 2 ^ self.now.k }
         ensures exact { result ≡ stage * half self.now.k + wire / 2 }

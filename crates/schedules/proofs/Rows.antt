@@ -40,7 +40,7 @@ module _ (m : MachineLists) (base wires wire : ℕ) (set : ℕ → Bool) (few : 
 -- The first wire of a set from a wire on is not before it.
 pub found_ahead : (set : ℕ → Bool) (wire : ℕ) (o : Option ℕ) → IfSome o (IsFirst set wire) → IfSome o (λ w. wire ≤ w)
 found_ahead set wire None f = f
-found_ahead set wire (Some w) f = f.behind
+found_ahead set wire (Some w) f = f.after
 
 -- After the last row there are no more steps.
 pub past_rows : (wires rows row wire : ℕ) → rows ≤ row → wires * rows ≤ row * wires + wire

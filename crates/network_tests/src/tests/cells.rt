@@ -19,8 +19,8 @@ fn requests_go_in_order_and_free_their_cells(rt: HostRuntime) -> Result<(), Fail
     assert_same!(rt; (pool.request_count(0), pool.request_count(1)), (0, 2));
     assert_same!(rt; pool.front_request(0), None);
     assert_same!(rt; pool.front_request(1), Some(first));
-    assert_same!(rt; pool.request_behind(1, 0, 2), Some(second));
-    assert_same!(rt; pool.request_behind(1, 1, 1), None);
+    assert_same!(rt; pool.request_after(1, 0, 2), Some(second));
+    assert_same!(rt; pool.request_after(1, 1, 1), None);
     pool.replace(1, 0, both);
     assert_same!(rt; (pool.request(1, 0), pool.request(1, 1)), (Some(both), Some(second)));
     assert_same!(rt; pool.pop_request(1), Some(both));

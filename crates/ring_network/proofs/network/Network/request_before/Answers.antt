@@ -16,13 +16,13 @@ returns-else-stage-eq0 c =
     let back : suc (c.args.stage - 1) ≡ c.args.stage = omega arith in
     c.front.ensures
     ∙ ap (λ q. slice_get q 0) (front_net c.rotations_are_inverse.ensures.inverse c.rotations_are_inverse.ensures.small _ c.args.self.now
-    (c.args.stage - 1) c.args.wire c.place_behind-place.result c.index-else-stage-eq0.result.now
+    (c.args.stage - 1) c.args.wire c.place_after-place.result c.index-else-stage-eq0.result.now
     (record {
       view = c.self.view_is;
       is = c.self.invariant;
       stage = stage;
       number = half_of_wire c.args.self.now.k (c.args.stage - 1) c.args.wire stage c.requires.wire;
-      exact = c.place_behind-place.ensures.exact;
+      exact = c.place_after-place.ensures.exact;
       at = c.index-else-stage-eq0.ensures;
     }) c.requires.wire)
     ∙ ap (λ d. slice_get (requests_before c.args.self.now d c.args.wire) 0) back
