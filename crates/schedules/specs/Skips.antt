@@ -23,10 +23,10 @@ AreQuietInRow m row from to = AreQuiet m (place_of m.config.k row from) (place_o
 abbrev pub IsRestQuiet : MachineLists → (row from : ℕ) → Type 0
 IsRestQuiet m row from = AreQuiet m (place_of m.config.k row from) (row_start m.config.k (row + 1))
 
--- The step is the next one in the round after `behind` steps. The steps skipped before it stall.
-pub record IsNext (m : MachineLists) (behind : ℕ) (s : Step) (behind' : ℕ) : Type 0 where
+-- The step is the next one in the round after `passed` steps. The steps skipped before it stall.
+pub record IsNext (m : MachineLists) (passed : ℕ) (s : Step) (passed' : ℕ) : Type 0 where
   pub place : ℕ
   pub there : slice_get (round m.config.k) place ≡ Some s
-  pub reached : behind ≤ place
-  pub next : behind' ≡ place + 1
-  pub quiet : AreQuiet m behind place
+  pub reached : passed ≤ place
+  pub next : passed' ≡ place + 1
+  pub quiet : AreQuiet m passed place
