@@ -67,11 +67,11 @@ impl RegionBytes {
     }
 
     /// Returns the bytes up to the last one that is not zero, in a vector of just that size.
-    pub fn used(&self) -> Result<Vec<u8>, AllocError>
+    pub fn used_bytes(&self) -> Result<Vec<u8>, AllocError>
         ensures same { IfOk result (λ bytes. region_of_bytes bytes.items ≡ self.now) }
         ensures few { IfOk result (λ bytes. vec_len bytes ≤ 2 ^ 16) }
     {
-        used(*self.written.allocator(), self.written.as_slice())
+        used_bytes(*self.written.allocator(), self.written.as_slice())
     }
 
     /// The little-endian number at a place.
@@ -155,7 +155,7 @@ fn write_up_to(written: &mut Vec<u8>, count: usize)
 }
 
 /// Copies the bytes up to the last one that is not zero.
-fn used(alloc: Global, bytes: &[u8]) -> Result<Vec<u8>, AllocError>
+fn used_bytes(alloc: Global, bytes: &[u8]) -> Result<Vec<u8>, AllocError>
     requires { length bytes.now ≤ 2 ^ 16 }
     ensures same { IfOk result (λ used. region_of_bytes used.items ≡ region_of_bytes bytes.now) }
     ensures few { IfOk result (λ used. vec_len used ≤ 2 ^ 16) }

@@ -59,11 +59,11 @@ impl Local {
     }
 
     /// Returns the bytes up to the last one that is not zero, in a vector of just that size.
-    pub(crate) fn used(&self) -> Result<Vec<u8>, AllocError>
+    pub(crate) fn used_bytes(&self) -> Result<Vec<u8>, AllocError>
         ensures same { IfOk result (λ bytes. region_of_bytes bytes.items ≡ self.now) }
         ensures few { IfOk result (λ bytes. vec_len bytes ≤ 2 ^ 16) }
     {
-        self.bytes.used()
+        self.bytes.used_bytes()
     }
 
     /// The little-endian number at a place from the region's first address.

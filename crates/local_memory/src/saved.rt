@@ -32,7 +32,7 @@ impl SavedLocal {
         ensures { IfOk result (λ saved. saved ≡ local.now) }
     {
         Ok(SavedLocal {
-            used: local.used()?,
+            used: local.used_bytes()?,
         })
     }
 
@@ -51,7 +51,7 @@ impl SavedLocal {
     }
 
     /// The bytes that are stored. All bytes after them are zero.
-    pub fn kept(&self) -> &[u8]
+    pub fn stored_bytes(&self) -> &[u8]
         ensures { region_of_bytes result.now ≡ self.now }
     {
         self.used.as_slice()

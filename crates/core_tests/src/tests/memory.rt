@@ -55,7 +55,7 @@ fn saved_bytes(rt: HostRuntime) -> Result<(), Fail> {
     ] {
         assert_same!(rt; local.store(address, Size::Word, word), Ok(()), address);
         let saved = SavedLocal::new(&local)?;
-        assert_same!(rt; saved.kept().len(), bytes, address);
+        assert_same!(rt; saved.stored_bytes().len(), bytes, address);
         assert!(rt; saved.restore()?.equals(&local), "{address}");
     }
     Ok(())

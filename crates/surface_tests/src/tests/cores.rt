@@ -30,7 +30,7 @@ fn memories(rt: HostRuntime) -> Result<(), Fail> {
 fn a_memory_is_saved(rt: HostRuntime) -> Result<(), Fail> {
     let local = Local::new(rt.alloc(), &[0x11, 0, 0x33, 0])?;
     let saved = SavedLocal::new(&local)?;
-    assert_same!(rt; saved.kept(), [0x11, 0, 0x33].as_slice());
+    assert_same!(rt; saved.stored_bytes(), [0x11, 0, 0x33].as_slice());
     let restored = saved.restore()?;
     assert_same!(rt; restored.load(0x0002_0000, Size::Word), Ok(0x0033_0011));
     assert!(rt; saved.equals(&SavedLocal::new(&restored)?));

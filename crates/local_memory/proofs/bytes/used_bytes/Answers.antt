@@ -1,7 +1,7 @@
 use Rattle.std.proofs.Common.{◌≡◌, ◌∙◌, ◌+◌, ◌-◌, ap, take, arith}
 use Rattle.local_memory.specs.Accesses.{region_of_bytes}
 use Rattle.local_memory.proofs.Padded.{one_less}
-use Rattle.local_memory.proofs.bytes.used.Goals as goal
+use Rattle.local_memory.proofs.bytes.used_bytes.Goals as goal
 
 pub loop-count-preserved : goal.loop-count-preserved
 loop-count-preserved c =

@@ -1,6 +1,6 @@
 use Rattle.std.proofs.Common.{◌≡◌, ◌≤◌, length, take}
 use Rattle.local_memory.specs.Accesses.{region_of_bytes}
-use Rattle.local_memory.proofs.bytes.used.Given as goal
+use Rattle.local_memory.proofs.bytes.used_bytes.Given as goal
 
 -- The bytes from `count` on are zeros of the padding.
 abbrev pub invariant-loop-count : goal.invariant-loop-count
