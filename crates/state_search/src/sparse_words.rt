@@ -107,9 +107,14 @@ impl SparseWords {
     }
 
     /// Appends a word.
+    ///
+    /// # Errors
+    ///
+    /// [`AllocError`] if there is no memory. The list is unchanged then.
     pub fn push(&mut self, value: u32) -> Result<(), AllocError>
         requires { length self.old + 1 < 2 ^ 32 }
-        ensures { OnOk result (self.new ≡ self.old ++ value ∷ []) }
+        ensures pushed { OnOk result (self.new ≡ self.old ++ value ∷ []) }
+        ensures unchanged { OnErr result (self.new ≡ self.old) }
     {
         store(&mut self.nonzero, self.len, value)?;
         self.len += 1;
