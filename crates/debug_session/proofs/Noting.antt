@@ -4,6 +4,7 @@ use Rattle.steps.specs.declared.step.Step.{Step}
 use Rattle.steps.specs.declared.step.Step.TheVariants as step
 use Rattle.machine_steps.specs.Machines.{MachineLists}
 use Rattle.machine_steps.specs.Runs.{answer_after}
+use Rattle.steps.proofs.Lemmas.{turn_is}
 use Rattle.debug_session.specs.Breaks.{HasRetired, IsRetirement, Retires}
 use Rattle.debug_session.proofs.Splits.{split_last}
 
@@ -20,17 +21,15 @@ module _ (m : MachineLists) (start : ℕ) (done : List Step) where
 
   -- If the next step retires an instruction of a processor, the processor has retired one after this step.
   pub retired_now : (s : Step) (p : ℕ) → start ≤ length done → Retires s (answer_after m done s) p → HasRetired m start (done ++ s ∷ []) p
-  retired_now (step.Turn q) p behind (same, retired) = record {
-    before = done;
-    rest = [];
-    is = ap (λ n. done ++ step.Turn n ∷ []) same;
-    after = behind;
-    retired = subst (λ n. IsRetirement (answer_after m done (step.Turn n))) same retired;
-  }
-  retired_now (step.Up s w) p behind r = absurd r
-  retired_now (step.Serve q) p behind r = absurd r
-  retired_now (step.Down s w) p behind r = absurd r
-  retired_now (step.Poke q) p behind r = absurd r
+  retired_now s p behind r =
+      let is = turn_is p s r.0 in
+      record {
+        before = done;
+        rest = [];
+        is = ap (λ t. done ++ t ∷ []) is;
+        after = behind;
+        retired = subst (λ t. IsRetirement (answer_after m done t)) is r.1;
+      }
 
   -- A processor that has retired an instruction after one more step had retired one before, or retires one in it.
   pub retired_either : (s : Step) (p : ℕ) → HasRetired m start (done ++ s ∷ []) p → HasRetired m start done p ⊎ Retires s (answer_after m done s) p

@@ -10,10 +10,11 @@ use Rattle.steps.specs.declared.step.Outcome.TheVariants as outcome
 use Rattle.machine_steps.specs.Machines.{MachineLists}
 use Rattle.machine_steps.specs.Runs.{IsReplay, answer_after}
 use Rattle.machine_log.specs.Logs.{HasTaken, Log, entered}
-use Rattle.schedules.specs.Own.{AreOwn, IsOwn}
+use Rattle.steps.specs.Kinds.{is_poke, no_poke}
+use Rattle.steps.proofs.Lemmas.{no_poke_both, no_poke_more}
 use Rattle.machine_steps.specs.Standing.{HasRunning}
 use Rattle.schedules.specs.Sweeps.{EndsInFault, IsFault}
-use Rattle.schedules.proofs.Lemmas.{at_most_one, own_both}
+use Rattle.schedules.proofs.Lemmas.{at_most_one}
 use Rattle.debug_session.specs.Breaks.{AreFlagged, HasRetired, IsRetirement, MeetsBreak, Retires, StandsAtBreak, is_noted}
 use Rattle.debug_session.specs.Sweeps.{EndsHere, FaultsAreLast, HasNoFault, HasSwept, IsUnderWay, NoBreakIsPassed}
 use Rattle.debug_session.proofs.Noting.{retired_either, retired_more, retired_now}
@@ -34,14 +35,11 @@ entered_either steps s (outcome.Answered to) = inr refl
 entered_either steps s outcome.Poked = inr refl
 
 retires_none : (s : Step) (o : Outcome) (p : ℕ) → o ≡ outcome.Stalled → Retires s o p → ⊥
-retires_none (step.Turn q) o p stalled (same, retired) = absurd (subst IsRetirement stalled retired)
-retires_none (step.Up t w) o p stalled r = absurd r
-retires_none (step.Serve q) o p stalled r = absurd r
-retires_none (step.Down t w) o p stalled r = absurd r
-retires_none (step.Poke q) o p stalled r = absurd r
+retires_none s o p stalled r = subst IsRetirement stalled r.1
 
 module _ (breaks : List Bool) (limit : ℕ) (old l new : Log) (flags : List Bool) (u : IsUnderWay breaks limit old flags l) (s : Step) (o : Outcome)
-    (taken : HasTaken l s o new) (answer : o ≡ answer_after l.opening l.steps s) (own : IsOwn s) (replayed : IsReplay new.opening new.steps new.machine)
+    (taken : HasTaken l s o new) (answer : o ≡ answer_after l.opening l.steps s) (own : is_poke s ≡ false)
+    (replayed : IsReplay new.opening new.steps new.machine)
     (clear : MeetsBreak l.machine breaks flags s → ⊥) (room : length l.steps < limit) where
   abbrev m : MachineLists
   m = old.opening
@@ -73,17 +71,17 @@ module _ (breaks : List Bool) (limit : ℕ) (old l new : Log) (flags : List Bool
 
   -- The log has more steps than the old one, and none of these is a poke.
   abbrev More : Type 0
-  More = (more : List Step) × (new.steps ≡ old.steps ++ more) × AreOwn more
+  More = (more : List Step) × (new.steps ≡ old.steps ++ more) × (no_poke more ≡ true)
 
   has_more : More
   has_more = by either
     where
       by : Either → More
-      by (inl (stalled, same)) = (u.more, same ∙ u.steps, u.own)
+      by (inl (stalled, same)) = (u.more, same ∙ u.steps, u.no_pokes)
       by (inr one) = (
         u.more ++ s ∷ [],
         one ∙ ap (λ xs. xs ++ s ∷ []) u.steps ∙ append_assoc old.steps u.more (s ∷ []),
-        own_both u.more (s ∷ []) u.own (own, tt),
+        no_poke_both u.more (s ∷ []) u.no_pokes (no_poke_more s [] own refl),
       )
 
   -- The step is no turn of a processor at a break.
@@ -118,7 +116,7 @@ module _ (breaks : List Bool) (limit : ℕ) (old l new : Log) (flags : List Bool
     replay = replayed;
     more = has_more.0;
     steps = has_more.1;
-    own = has_more.2;
+    no_pokes = has_more.2;
     few = few;
     sound = sound;
     breaks_are_met = no_break;
@@ -172,7 +170,7 @@ module _ (breaks : List Bool) (limit : ℕ) (old l new : Log) (flags : List Bool
     replay = replayed;
     more = has_more.0;
     steps = has_more.1;
-    own = has_more.2;
+    no_pokes = has_more.2;
     few = few;
     faults = faults;
     breaks_are_met = no_break;
@@ -198,7 +196,7 @@ ends_here breaks limit old l flags u ends = record {
   replay = u.replay;
   more = u.more;
   steps = u.steps;
-  own = u.own;
+  no_pokes = u.no_pokes;
   few = u.few;
   faults = λ before rest s is from fault. absurd (u.sound before rest s is from fault);
   breaks_are_met = u.breaks_are_met;
@@ -237,7 +235,7 @@ begins breaks limit old flags replay few none = record {
   replay = replay;
   more = [];
   steps = sym (append-nil old.steps);
-  own = tt;
+  no_pokes = refl;
   few = few;
   sound = λ before rest s is from fault. past before rest s is from;
   breaks_are_met = λ before rest p is from stands. past before rest (step.Turn p) is from;

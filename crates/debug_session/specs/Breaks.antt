@@ -1,9 +1,11 @@
 -- Processors at a break.
 use Rattle.std.specs.Prelude.{◌≡◌, ℕ, ◌^◌, ◌<◌, ◌≤◌, Bool, true, false, List, ◌∷◌, ◌++◌, length, slice_index_or, ◌↔◌}
+use Rattle.std.specs.Prelude.{Some, IsSomeAnd}
 use Rattle.flat_machine.specs.declared.event.Status.TheVariants.{Running}
 use Rattle.flat_machine.specs.State.{Processor}
 use Rattle.steps.specs.declared.step.Step.{Step}
 use Rattle.steps.specs.declared.step.Step.TheVariants as step
+use Rattle.steps.specs.Kinds.{turn_processor}
 use Rattle.steps.specs.declared.step.Outcome.{Outcome}
 use Rattle.steps.specs.declared.step.Outcome.TheVariants as outcome
 use Rattle.machine_steps.specs.machine_theory.Processors.{open_at}
@@ -46,11 +48,7 @@ is_noted flags p = slice_index_or flags p false
 
 -- The step retires an instruction of processor p.
 abbrev pub Retires : Step → Outcome → (p : ℕ) → Type 0
-Retires (step.Turn q) o p = (q ≡ p) × IsRetirement o
-Retires (step.Up s w) o p = ⊥
-Retires (step.Serve m) o p = ⊥
-Retires (step.Down s w) o p = ⊥
-Retires (step.Poke q) o p = ⊥
+Retires s o p = (turn_processor s ≡ Some p) × IsRetirement o
 
 -- The flags say which processors have retired an instruction after the first `start` steps.
 abbrev pub AreFlagged : (opening : MachineLists) → (start : ℕ) → (flags : List Bool) → (done : List Step) → Type 0
@@ -66,8 +64,4 @@ pub record IsAtBreak (m : MachineLists) (breaks flags : List Bool) (p : ℕ) : T
 
 -- The step is a turn of such a processor.
 abbrev pub MeetsBreak : (m : MachineLists) → (breaks flags : List Bool) → Step → Type 0
-MeetsBreak m breaks flags (step.Turn p) = IsAtBreak m breaks flags p
-MeetsBreak m breaks flags (step.Up s w) = ⊥
-MeetsBreak m breaks flags (step.Serve at_module) = ⊥
-MeetsBreak m breaks flags (step.Down s w) = ⊥
-MeetsBreak m breaks flags (step.Poke q) = ⊥
+MeetsBreak m breaks flags s = IsSomeAnd (turn_processor s) (IsAtBreak m breaks flags)

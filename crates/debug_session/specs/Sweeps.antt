@@ -1,12 +1,12 @@
 -- How far a debugger's sweep goes.
-use Rattle.std.specs.Prelude.{◌≡◌, ◌⊎◌, ℕ, ◌+◌, ◌<◌, ◌≤◌, Bool, List, [], ◌∷◌, ◌++◌, length}
+use Rattle.std.specs.Prelude.{◌≡◌, ◌⊎◌, ℕ, ◌+◌, ◌<◌, ◌≤◌, Bool, true, List, [], ◌∷◌, ◌++◌, length}
 use Rattle.steps.specs.declared.step.Step.{Step}
 use Rattle.steps.specs.declared.step.Step.TheVariants as step
 use Rattle.machine_steps.specs.Draining.{drain_bound, drain_steps}
 use Rattle.machine_steps.specs.Machines.{MachineLists, IsIdle}
 use Rattle.machine_steps.specs.Runs.{answer_after, IsReplay}
 use Rattle.machine_log.specs.Logs.{Log}
-use Rattle.schedules.specs.Own.{AreOwn}
+use Rattle.steps.specs.Kinds.{no_poke}
 use Rattle.schedules.specs.Sweeps.{EndsInFault, IsFault, RunsAfter}
 use Rattle.debug_session.specs.Breaks.{AreFlagged, StandsAtBreak}
 use Rattle.debug_session.specs.Runs.{RunSpec}
@@ -38,7 +38,7 @@ pub record HasSwept (breaks : List Bool) (limit : ℕ) (old new : Log) : Type 0 
   pub replay : IsReplay new.opening new.steps new.machine
   pub more : List Step
   pub steps : new.steps ≡ old.steps ++ more
-  pub own : AreOwn more
+  pub no_pokes : no_poke more ≡ true
   pub few : length new.steps ≤ limit
   pub faults : FaultsAreLast old.opening (length old.steps) new.steps
   pub breaks_are_met : NoBreakIsPassed old.opening breaks (length old.steps) new.steps
@@ -72,7 +72,7 @@ pub record IsUnderWay (breaks : List Bool) (limit : ℕ) (old : Log) (flags : Li
   pub replay : IsReplay l.opening l.steps l.machine
   pub more : List Step
   pub steps : l.steps ≡ old.steps ++ more
-  pub own : AreOwn more
+  pub no_pokes : no_poke more ≡ true
   pub few : length l.steps ≤ limit
   pub sound : HasNoFault old.opening (length old.steps) l.steps
   pub breaks_are_met : NoBreakIsPassed old.opening breaks (length old.steps) l.steps

@@ -145,9 +145,9 @@ fn meets_break(
 ) -> bool
     ensures { IsTrue result ↔ MeetsBreak machine.now breaks.now retired.now step.now }
 {
-    match *step {
-        Step::Turn(p) => is_at_break(p, machine, breaks, retired),
-        _ => false,
+    match step.turn_processor() {
+        Some(p) => is_at_break(p, machine, breaks, retired),
+        None => false,
     }
 }
 
@@ -173,8 +173,8 @@ fn mark_retired(retired: &mut [bool; MOST_PROCESSORS], step: &Step, outcome: &Ou
     ensures { (p : ℕ) → p < 64 → (is_noted retired.new p ≡ true)
         ↔ ((is_noted retired.old p ≡ true) ⊎ Retires step.now outcome.now p) }
 {
-    if let (Step::Turn(p), Outcome::Retired(_)) = (step, outcome) {
-        let place = usize::from(*p);
+    if let (Some(p), Outcome::Retired(_)) = (step.turn_processor(), outcome) {
+        let place = usize::from(p);
         if place < MOST_PROCESSORS {
             retired[place] = true;
         }

@@ -38,16 +38,14 @@ use Rattle.machine_steps.specs.Runs.{all_after, events_of}
 use Rattle.machine_steps.specs.Draining.{step_of}
 use Rattle.local_reduction.specs.LocalStates.{turns}
 use Rattle.local_reduction.specs.Results.{FinalResult, IsFlatResult}
-use Rattle.exploration.specs.Results.{IsOfTheMachine, AreOfTheMachine, stands_after, IsMachineResult}
+use Rattle.machine_steps.specs.steps.Kinds.{is_poke, no_poke}
+use Rattle.machine_steps.proofs.Lemmas.steps.{no_poke_both, no_poke_more}
+use Rattle.exploration.specs.Results.{stands_after, IsMachineResult}
 use Rattle.exploration.proofs.MachineEnds.{found_at, Matches, results_same, none_runs}
 use Rattle.exploration.proofs.Forwards.{turns_lawful, passes_all, theory_all, matches}
 use Rattle.exploration.proofs.Shifting.{events_join, events_after, shift, shift_all, forget, as_before, all_shifted}
 
 -- ---- lists of steps
-
-of_both : (xs ys : List Step) → AreOfTheMachine xs → AreOfTheMachine ys → AreOfTheMachine (xs ++ ys)
-of_both [] ys h g = g
-of_both (x ∷ xs) ys h g = (h.0, of_both xs ys h.1 g)
 
 after_both : (c : Config) (code : List ℕ) (xs ys : List Step) (N : theory.Machine ObservedCore) →
     all_after c code N (xs ++ ys) ≡ all_after c code (all_after c code N xs) ys
@@ -59,11 +57,11 @@ again : (sts : List theory.Step) → map named (map step_of sts) ≡ sts
 again [] = refl
 again (t ∷ ts) = ap₂ (λ u us. u ∷ us) (named_again t) (again ts)
 
-of_named : (N : theory.Machine ObservedCore) (st : theory.Step) → Named N st → IsOfTheMachine (step_of st)
-of_named N (theory.Turn p) h = tt
-of_named N (theory.Up s w) h = tt
-of_named N (theory.Serve i) h = tt
-of_named N (theory.Down s w) h = tt
+of_named : (N : theory.Machine ObservedCore) (st : theory.Step) → Named N st → is_poke (step_of st) ≡ false
+of_named N (theory.Turn p) h = refl
+of_named N (theory.Up s w) h = refl
+of_named N (theory.Serve i) h = refl
+of_named N (theory.Down s w) h = refl
 of_named N (theory.Poke q) h = absurd h
 
 -- ---- the flat machine's events
@@ -95,18 +93,18 @@ module _ (c : Config) (code : List ℕ) (limits : IsWithinLimits c) (bytes : Are
 
   -- The steps add one turn of processor k to the serial order, and leave no reference open.
   pub record IsTurn (k : ℕ) (N : theory.Machine ObservedCore) (steps : List Step) : Type 0 where
-    pub own : AreOfTheMachine steps
+    pub own : no_poke steps ≡ true
     pub order : (passes (sizes_of c) (program c code) (map named steps) (from_machine N)).order ≡ turns (k ∷ [])
     pub shut : (p : ℕ) → (all_after c code N steps).is_open p ≡ false
 
   abbrev Loned : ℕ → Passed ObservedCore → List theory.Step → Type 0
-  Loned k h sts = IsLone ObservedCore (sizes_of c) (program c code) k (passes (sizes_of c) (program c code) sts h) × AreOfTheMachine (map step_of sts)
+  Loned k h sts = IsLone ObservedCore (sizes_of c) (program c code) k (passes (sizes_of c) (program c code) sts h) × (no_poke (map step_of sts) ≡ true)
 
   -- A drain completes k's reference, and no other.
   drained_alone : (n k : ℕ) (h : Passed ObservedCore) → IsLone ObservedCore (sizes_of c) (program c code) k h →
       Loned k h (draining.drain_steps (sizes_of c) (program c code) n h.machine)
   unfolding draining.drain_steps passes
-  drained_alone zero k h lone = (lone, tt)
+  drained_alone zero k h lone = (lone, refl)
   drained_alone (suc n) k h lone = by (draining.drain_step (sizes_of c) h.machine) refl (λ st l. drained_alone n k (pass (sizes_of c) (program c code) h st) l)
     where
       by : (o : Option theory.Step) → draining.drain_step (sizes_of c) h.machine ≡ o →
@@ -118,11 +116,13 @@ module _ (c : Config) (code : List ℕ) (limits : IsWithinLimits c) (bytes : Are
                 (theory.step (sizes_of c) (program c code) h.machine st).machine
             | None ↦ []
           ])
-      by None e more = (lone, tt)
+      by None e more = (lone, refl)
       by (Some st) e more =
           let g = goes_on ObservedCore (sizes_of c) (program c code) k h lone st e in
           let l = more st g.0 in
-          (l.0, (of_named h.machine st (drain_named ObservedCore h.machine (sizes_of c) st e), l.1))
+          let later : List Step =
+          map step_of (draining.drain_steps (sizes_of c) (program c code) n (theory.step (sizes_of c) (program c code) h.machine st).machine) in
+          (l.0, no_poke_more (step_of st) later (of_named h.machine st (drain_named ObservedCore h.machine (sizes_of c) st e)) l.1)
 
   passes_after : (sts : List theory.Step) (h : Passed ObservedCore) →
       (passes (sizes_of c) (program c code) sts h).machine ≡ theory.machine_after (sizes_of c) (program c code) sts h.machine
@@ -138,7 +138,7 @@ module _ (c : Config) (code : List ℕ) (limits : IsWithinLimits c) (bytes : Are
     by_advance : theory.step (sizes_of c) (program c code) N (theory.Turn k) ≡ theory.advance (program c code) N k → IsTurn k N (step.Turn k ∷ [])
     unfolding passes all_after after
     by_advance e = record {
-      own = (tt, tt);
+      own = refl;
       order = ap (λ (r : theory.Result ObservedCore). (passed_by (from_machine N) r).order) e;
       shut = λ p. ap (λ (r : theory.Result ObservedCore). r.machine.is_open p) e ∙ shut p;
     }
@@ -148,7 +148,7 @@ module _ (c : Config) (code : List ℕ) (limits : IsWithinLimits c) (bytes : Are
         sts ≡ draining.drain_steps (sizes_of c) (program c code) (draining.drain_bound (sizes_of c)) first_of.machine → Loned k first_of sts →
         IsTurn k N (step.Turn k ∷ map step_of sts)
     unfolding passes all_after after
-    drained lone sts all l = record { own = (tt, l.1); order = order; shut = λ p. there_shut p }
+    drained lone sts all l = record { own = no_poke_more (step.Turn k) (map step_of sts) refl l.1; order = order; shut = λ p. there_shut p }
       where
         last_shut : (p : ℕ) → (passes (sizes_of c) (program c code) sts (pass (sizes_of c) (program c code) (from_machine N) (theory.Turn k))).machine.is_open
             p ≡ false
@@ -291,7 +291,7 @@ module _ (c : Config) (code : List ℕ) (limits : IsWithinLimits c) (bytes : Are
         (λ i. (sym same.0 i, (sym (append-nil events) ∙ ap (λ es. events ++ es) (sym same.1)) i)) h
 
     abbrev Goes : Type 0
-    Goes = (steps : List Step) × AreOfTheMachine steps × IsFlat (all_after c code N steps) (flat_step F (entry.Processor k)) (events ++ one_events F k)
+    Goes = (steps : List Step) × (no_poke steps ≡ true) × IsFlat (all_after c code N steps) (flat_step F (entry.Processor k)) (events ++ one_events F k)
 
     one_turn : Goes
     unfolding all_after
@@ -301,19 +301,19 @@ module _ (c : Config) (code : List ℕ) (limits : IsWithinLimits c) (bytes : Are
         taken t = (t.0, t.1.own, by_steps t.0 t.1)
 
         by : FirstTurn (sizes_of c) (program c code) (forget N) k → Goes
-        by (inl (e, why)) = ([], tt, by_none (no_turn F k (stands_still why)))
+        by (inl (e, why)) = ([], refl, by_none (no_turn F k (stands_still why)))
         by (inr (inl e)) = taken (step.Turn k ∷ [], by_advance k (forget N) h.role (forgotten N h.role h.steady) h.shut e)
         by (inr (inr e)) = taken (by_issue k (forget N) h.role (forgotten N h.role h.steady) h.shut e)
 
   all_turns : (order : List ℕ) (N : theory.Machine ObservedCore) (F : FlatState) (events : List (ℕ × Event)) → IsFlat N F events →
-      (steps : List Step) × AreOfTheMachine steps × IsFlat (all_after c code N steps) (flat_run F (turns order)) (events ++ flat_events F (turns order))
+      (steps : List Step) × (no_poke steps ≡ true) × IsFlat (all_after c code N steps) (flat_run F (turns order)) (events ++ flat_events F (turns order))
   unfolding all_after
-  all_turns [] N F events h = ([], tt, subst (IsFlat N F) (sym (append-nil events)) h)
+  all_turns [] N F events h = ([], refl, subst (IsFlat N F) (sym (append-nil events)) h)
   all_turns (k ∷ ks) N F events h =
       let one = one_turn k N F events h in
       let rest = all_turns ks (all_after c code N one.0) (flat_step F (entry.Processor k)) (events ++ one_events F k) one.2 in (
         one.0 ++ rest.0,
-        of_both one.0 rest.0 one.1 rest.1,
+        no_poke_both one.0 rest.0 one.1 rest.1,
         subst (λ (z : theory.Machine ObservedCore × List (ℕ × Event)). IsFlat z.0 (flat_run F (turns (k ∷ ks))) z.1)
             (λ i. (
               sym (after_both c code one.0 rest.0 N) i,

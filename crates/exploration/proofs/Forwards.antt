@@ -37,7 +37,9 @@ use Rattle.machine_steps.proofs.Lemmas.{sound, opens}
 use Rattle.machine_steps.specs.Runs.{all_after, passed}
 use Rattle.local_reduction.specs.LocalStates.{turns}
 use Rattle.local_reduction.specs.Results.{FinalResult, IsFlatResult}
-use Rattle.exploration.specs.Results.{NoneRuns, IsOfTheMachine, AreOfTheMachine, stands_after, IsMachineResult}
+use Rattle.machine_steps.specs.steps.Kinds.{is_poke, no_poke}
+use Rattle.machine_steps.proofs.Lemmas.steps.{no_poke_parts}
+use Rattle.exploration.specs.Results.{NoneRuns, stands_after, IsMachineResult}
 use Rattle.exploration.proofs.MachineEnds.{Matches, results_same, stopped_flat}
 
 -- ---- orders of turns
@@ -104,7 +106,7 @@ module _ (c : Config) (code : List ℕ) where
     by_serving i (x ∷ xs) [] = tt
     by_serving i (x ∷ xs) (y ∷ ys) = tt
 
-    not_poked : (s : Step) → IsOfTheMachine s → NotPoked (theory.step (sizes_of c) (program c code) M (named s)).outcome
+    not_poked : (s : Step) → is_poke s ≡ false → NotPoked (theory.step (sizes_of c) (program c code) M (named s)).outcome
     not_poked (step.Turn p) h = either (nat_lt p (2 ^ c.k)) (theory.turned (program c code) M p (M.is_open p)) (by_turn p (M.is_open p))
     not_poked (step.Up s w) h = either (nat_lt w (2 ^ c.k)) (theory.went_up M (moved_up (sizes_of c) M.net s w)) (by_up (moved_up (sizes_of c) M.net s w))
     not_poked (step.Serve i) h =
@@ -112,16 +114,17 @@ module _ (c : Config) (code : List ℕ) where
         (by_serving i (M.net.requests c.k i) (M.net.replies c.k i))
     not_poked (step.Down s w) h =
         either (nat_lt w (2 ^ c.k)) (theory.went_down M (moved_down (sizes_of c) M.net s w)) (by_down (moved_down (sizes_of c) M.net s w))
-    not_poked (step.Poke q) h = absurd h
+    not_poked (step.Poke q) h = absurd (true≢false h)
 
   -- Steps without writes from outside add only turns to the serial order.
-  order_of_turns : (steps : List Step) (h : Passed ObservedCore) (js : List ℕ) → AreOfTheMachine steps → h.order ≡ turns js →
+  order_of_turns : (steps : List Step) (h : Passed ObservedCore) (js : List ℕ) → no_poke steps ≡ true → h.order ≡ turns js →
       (xs : List ℕ) × ((passes (sizes_of c) (program c code) (map named steps) h).order ≡ turns xs)
   unfolding passes
   order_of_turns [] h js all e = (js, e)
   order_of_turns (s ∷ steps) h js all e =
-      let more = segment_turns h.group (theory.step (sizes_of c) (program c code) h.machine (named s)).outcome (not_poked h.machine s all.0) in
-      order_of_turns steps (pass (sizes_of c) (program c code) h (named s)) (js ++ more.0) all.1
+      let parts = no_poke_parts s steps all in
+      let more = segment_turns h.group (theory.step (sizes_of c) (program c code) h.machine (named s)).outcome (not_poked h.machine s parts.0) in
+      order_of_turns steps (pass (sizes_of c) (program c code) h (named s)) (js ++ more.0) parts.1
       ((λ i. e i ++ more.1 i) ∙ turns_join js more.0)
 
   -- The theory's pass over some steps ends with the machine after these steps.

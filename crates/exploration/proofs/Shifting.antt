@@ -1,6 +1,6 @@
 -- The steps of a machine do not depend on what its processors have shown before.
 use Rattle.std.proofs.Common.{◌≡◌, ◌⊎◌, inl, inr, ℕ, ◌^◌, Bool, true, false, cond, eqb, eq-eqb, ne_eqb, List}
-use Rattle.std.proofs.Common.{[], ◌∷◌, ◌++◌, Option, Some, None, refl, sym, ap, ◌∙◌, nat_lt, append_assoc}
+use Rattle.std.proofs.Common.{[], ◌∷◌, ◌++◌, Option, Some, None, refl, sym, ap, ◌∙◌, nat_lt, append_assoc, true≢false}
 use Rattle.std.specs.Prelude.{if◌then◌else◌}
 use Rattle.std.proofs.lemmas.Bool.{cases_eq}
 use Rattle.std.proofs.lemmas.List.{append-nil}
@@ -29,7 +29,8 @@ use Rattle.machine_steps.specs.machine_theory.Processors.{ObservedCore, sizes_of
 use Rattle.machine_steps.specs.machine_theory.Steps.{after}
 use Rattle.machine_steps.specs.machine_theory.Flatness.{with_events}
 use Rattle.machine_steps.specs.Runs.{all_after, events_of}
-use Rattle.exploration.specs.Results.{IsOfTheMachine, AreOfTheMachine}
+use Rattle.machine_steps.specs.steps.Kinds.{is_poke, no_poke}
+use Rattle.machine_steps.proofs.Lemmas.steps.{no_poke_parts}
 
 -- ---- events put before others
 
@@ -137,7 +138,7 @@ module _ (c : Config) (code : List ℕ) (e : ℕ → List Event) where
     by_serving i (x ∷ xs) [] = refl
     by_serving i (x ∷ xs) (y ∷ ys) = refl
 
-    step_shifted : (s : Step) → IsOfTheMachine s → after c code (shift_all e N) s ≡ shift_all e (after c code N s)
+    step_shifted : (s : Step) → is_poke s ≡ false → after c code (shift_all e N) s ≡ shift_all e (after c code N s)
     unfolding after
     step_shifted (step.Turn p) h = either (nat_lt p (2 ^ c.k)) (theory.turned (program c code) (shift_all e N) p (N.is_open p))
         (theory.turned (program c code) N p (N.is_open p)) (by_turn p (N.is_open p))
@@ -151,11 +152,13 @@ module _ (c : Config) (code : List ℕ) (e : ℕ → List Event) where
         either (nat_lt w (2 ^ c.k)) (theory.went_down (shift_all e N) (moved_down (sizes_of c) N.net s w))
         (theory.went_down N (moved_down (sizes_of c) N.net s w))
         (by_down (moved_down (sizes_of c) N.net s w))
-    step_shifted (step.Poke q) h = absurd h
+    step_shifted (step.Poke q) h = absurd (true≢false h)
 
   -- The machine's steps do the same whatever was shown before, and append their events to it.
-  pub all_shifted : (steps : List Step) (N : theory.Machine ObservedCore) → AreOfTheMachine steps →
+  pub all_shifted : (steps : List Step) (N : theory.Machine ObservedCore) → no_poke steps ≡ true →
       all_after c code (shift_all e N) steps ≡ shift_all e (all_after c code N steps)
   unfolding all_after
   all_shifted [] N all = refl
-  all_shifted (s ∷ steps) N all = ap (λ M. all_after c code M steps) (step_shifted N s all.0) ∙ all_shifted steps (after c code N s) all.1
+  all_shifted (s ∷ steps) N all =
+      let parts = no_poke_parts s steps all in
+      ap (λ M. all_after c code M steps) (step_shifted N s parts.0) ∙ all_shifted steps (after c code N s) parts.1

@@ -1,12 +1,12 @@
 -- Final results of the combining machine: what is left once no processor runs.
-use Rattle.std.specs.Prelude.{◌≡◌, ℕ, ◌^◌, ◌<◌, false, List, [], ◌∷◌, map}
+use Rattle.std.specs.Prelude.{◌≡◌, ℕ, ◌^◌, ◌<◌, true, false, List, [], ◌∷◌, map}
 use Rattle.std.specs.List.{range_with_len}
 use Rattle.flat_machine.specs.declared.config.Config.{Config}
 use Rattle.flat_machine.specs.declared.event.Event.{Event}
 use Rattle.flat_machine.specs.State.{is_running}
 use Rattle.machine_steps.specs.machine_theory.Theory as theory
 use Rattle.machine_steps.specs.steps.declared.step.Step.{Step}
-use Rattle.machine_steps.specs.steps.declared.step.Step.TheVariants as step
+use Rattle.machine_steps.specs.steps.Kinds.{no_poke}
 use Rattle.machine_steps.specs.machine_theory.Processors.{ObservedCore}
 use Rattle.machine_steps.specs.Machines.{MachineLists, machine_of}
 use Rattle.machine_steps.specs.Runs.{all_after}
@@ -28,18 +28,6 @@ machine_result c M = record {
 abbrev pub NoneRuns : Config → theory.Machine ObservedCore → Type 0
 NoneRuns c M = (k : ℕ) → k < 2 ^ c.k → is_running (M.core k).state.status ≡ false
 
-abbrev pub IsOfTheMachine : Step → Type 0
-IsOfTheMachine (step.Turn p) = Unit {0}
-IsOfTheMachine (step.Up s w) = Unit {0}
-IsOfTheMachine (step.Serve at_module) = Unit {0}
-IsOfTheMachine (step.Down s w) = Unit {0}
-IsOfTheMachine (step.Poke poke) = ⊥
-
--- None of the steps is a write from outside.
-abbrev pub AreOfTheMachine : List Step → Type 0
-AreOfTheMachine [] = Unit {0}
-AreOfTheMachine (s ∷ steps) = IsOfTheMachine s × AreOfTheMachine steps
-
 -- the machine after these steps, with only their events shown
 abbrev pub stands_after : MachineLists → List Step → theory.Machine ObservedCore
 stands_after m steps = all_after m.config m.code (machine_of m (λ p. [])) steps
@@ -47,5 +35,5 @@ stands_after m steps = all_after m.config m.code (machine_of m (λ p. [])) steps
 -- Some steps without writes from outside end in this result, with no processor running.
 abbrev pub IsMachineResult : MachineLists → FinalResult → Type 0
 IsMachineResult m r =
-    (steps : List Step) × AreOfTheMachine steps × NoneRuns m.config (stands_after m steps)
+    (steps : List Step) × (no_poke steps ≡ true) × NoneRuns m.config (stands_after m steps)
     × (r ≡ machine_result m.config (stands_after m steps))

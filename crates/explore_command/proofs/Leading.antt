@@ -1,11 +1,10 @@
 -- What steps lead to is what a machine leaves that has taken them again.
 use Rattle.std.proofs.Common.{◌≡◌, ℕ, zero, suc, ◌^◌, ◌<◌, ◌==◌, true, false, List, [], ◌∷◌, Option}
 use Rattle.std.proofs.Common.{Some, None, map, length, refl, sym, ap, ap₂, ◌∙◌, subst, arith}
-use Rattle.std.specs.Prelude.{All, Contains, slice_get, slice_index, slice_index_or, IsSomeAnd}
+use Rattle.std.specs.Prelude.{Contains, slice_get, slice_index, slice_index_or, IsSomeAnd}
 use Rattle.std.specs.List.{range_with_len}
 use Rattle.std.proofs.lemmas.Bool.{ne_eqb}
 use Rattle.std.proofs.lemmas.Option.{slice_get-get_or}
-use Rattle.std.proofs.lemmas.List.Elements.{All-head, All-tail}
 use Rattle.std.proofs.lemmas.List.FromFn.{fill_by_all, get_or-map-range_with_len, length-map-range_with_len}
 use Rattle.flat_machine.specs.declared.config.Config.{Config}
 use Rattle.flat_machine.specs.declared.event.Event.{Event}
@@ -15,6 +14,7 @@ use Rattle.flat_machine.specs.declared.event.Status.TheVariants.{Running, Halted
 use Rattle.flat_machine.specs.State.{Processor, is_running}
 use Rattle.elf_image.specs.Images.{ImageContents}
 use Rattle.steps.specs.declared.step.Step.{Step}
+use Rattle.steps.specs.Kinds.{no_poke}
 use Rattle.trace_file.specs.Traces.{IsTrace, trace_of}
 use Rattle.machine_steps.specs.machine_theory.Theory as theory
 use Rattle.machine_steps.specs.machine_theory.Processors.{ObservedCore, word_at}
@@ -28,7 +28,7 @@ use Rattle.machine_steps.specs.Standing.{HasRunning, processor_of}
 use Rattle.trace_commands.specs.CountedReplays.{IsReplayCounted}
 use Rattle.exploration.specs.local_reduction.LocalStates.{printed_after}
 use Rattle.exploration.specs.local_reduction.Results.{FinalResult, ProcessorResult, result_with}
-use Rattle.exploration.specs.Results.{AreOfTheMachine, IsOfTheMachine, NoneRuns, machine_result, printed_by, stands_after}
+use Rattle.exploration.specs.Results.{NoneRuns, machine_result, printed_by, stands_after}
 use Rattle.explore_command.specs.Witnesses.{AreTaken, IsEnd, IsStuck, IsWitness, LeadTo, LeadToResult, left_by, processor_left, target}
 
 -- ---- the console bytes that are counted are those of the events
@@ -105,8 +105,8 @@ module _ (opening m : MachineLists) (steps : List Step) (tally : TallyState) (ta
       by (Halted byte) e = ap is_running e
       by (Faulted fault) e = ap is_running e
 
-  pub to_result : AreOfTheMachine steps → (r : FinalResult) → IsEnd m tally.shown r → LeadToResult opening steps r
-  to_result own r end = record { machine = m; replay = taken.replay; own = own; stopped = none_runs end.stopped; left = end.left ∙ left_is }
+  pub to_result : no_poke steps ≡ true → (r : FinalResult) → IsEnd m tally.shown r → LeadToResult opening steps r
+  to_result own r end = record { machine = m; replay = taken.replay; no_pokes = own; stopped = none_runs end.stopped; left = end.left ∙ left_is }
 
 not_zero : (n : ℕ) → (suc n == 0) ≡ true → ⊥
 not_zero n e = cc (sym e ∙ ne_eqb (suc n) 0 (λ z. cc z))
@@ -115,13 +115,6 @@ not_zero n e = cc (sym e ∙ ne_eqb (suc n) 0 (λ z. cc z))
 pub none_contained : (results : List FinalResult) → (length results == 0) ≡ true → (r : FinalResult) → Contains results r → ⊥
 none_contained [] none r (k, within, is) = absurd (omega (arith, within))
 none_contained (x ∷ results) none r there = not_zero (length results) none
-
--- ---- the steps
-
--- If no step is a poke, the list of steps has no poke.
-pub all_own : (steps : List Step) → All IsOfTheMachine steps → AreOfTheMachine steps
-all_own [] all = tt
-all_own (s ∷ steps) all = (All-head IsOfTheMachine s steps all, all_own steps (All-tail IsOfTheMachine s steps all))
 
 -- ---- the result of a number
 
@@ -134,7 +127,7 @@ result_there opening results before (suc place) r steps is there leads =
     (subst (λ found. IsSomeAnd found (LeadToResult opening steps)) (sym there) leads)
 
 module _ (c : Config) (image : ImageContents) (results : List FinalResult) (steps : List Step) (m : MachineLists) (tally : TallyState)
-    (taken : AreTaken c image steps m tally) (own : AreOfTheMachine steps) (trace : IsTrace (trace_of c steps)) where
+    (taken : AreTaken c image steps m tally) (own : no_poke steps ≡ true) (trace : IsTrace (trace_of c steps)) where
   -- If the machine has ended after the steps with the result of a number, the steps are a witness for this number.
   pub end_witness : (before number : ℕ) (r : FinalResult) → number ≡ suc before → before < length results → r ≡ slice_index_or results before r →
       IsEnd m tally.shown r → IsWitness c image (target results number) steps
@@ -151,6 +144,6 @@ module _ (c : Config) (image : ImageContents) (results : List FinalResult) (step
   stuck_witness number is stuck = record {
     opening = taken.opening;
     opens = taken.opens;
-    leads = subst (λ n. LeadTo taken.opening results n steps) (sym is) (record { machine = m; replay = taken.replay_counted.replay; own = own; stuck = stuck });
+    leads = subst (λ n. LeadTo taken.opening results n steps) (sym is) (record { machine = m; replay = taken.replay_counted.replay; no_pokes = own; stuck = stuck });
     trace = trace;
   }

@@ -1,9 +1,10 @@
 -- What steps lead to: a final result, or a machine from which no result can be reached.
-use Rattle.std.specs.Prelude.{◌≡◌, ℕ, zero, suc, ◌^◌, List, IsSomeAnd, map, slice_get, slice_index_or}
+use Rattle.std.specs.Prelude.{◌≡◌, ℕ, zero, suc, ◌^◌, true, List, IsSomeAnd, map, slice_get, slice_index_or}
 use Rattle.std.specs.List.{range_with_len}
 use Rattle.flat_machine.specs.declared.config.Config.{Config}
 use Rattle.elf_image.specs.Images.{ImageContents}
 use Rattle.steps.specs.declared.step.Step.{Step}
+use Rattle.steps.specs.Kinds.{no_poke}
 use Rattle.trace_file.specs.Traces.{IsTrace, trace_of}
 use Rattle.machine_steps.specs.Machines.{MachineLists, IsIdle}
 use Rattle.machine_steps.specs.Runs.{IsOpening, IsReplay}
@@ -12,7 +13,7 @@ use Rattle.command_io.specs.Tallies.{ShownBy, TallyState, nothing_shown}
 use Rattle.machine_steps.specs.Standing.{HasRunning, processor_of}
 use Rattle.trace_commands.specs.CountedReplays.{IsReplayCounted}
 use Rattle.exploration.specs.local_reduction.Results.{FinalResult, ProcessorResult}
-use Rattle.exploration.specs.Results.{AreOfTheMachine, IsMachineResult, NoneRuns, machine_result, stands_after}
+use Rattle.exploration.specs.Results.{IsMachineResult, NoneRuns, machine_result, stands_after}
 
 -- ---- what steps lead to
 
@@ -21,7 +22,7 @@ use Rattle.exploration.specs.Results.{AreOfTheMachine, IsMachineResult, NoneRuns
 pub record LeadToResult (opening : MachineLists) (steps : List Step) (r : FinalResult) : Type 0 where
   pub machine : MachineLists
   pub replay : IsReplay opening steps machine
-  pub own : AreOfTheMachine steps
+  pub no_pokes : no_poke steps ≡ true
   pub stopped : NoneRuns opening.config (stands_after opening steps)
   pub left : r ≡ machine_result opening.config (stands_after opening steps)
 
@@ -34,7 +35,7 @@ pub record IsStuck (m : MachineLists) : Type 0 where
 pub record LeadToNoEnd (opening : MachineLists) (steps : List Step) : Type 0 where
   pub machine : MachineLists
   pub replay : IsReplay opening steps machine
-  pub own : AreOfTheMachine steps
+  pub no_pokes : no_poke steps ≡ true
   pub stuck : IsStuck machine
 
 -- The steps lead to the result of this number, counted from 1, or, for 0, to a machine from which none can be reached.

@@ -2,7 +2,7 @@
 
 ghost use Rattle.std.specs.Prelude.{◌≡◌, ◌≤◌, ◌↔◌, ◌^◌, length, IfErr, IfOk, IsErrOf, IsTrue, OnOk};
 ghost use Rattle.flat_machine.specs.Limits.{IsWithinLimits};
-ghost use Rattle.exploration.specs.Results.{AreOfTheMachine, IsOfTheMachine};
+ghost use Rattle.steps.specs.Kinds.{no_poke};
 ghost use Rattle.machine_steps.specs.Machines.{AreHome};
 ghost use Rattle.explore_command.specs.Refusals.{HasWitness, IsNoWitness, IsNotTaken, IsOfSteps};
 ghost use Rattle.explore_command.specs.Witnesses.{IsEnd, IsStuck, IsWitness, target};
@@ -85,7 +85,7 @@ fn check(
     ensures witness { OnOk result (IsWitness config image.now (target results.now number) steps.now) }
     ensures refused { IfErr result (IsNotTaken config) }
 {
-    if !is_trace(&config, steps) || !are_of_the_machine(steps) {
+    if !is_trace(&config, steps) || !has_no_poke(steps) {
         return Err(Refused::Missed);
     }
     let (machine, tally) = replay_on_copy(alloc, image, config, steps)?;
@@ -99,21 +99,10 @@ fn check(
 }
 
 /// Whether none of the steps is a poke.
-#[tactic(auto, using(crate::proofs::Leading::all_own))]
-fn are_of_the_machine(steps: &[Step]) -> bool
-    ensures { IsTrue result → AreOfTheMachine steps.now }
+fn has_no_poke(steps: &[Step]) -> bool
+    ensures { result ≡ no_poke steps.now }
 {
-    steps.iter().all(is_of_the_machine)
-}
-
-/// Whether a step is no poke.
-fn is_of_the_machine(step: &Step) -> bool
-    ensures { IsTrue result ↔ IsOfTheMachine step.now }
-{
-    match step {
-        Step::Turn(_) | Step::Up { .. } | Step::Serve(_) | Step::Down { .. } => true,
-        Step::Poke(_) => false,
-    }
+    steps.iter().all(|step| !step.is_poke())
 }
 
 /// Checks that no processor runs and the machine leaves the result. The tally says what its processors have shown.

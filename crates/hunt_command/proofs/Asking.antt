@@ -1,10 +1,11 @@
 -- A run, step by step of its schedule.
-use Rattle.std.proofs.Common.{◌≡◌, ℕ, ◌<◌, ◌≤◌, ◌⊎◌, inl, inr, List, [], ◌∷◌, ◌++◌, length, refl, sym, ap, ◌∙◌, subst, arith, append_assoc}
+use Rattle.std.proofs.Common.{◌≡◌, ℕ, ◌<◌, ◌≤◌, ◌⊎◌, inl, inr, true, List, [], ◌∷◌, ◌++◌, length, refl, sym, ap, ◌∙◌, subst, arith, append_assoc}
 use Rattle.steps.specs.declared.step.Outcome.{Outcome}
 use Rattle.steps.specs.declared.step.Step.{Step}
 use Rattle.machine_steps.specs.Runs.{IsReplay}
 use Rattle.machine_log.specs.Logs.{HasTaken, Log}
-use Rattle.schedules.specs.Own.{AreOwn}
+use Rattle.steps.specs.Kinds.{no_poke}
+use Rattle.steps.proofs.Lemmas.{no_poke_parts}
 use Rattle.machine_steps.specs.Standing.{HasRunning}
 use Rattle.schedules.specs.Sweeps.{IsFault, IsStop, RunsAfter, entered_of}
 use Rattle.schedules.specs.declared.sweeping.SweepEnd.TheVariants.{Over, Budget}
@@ -23,7 +24,7 @@ pub record IsAsking (plan : List Step) (limit : ℕ) (old l : Log) (unasked : Li
   -- These and the steps that are left are the whole schedule.
   pub all : plan ≡ asked ++ unasked
   -- No step that is left is a poke.
-  pub own : AreOwn unasked
+  pub own : no_poke unasked ≡ true
   -- The log has each step asked for that did something.
   pub steps : l.steps ≡ entered_of old.opening old.steps asked
   -- It has no more steps than the limit.
@@ -34,7 +35,7 @@ pub record IsAsking (plan : List Step) (limit : ℕ) (old l : Log) (unasked : Li
   pub under : IsUnder old.opening (length old.steps) l.steps
 
 -- If a processor runs and there is room, a run begins, with its whole schedule left.
-pub asking_begins : (plan : List Step) (limit : ℕ) (l : Log) → AreOwn plan → length l.steps ≤ limit → IsReplay l.opening l.steps l.machine →
+pub asking_begins : (plan : List Step) (limit : ℕ) (l : Log) → no_poke plan ≡ true → length l.steps ≤ limit → IsReplay l.opening l.steps l.machine →
     HasRunning l.machine → IsAsking plan limit l l plan
 asking_begins plan limit l own few replay runs = record {
   opening = refl;
@@ -100,7 +101,7 @@ module _ (plan : List Step) (limit : ℕ) (old l new : Log) (s : Step) (rest : L
   few_more = (let one = at_most_one l.steps new.steps s o taken.steps in omega (arith, one, room))
 
   first_more : IsFirst old.opening (length old.steps) new.steps
-  first_more = step_first old l new s o i.opening i.replay i.own.0 taken i.under i.first
+  first_more = step_first old l new s o i.opening i.replay (no_poke_parts s rest i.own).0 taken i.under i.first
 
   -- If a step asked for is no fault, and stops no processor or leaves one running, the run goes on after it.
   pub asks_on : (IsFault o → ⊥) × ((IsStop o → ⊥) ⊎ HasRunning new.machine) → IsAsking plan limit old new rest
@@ -109,11 +110,11 @@ module _ (plan : List Step) (limit : ℕ) (old l new : Log) (s : Step) (rest : L
     replay = replayed;
     asked = i.asked ++ s ∷ [];
     all = all_more;
-    own = i.own.1;
+    own = (no_poke_parts s rest i.own).1;
     steps = steps_more;
     few = few_more;
     first = first_more;
-    under = step_under old l new s o i.opening i.replay i.own.0 taken i.under replayed plain;
+    under = step_under old l new s o i.opening i.replay (no_poke_parts s rest i.own).0 taken i.under replayed plain;
   }
 
   start_is_past : length old.steps ≤ length l.steps
@@ -130,5 +131,5 @@ module _ (plan : List Step) (limit : ℕ) (old l new : Log) (s : Step) (rest : L
     steps = steps_more;
     few = few_more;
     first = first_more;
-    ends = step_over old l new s o i.opening i.replay i.own.0 taken i.under replayed start_is_past over;
+    ends = step_over old l new s o i.opening i.replay (no_poke_parts s rest i.own).0 taken i.under replayed start_is_past over;
   }

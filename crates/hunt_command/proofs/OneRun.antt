@@ -1,5 +1,5 @@
 -- The machine's size, the image, the run's number and the limit on steps and turns determine the steps of a run.
-use Rattle.std.proofs.Common.{◌≡◌, ℕ, ◌+◌, ◌≤◌, ◌⊎◌, inl, inr, List, [], ◌∷◌, ◌++◌, length, refl, sym, ap, ap₂, ◌∙◌, subst, arith}
+use Rattle.std.proofs.Common.{◌≡◌, ℕ, ◌+◌, ◌≤◌, ◌⊎◌, inl, inr, true, List, [], ◌∷◌, ◌++◌, length, refl, sym, ap, ap₂, ◌∙◌, subst, arith}
 use Rattle.std.proofs.lemmas.List.{length-append}
 use Rattle.flat_machine.specs.declared.config.Config.{Config}
 use Rattle.elf_image.specs.Images.{ImageContents}
@@ -7,14 +7,14 @@ use Rattle.steps.specs.declared.step.Step.{Step}
 use Rattle.machine_steps.specs.Machines.{MachineLists}
 use Rattle.machine_steps.specs.Runs.{IsReplay}
 use Rattle.machine_log.specs.Logs.{Log}
-use Rattle.schedules.specs.Own.{AreOwn}
+use Rattle.steps.specs.Kinds.{no_poke}
+use Rattle.steps.proofs.Lemmas.{no_poke_front}
 use Rattle.schedules.specs.declared.sweeping.SweepEnd.{SweepEnd}
 use Rattle.schedules.specs.declared.sweeping.SweepEnd.TheVariants.{Over, Budget}
 use Rattle.schedules.proofs.Lemmas.{GoesOnFrom, HasEnded, WasAskedFor, goes_on}
 use Rattle.hunt_command.specs.Runs.{EndsWith, IsRandomRun}
 use Rattle.hunt_command.specs.Schedules.{schedule}
-use Rattle.hunt_command.proofs.Plans.{own_schedule}
-use Rattle.hunt_command.proofs.Recorded.{own_first}
+use Rattle.hunt_command.proofs.Plans.{no_poke_schedule}
 
 -- ---- of two prefixes of one list, one continues the other
 
@@ -47,7 +47,7 @@ module _ (c : Config) (image : ImageContents) (number most : ℕ) where
       let f = w.ran.asked in
       record {
         opens = w.opens;
-        own = own_first f.asked f.unasked (subst AreOwn (plan_is e l w) (own_schedule c.k number most));
+        own = no_poke_front f.asked f.unasked (subst (λ xs. no_poke xs ≡ true) (plan_is e l w) (no_poke_schedule c.k number most));
         steps = f.steps;
         replay = subst (λ m. IsReplay m w.ran.middle.steps w.ran.middle.machine) f.opening f.replay;
         few = f.few;

@@ -7,8 +7,8 @@ use Rattle.std.proofs.lemmas.List.{drop_all}
 use Rattle.std.proofs.lemmas.Option.{get_or_from_slice_get, slice_get_within}
 use Rattle.steps.specs.declared.step.Step.{Step}
 use Rattle.steps.specs.declared.step.Step.TheVariants.{Turn, Up, Serve, Down}
-use Rattle.schedules.specs.Own.{AreOwn, IsOwn}
-use Rattle.schedules.proofs.Lemmas.{own_both, own_each}
+use Rattle.steps.specs.Kinds.{is_poke, no_poke}
+use Rattle.steps.proofs.Lemmas.{no_poke_both, no_poke_each, no_poke_more}
 use Rattle.schedules.specs.Choices.{by_stage, by_wire, choices, first_state, next_state}
 use Rattle.hunt_command.specs.Schedules.{favoured_processor, moves_after, schedule, turns_from}
 
@@ -33,32 +33,34 @@ turn_next k number x before (suc n) place y p next past some is chosen moved =
     by true e = ap (λ i. drop i (choices k)) e
     by false e = ap (λ i. drop i (choices k)) e ∙ drop_all place (choices k) past
 
-own_stages : (k stages : ℕ) (f : ℕ → ℕ → Step) → ((s w : ℕ) → IsOwn (f s w)) → AreOwn (by_stage k stages f)
-own_stages k zero f own = tt
-own_stages k (suc n) f own =
-    own_both (by_stage k n f) (by_wire k (f n)) (own_stages k n f own) (own_each (f n) (own n) (range_with_len 0 (2 ^ k)))
+no_poke_stages : (k stages : ℕ) (f : ℕ → ℕ → Step) → ((s w : ℕ) → is_poke (f s w) ≡ false) → no_poke (by_stage k stages f) ≡ true
+no_poke_stages k zero f own = refl
+no_poke_stages k (suc n) f own =
+    no_poke_both (by_stage k n f) (by_wire k (f n)) (no_poke_stages k n f own) (no_poke_each (f n) (own n) (range_with_len 0 (2 ^ k)))
 
-own_choices : (k : ℕ) → AreOwn (choices k)
+no_poke_choices : (k : ℕ) → no_poke (choices k) ≡ true
 unfolding choices
-own_choices k =
-    own_both (by_stage k k Up ++ by_wire k Serve) (by_stage k k Down)
-    (own_both (by_stage k k Up) (by_wire k Serve) (own_stages k k Up (λ s w. tt)) (own_each Serve (λ w. tt) (range_with_len 0 (2 ^ k))))
-    (own_stages k k Down (λ s w. tt))
+no_poke_choices k =
+    no_poke_both (by_stage k k Up ++ by_wire k Serve) (by_stage k k Down)
+    (no_poke_both (by_stage k k Up) (by_wire k Serve) (no_poke_stages k k Up (λ s w. refl)) (no_poke_each Serve (λ w. refl) (range_with_len 0 (2 ^ k))))
+    (no_poke_stages k k Down (λ s w. refl))
 
-own_moves : (k x : ℕ) → AreOwn (moves_after k x)
-own_moves k x = by (x / 2 ^ 8 % 2 == 0)
+no_poke_moves : (k x : ℕ) → no_poke (moves_after k x) ≡ true
+no_poke_moves k x = by (x / 2 ^ 8 % 2 == 0)
   where
-    by : (b : Bool) → AreOwn (if b then choices k else [])
-    by true = own_choices k
-    by false = tt
+    by : (b : Bool) → no_poke (if b then choices k else []) ≡ true
+    by true = no_poke_choices k
+    by false = refl
 
-own_turns : (k start x before turns : ℕ) → AreOwn (turns_from k start x before turns)
-own_turns k start x before zero = tt
-own_turns k start x before (suc n) =
+no_poke_turns : (k start x before turns : ℕ) → no_poke (turns_from k start x before turns) ≡ true
+no_poke_turns k start x before zero = refl
+no_poke_turns k start x before (suc n) =
     let y = next_state x in
-    let p = favoured_processor k start y before in (tt, own_both (moves_after k y) (turns_from k start y p n) (own_moves k y) (own_turns k start y p n))
+    let p = favoured_processor k start y before in
+    no_poke_more (Turn p) (moves_after k y ++ turns_from k start y p n) refl
+    (no_poke_both (moves_after k y) (turns_from k start y p n) (no_poke_moves k y) (no_poke_turns k start y p n))
 
 -- No step of a random schedule is a poke.
-pub own_schedule : (k number turns : ℕ) → AreOwn (schedule k number turns)
+pub no_poke_schedule : (k number turns : ℕ) → no_poke (schedule k number turns) ≡ true
 unfolding schedule
-own_schedule k number turns = own_turns k number (first_state number 0) 0 turns
+no_poke_schedule k number turns = no_poke_turns k number (first_state number 0) 0 turns

@@ -1,25 +1,20 @@
 -- A trace has a record of each step of a random run and of its drain.
-use Rattle.std.proofs.Common.{◌≡◌, List, [], ◌∷◌, ◌++◌, subst, ℕ}
-use Rattle.steps.specs.declared.step.Step.{Step}
+use Rattle.std.proofs.Common.{◌≡◌, subst, ℕ, true}
 use Rattle.trace_file.specs.Traces.{HaveRecords}
 use Rattle.machine_steps.specs.Runs.{IsReplay}
 use Rattle.machine_log.specs.Logs.{Log}
-use Rattle.schedules.specs.Own.{AreOwn}
+use Rattle.steps.specs.Kinds.{no_poke}
+use Rattle.steps.proofs.Lemmas.{no_poke_front}
 use Rattle.schedules.specs.declared.sweeping.SweepEnd.{SweepEnd}
 use Rattle.schedules.proofs.Lemmas.{drained_has_records}
 use Rattle.hunt_command.specs.Runs.{HasRunAtRandom}
-use Rattle.hunt_command.proofs.Plans.{own_schedule}
-
--- If no step of two lists in a row is a poke, none of the first list is.
-pub own_first : (xs ys : List Step) → AreOwn (xs ++ ys) → AreOwn xs
-own_first [] ys own = tt
-own_first (x ∷ xs) ys own = (own.0, own_first xs ys own.1)
+use Rattle.hunt_command.proofs.Plans.{no_poke_schedule}
 
 -- If the steps of a log had records before a random run, they have records after it.
 pub run_has_records : (number most : ℕ) (old : Log) (end : SweepEnd) (new : Log) → HasRunAtRandom number most old end new →
     IsReplay new.opening new.steps new.machine → old.machine.config ≡ old.opening.config → HaveRecords old.machine.config.k old.steps →
     HaveRecords new.machine.config.k new.steps
 run_has_records number most old end new ran replay size =
-    let plan = own_schedule old.machine.config.k number most in
-    let own = own_first ran.asked.asked ran.asked.unasked (subst AreOwn ran.asked.all plan) in
+    let plan = no_poke_schedule old.machine.config.k number most in
+    let own = no_poke_front ran.asked.asked ran.asked.unasked (subst (λ xs. no_poke xs ≡ true) ran.asked.all plan) in
     drained_has_records old ran.middle new ran.asked.asked own ran.asked.steps ran.opening ran.steps replay size

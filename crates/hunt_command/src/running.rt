@@ -3,7 +3,7 @@
 ghost use Rattle.std.specs.Prelude.{◌≡◌, ◌≤◌, ◌<◌, ◌+◌, ◌↔◌, ℕ, Err, IfErr, IfOk, OnErr, OnOk, [], length, false, true};
 ghost use Rattle.machine_steps.specs.Draining.{drain_bound};
 ghost use Rattle.machine_steps.specs.Noting.{AreNoted};
-ghost use Rattle.schedules.specs.Own.{AreOwn};
+ghost use Rattle.steps.specs.Kinds.{no_poke};
 ghost use Rattle.steps.specs.Answers.{is_stalled};
 ghost use Rattle.schedules.specs.Sweeps.{most_of};
 ghost use Rattle.hunt_command.specs.Runs.{HasRunAtRandom, WasAsked};
@@ -128,7 +128,7 @@ fn ask<N: StepObserver>(
     limit: usize,
     observer: &mut N,
 ) -> Result<SweepEnd, N::Refusal>
-    requires own { AreOwn schedule.old }
+    requires own { no_poke schedule.old ≡ true }
     requires few { length log.old.log.steps ≤ limit }
     requires room { limit ≤ length log.old.log.steps + log.old.capacity_left }
     requires noting { (most : ℕ) × (limit ≡ length log.old.log.steps + most) × N.has_room observer.old most }

@@ -1,7 +1,7 @@
 -- The rows fit the steps: at the start, and after each answer.
 use Rattle.std.proofs.Common.{◌≡◌, ℕ, zero, suc, ◌+◌, ◌<◌, ◌≤◌, Bool, true, false, not, List, []}
 use Rattle.std.proofs.Common.{◌∷◌, ◌++◌, length, drop, refl, sym, ap, ◌∙◌, subst, arith, length-append}
-use Rattle.std.proofs.Common.{append_assoc, ◌⊎◌, inl, inr, ⊎_elim, lt-ltb, eq-eqb}
+use Rattle.std.proofs.Common.{append_assoc, ◌⊎◌, inl, inr, ⊎_elim}
 use Rattle.std.specs.Prelude.{replicate, slice_get, slice_set, slice_index_or as get_or, Some, None, Option, if◌then◌else◌}
 use Rattle.std.proofs.lemmas.List.{append-nil, drop-append-le, take-append-le}
 use Rattle.std.proofs.Math.Seq.{take-length, drop-length}
@@ -10,17 +10,18 @@ use Rattle.machine_steps.specs.machine_theory.Theory.{Machine}
 use Rattle.machine_steps.specs.machine_theory.Processors.{ObservedCore}
 use Rattle.machine_steps.specs.machine_theory.Steps.{outcome_of}
 use Rattle.steps.specs.declared.step.Step.{Step}
-use Rattle.steps.specs.declared.step.Step.TheVariants as step
+use Rattle.steps.specs.Kinds.{all_within, is_poke, is_turn_below, is_turn_of, is_within, no_poke, no_turn, turns_below}
+use Rattle.steps.proofs.Lemmas.{turns_of_one}
 use Rattle.steps.specs.declared.step.Outcome.{Outcome}
 use Rattle.steps.specs.declared.step.Outcome.TheVariants.{Retired, Issued, Stopped, Moved, Combined, Served, Answered, Poked, Stalled}
 use Rattle.steps.specs.Answers.{is_stalled}
 use Rattle.machine_steps.specs.Machines.{MachineLists, machine_of}
 use Rattle.machine_steps.specs.Runs.{all_after, answer_after}
-use Rattle.machine_log.specs.Logs.{entered, is_named}
+use Rattle.machine_log.specs.Logs.{entered}
 use Rattle.machine_lock.specs.declared.row.PassEvent.{PassEvent}
 use Rattle.machine_lock.specs.declared.row.Answer.{Answer}
 use Rattle.machine_lock.specs.declared.row.PassState.{PassState}
-use Rattle.machine_lock.specs.Lists.{pass_events_of, given_to, shown_at, is_poke, is_turn_of, is_turn_below, all_named, no_poke, no_turn, turns_below}
+use Rattle.machine_lock.specs.Lists.{pass_events_of, given_to, shown_at}
 use Rattle.machine_lock.specs.Passes.{Held, held, most_of, rows_of, IsWhole, new_passes}
 use Rattle.machine_log.specs.Lendings.{lent_at}
 use Rattle.machine_log.proofs.Lemmas.{replicate_none}
@@ -78,13 +79,6 @@ none_stalled q place s o h = ap (λ ns. if is_turn_of q s then ns else []) (none
     same : (b : Bool) → (let e : List PassEvent = [] in if b then e else e) ≡ []
     same true = refl
     same false = refl
-
-own_turn : (s : Step) (p count : ℕ) → p < count → ((q : ℕ) → is_turn_of q s ≡ true → q ≡ p) → is_turn_below count s ≡ true
-own_turn (step.Turn q) p count less own = let same : q ≡ p = own q (eq-eqb q q refl) in lt-ltb q count (omega arith)
-own_turn (step.Up s w) p count less own = refl
-own_turn (step.Serve m) p count less own = refl
-own_turn (step.Down s w) p count less own = refl
-own_turn (step.Poke poke) p count less own = refl
 
 -- ---- one more answer
 
@@ -144,7 +138,7 @@ module _ (opening : MachineLists) (first : List Step) where
       }
 
   answered_at : (count : ℕ) (steps : List Step) (rows : List PassState) (p : ℕ) (r : PassState) (s : Step) (o : Outcome) (b : Bool) → is_stalled o ≡ b
-      → Fits opening first count steps rows → slice_get rows p ≡ Some r → is_poke s ≡ false → is_named opening.config s ≡ true →
+      → Fits opening first count steps rows → slice_get rows p ≡ Some r → is_poke s ≡ false → is_within opening.config.k s ≡ true →
       ((q : ℕ) → is_turn_of q s ≡ true → q ≡ p) →
       o ≡ answer_after opening steps s
       → Fits opening first count (if b then steps else steps ++ s ∷ []) (slice_set rows p (with_answer p r s o (length steps)))
@@ -192,8 +186,8 @@ module _ (opening : MachineLists) (first : List Step) where
       record {
         begins = ap (λ t. t ++ s ∷ []) h.begins ∙ append_assoc first rest (s ∷ []) ∙ ap (λ t. first ++ t) (sym dr);
         no_pokes = subst (λ t. no_poke t ≡ true) (sym dr) (all-push (λ t. not (is_poke t)) rest s h.no_pokes (ap not may));
-        turns = subst (λ t. turns_below count t ≡ true) (sym dr) (all-push (is_turn_below count) rest s h.turns (own_turn s p count (omega arith) own));
-        named = subst (λ t. all_named opening.config t ≡ true) (sym dr) (all-push (is_named opening.config) rest s h.named name);
+        turns = subst (λ t. turns_below count t ≡ true) (sym dr) (all-push (is_turn_below count) rest s h.turns (turns_of_one s p count (omega arith) own));
+        named = subst (λ t. all_within opening.config.k t ≡ true) (sym dr) (all-push (is_within opening.config.k) rest s h.named name);
         many = length-slice_set rows p new ∙ h.many;
         each = each-set (RowFits opening first now) rows p new
             (record {
@@ -214,7 +208,7 @@ module _ (opening : MachineLists) (first : List Step) where
   -- If a step is answered that is no poke, that the machine has, and that is no turn of a processor other than p,
   -- the rows with p's answer fit the steps in which it is entered.
   pub answered : (count : ℕ) (steps : List Step) (rows : List PassState) (p : ℕ) (r : PassState) (s : Step) (o : Outcome)
-      → Fits opening first count steps rows → slice_get rows p ≡ Some r → is_poke s ≡ false → is_named opening.config s ≡ true →
+      → Fits opening first count steps rows → slice_get rows p ≡ Some r → is_poke s ≡ false → is_within opening.config.k s ≡ true →
       ((q : ℕ) → is_turn_of q s ≡ true → q ≡ p) →
       o ≡ answer_after opening steps s
       → Fits opening first count (entered steps s o) (slice_set rows p (with_answer p r s o (length steps)))
@@ -286,7 +280,7 @@ starts opening first count =
       begins = sym (append-nil first) ∙ ap (λ t. first ++ t) (sym none);
       no_pokes = ap no_poke none;
       turns = ap (turns_below count) none;
-      named = ap (all_named opening.config) none;
+      named = ap (all_within opening.config.k) none;
       many = length-rows_of (new_passes count) ∙ length-new_passes count;
       each = λ p r e.
           let g = get-rows_of (new_passes count) p r e in

@@ -9,12 +9,12 @@ use Rattle.steps.specs.declared.step.Step.{Step}
 use Rattle.steps.specs.declared.step.Step.TheVariants as step
 use Rattle.steps.specs.declared.step.Outcome.TheVariants as outcome
 use Rattle.machine_steps.specs.Machines.{MachineLists}
-use Rattle.machine_log.specs.Logs.{is_named}
 use Rattle.machine_log.specs.Lendings.{AreAnswered, LendingLog, OfOthers, lent_at}
 use Rattle.machine_log.specs.declared.lent.Lent.{Lent}
-use Rattle.machine_lock.specs.Lists.{is_of_network, is_turn_of}
+use Rattle.steps.specs.Kinds.{is_network, is_turn_of, is_within}
+use Rattle.steps.proofs.Lemmas.{network_no_poke, network_no_turn}
 use Rattle.machine_lock.specs.Passes.{most_of}
-use Rattle.machine_steps.specs.machine_theory.Loans.{IsOfOthers, turns_of}
+use Rattle.machine_steps.specs.machine_theory.Loans.{turns_of}
 use Rattle.machine_lock.specs.declared.row.PassState.{PassState}
 use Rattle.machine_lock.specs.Rows.{Fits, RowFits, with_answer, with_retirements, with_loan}
 use Rattle.machine_lock.proofs.Fitting.{answered, steps_of-set}
@@ -46,7 +46,7 @@ module _ (opening : MachineLists) (first : List Step) (count : ℕ) where
 
   -- The rows fit after turns of p have retired these instructions, one after another.
   pub answer_fits : (steps : List Step) (rows : List PassState) (p : ℕ) (r : PassState) (taken : List Retired) → Fits opening first count steps rows →
-      slice_get rows p ≡ Some r → is_named opening.config (step.Turn p) ≡ true → AreAnswered opening steps p taken →
+      slice_get rows p ≡ Some r → is_within opening.config.k (step.Turn p) ≡ true → AreAnswered opening steps p taken →
       Fits opening first count (steps ++ turns_of p (length taken)) (slice_set rows p (with_retirements p r (length steps) taken))
   answer_fits steps rows p r [] h at named answers =
       subst (λ (x : List Step × List PassState). Fits opening first count x.0 x.1) (λ i. (sym (append-nil steps) i, sym (set-same rows p r at) i)) h
@@ -66,7 +66,7 @@ module _ (opening : MachineLists) (first : List Step) (count : ℕ) where
 
   -- The rows fit after a core has come back, and turns of p have retired its instructions.
   pub back_fits : (steps : List Step) (rows : List PassState) (p : ℕ) (r : PassState) (taken : List Retired) → Fits opening first count steps rows →
-      slice_get rows p ≡ Some r → is_named opening.config (step.Turn p) ≡ true → AreAnswered opening steps p taken →
+      slice_get rows p ≡ Some r → is_within opening.config.k (step.Turn p) ≡ true → AreAnswered opening steps p taken →
       Fits opening first count (steps ++ turns_of p (length taken)) (slice_set rows p (with_loan (with_retirements p r (length steps) taken) None))
   back_fits steps rows p r taken h at named answers =
       let t = with_retirements p r (length steps) taken in
@@ -89,19 +89,15 @@ say_set rows lent lent' p new say others here = each-set (λ q r. r.lent ≡ mos
 
 -- A turn of a processor whose core is not lent is not of a processor whose core is lent.
 pub turn_others : (lent : List (Option Lent)) (p : ℕ) → None ≡ most_of (lent_at lent p) → OfOthers lent (step.Turn p)
-turn_others lent p none q l e same = absurd (no (lent_at lent p) (ap (lent_at lent) same ∙ e) none)
+turn_others lent p none q l e = (ne_eqb p q (λ same. no (lent_at lent p) (ap (lent_at lent) same ∙ e) none), refl)
   where
     no : (k : Option Lent) → k ≡ Some l → None ≡ most_of k → ⊥
     no None f g = cc
     no (Some k) f g = cc
 
 -- Nor is a step of the network.
-pub net_others : (lent : List (Option Lent)) (s : Step) → is_of_network s ≡ true → OfOthers lent s
-net_others lent (step.Turn p) net q l e = absurd (cc)
-net_others lent (step.Up s w) net q l e = tt
-net_others lent (step.Serve m) net q l e = tt
-net_others lent (step.Down s w) net q l e = tt
-net_others lent (step.Poke poke) net q l e = absurd (cc)
+pub net_others : (lent : List (Option Lent)) (s : Step) → is_network s ≡ true → OfOthers lent s
+net_others lent s net q l e = (network_no_turn q s net, network_no_poke s net)
 
 -- A row with further answers says the same of its loan.
 pub with_retirements_lent : (p : ℕ) (r : PassState) (place : ℕ) (taken : List Retired) → (with_retirements p r place taken).lent ≡ r.lent
@@ -112,16 +108,9 @@ with_retirements_lent p r place (retired ∷ later) = with_retirements_lent p (w
 pub lent_quiet : (lent : List (Option Lent)) (s : Step) (p most : ℕ) → OfOthers lent s → Some most ≡ most_of (lent_at lent p) → is_turn_of p s ≡ false
 lent_quiet lent s p most others e = at (lent_at lent p) refl e
   where
-    apart : (s : Step) → IsOfOthers p s → is_turn_of p s ≡ false
-    apart (step.Turn q) other = ne_eqb q p other
-    apart (step.Up t w) other = refl
-    apart (step.Serve m) other = refl
-    apart (step.Down t w) other = refl
-    apart (step.Poke poke) other = absurd other
-
     at : (l : Option Lent) → lent_at lent p ≡ l → Some most ≡ most_of l → is_turn_of p s ≡ false
     at None f g = absurd (cc)
-    at (Some l) f g = apart s (others p l f)
+    at (Some l) f g = (others p l f).0
 
 -- ---- what is known of loans after one is made or comes back
 

@@ -9,7 +9,8 @@ use Rattle.steps.specs.declared.step.Step.{Step}
 use Rattle.steps.specs.declared.step.Outcome.{Outcome}
 use Rattle.steps.specs.declared.step.Outcome.TheVariants.{Retired, Issued, Stopped, Moved, Combined, Served, Answered, Poked, Stalled}
 use Rattle.machine_lock.specs.declared.row.PassEvent.{PassEvent}
-use Rattle.machine_lock.specs.Lists.{pass_events_of, is_turn_of, shown_at, IsRising}
+use Rattle.steps.specs.Kinds.{is_turn_of}
+use Rattle.machine_lock.specs.Lists.{pass_events_of, shown_at, IsRising}
 
 lower : (low : ℕ) (ns : List PassEvent) → IsRising (suc low) ns → IsRising low ns
 lower low [] h = tt

@@ -29,7 +29,8 @@ use Rattle.steps.specs.declared.step.Outcome.{Outcome}
 use Rattle.steps.specs.declared.step.Outcome.TheVariants as outcome
 use Rattle.machine_steps.specs.Runs.{all_after}
 use Rattle.machine_lock.specs.declared.row.PassEvent.{PassEvent}
-use Rattle.machine_lock.specs.Lists.{given_to, is_poke, no_poke, pass_events_of, shown_at}
+use Rattle.steps.specs.Kinds.{is_poke, no_poke}
+use Rattle.machine_lock.specs.Lists.{given_to, pass_events_of, shown_at}
 
 -- The processor is over: it has no reference open, and does not run.
 record IsOver (p : ℕ) (M : theory.Machine ObservedCore) : Type 0 where

@@ -15,7 +15,8 @@ use Rattle.steps.specs.declared.step.Step.TheVariants as step
 use Rattle.steps.specs.declared.step.Outcome.{Outcome}
 use Rattle.machine_steps.specs.Machines.{MachineLists}
 use Rattle.machine_lock.specs.declared.row.PassEvent.{PassEvent}
-use Rattle.machine_lock.specs.Lists.{pass_events_of, all_pass_events, given_to, given, shown_at, is_turn_below, turns_below}
+use Rattle.steps.specs.Kinds.{is_turn_below, turns_below}
+use Rattle.machine_lock.specs.Lists.{pass_events_of, all_pass_events, given_to, given, shown_at}
 use Rattle.machine_lock.specs.Rows.{machine_after, pass_events_since, all_since, Fits}
 use Rattle.machine_lock.specs.Passes.{Held, rows_of, IsWhole, all_stored}
 

@@ -11,7 +11,6 @@ use Rattle.machine_steps.specs.Runs.{answer_after}
 use Rattle.machine_log.specs.Logs.{entered}
 use Rattle.steps.specs.declared.step.Step.{Step}
 use Rattle.steps.specs.declared.step.Step.TheVariants.{Turn}
-use Rattle.steps.specs.declared.step.Step.TheVariants as step
 use Rattle.steps.specs.declared.step.Outcome.{Outcome}
 use Rattle.steps.specs.declared.step.Outcome.TheVariants.{Stalled}
 use Rattle.machine_log.specs.declared.refusal.LockRefusal.{LockRefusal}
@@ -19,7 +18,8 @@ use Rattle.machine_lock.specs.declared.locked_state.Round.{Round}
 use Rattle.machine_lock.specs.declared.locked_state.Rounds.{Rounds}
 use Rattle.machine_lock.specs.declared.row.PassEvent.{PassEvent}
 use Rattle.machine_lock.specs.declared.row.PassState.{PassState}
-use Rattle.machine_lock.specs.Lists.{is_net, is_of_network, is_turn_of}
+use Rattle.steps.specs.Kinds.{is_network, is_turn_of, is_within}
+use Rattle.machine_lock.specs.Lists.{is_net}
 use Rattle.machine_lock.specs.Rows.{answer, row, with_answer, Follows}
 use Rattle.machine_lock.specs.Passes.{Held, held, Moment, moment, TurnAndStep, GoesOnWith, HaveGone, HaveWaited}
 use Rattle.machine_lock.specs.Passes.{HasAnswered, IsTurned, LockedStateModel, UnderLock}
@@ -31,12 +31,12 @@ is_none None e = refl
 is_none (Some most) e = absurd (cc)
 
 -- A step of the network that the machine has is one of the network.
-pub of_net : (c : Config) (s : Step) → is_net c s ≡ true → is_of_network s ≡ true
-of_net c (step.Turn p) e = absurd (cc)
-of_net c (step.Up s w) e = refl
-of_net c (step.Serve m) e = refl
-of_net c (step.Down s w) e = refl
-of_net c (step.Poke poke) e = absurd (cc)
+pub of_net : (c : Config) (s : Step) → is_net c s ≡ true → is_network s ≡ true
+of_net c s = by (is_network s) (is_within c.k s)
+  where
+    by : (net within : Bool) → (if net then within else false) ≡ true → net ≡ true
+    by true within e = refl
+    by false within e = absurd (cc)
 
 -- ---- the parts of a list
 

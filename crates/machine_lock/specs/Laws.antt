@@ -6,10 +6,11 @@ use Rattle.flat_machine.specs.declared.config.Config.{Config}
 use Rattle.machine_steps.specs.machine_theory.Theory as theory
 use Rattle.machine_steps.specs.machine_theory.Processors.{ObservedCore}
 use Rattle.steps.specs.declared.step.Step.{Step}
+use Rattle.steps.specs.Kinds.{no_poke}
 use Rattle.machine_steps.specs.Runs.{all_after}
 use Rattle.machine_steps.specs.Laws.{shown_after}
 use Rattle.machine_lock.specs.declared.row.PassEvent.{PassEvent}
-use Rattle.machine_lock.specs.Lists.{no_poke, pass_events_of, IsRising}
+use Rattle.machine_lock.specs.Lists.{pass_events_of, IsRising}
 
 -- The places rise along the list of each processor, from the place of the first step on.
 abbrev pub PlacesRise : Type 0

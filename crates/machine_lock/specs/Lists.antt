@@ -1,48 +1,24 @@
 -- What the outcomes of steps give each processor: its retirements and its stop, each with its place among the steps.
-use Rattle.std.specs.Prelude.{◌≡◌, ℕ, suc, ◌≤◌, ◌==◌, nat_lt, Bool, true, false, not, List, [], ◌∷◌, ◌++◌, map}
+use Rattle.std.specs.Prelude.{◌≡◌, ℕ, suc, ◌≤◌, Bool, true, false, List, [], ◌∷◌, ◌++◌, map, Option, Some, None}
 use Rattle.std.specs.Prelude.{if◌then◌else◌}
-use Rattle.std.specs.List.{list_all}
 use Rattle.flat_machine.specs.declared.config.Config.{Config}
 use Rattle.flat_machine.specs.declared.event.Event.TheVariants as event
 use Rattle.machine_steps.specs.machine_theory.Theory as theory
 use Rattle.machine_steps.specs.machine_theory.Processors.{ObservedCore}
 use Rattle.machine_steps.specs.machine_theory.Steps.{outcome_of, after}
 use Rattle.steps.specs.declared.step.Step.{Step}
-use Rattle.steps.specs.declared.step.Step.TheVariants as step
+use Rattle.steps.specs.Kinds.{is_network, is_turn_of, is_within, turn_processor}
 use Rattle.steps.specs.declared.step.Outcome.{Outcome}
 use Rattle.steps.specs.declared.step.Outcome.TheVariants.{Retired, Issued, Stopped, Moved, Combined, Served, Answered}
 use Rattle.steps.specs.declared.step.Outcome.TheVariants.{Poked, Stalled}
 use Rattle.machine_steps.specs.Machines.{MachineLists, machine_of}
-use Rattle.machine_log.specs.Logs.{is_named}
 use Rattle.machine_lock.specs.declared.row.PassEvent.{PassEvent}
 
--- ---- kinds of steps
+-- ---- steps of the network, and stops
 
-abbrev pub is_turn_of : ℕ → Step → Bool
-is_turn_of p (step.Turn q) = q == p
-is_turn_of p (step.Up s w) = false
-is_turn_of p (step.Serve m) = false
-is_turn_of p (step.Down s w) = false
-is_turn_of p (step.Poke poke) = false
-
-abbrev pub is_poke : Step → Bool
-is_poke (step.Turn p) = false
-is_poke (step.Up s w) = false
-is_poke (step.Serve m) = false
-is_poke (step.Down s w) = false
-is_poke (step.Poke poke) = true
-
--- whether a step is a move in the network, or a service by a module
-abbrev pub is_of_network : Step → Bool
-is_of_network (step.Turn p) = false
-is_of_network (step.Up s w) = true
-is_of_network (step.Serve m) = true
-is_of_network (step.Down s w) = true
-is_of_network (step.Poke poke) = false
-
--- whether it is one that the machine has
+-- whether a step is one of the network that the machine has
 abbrev pub is_net : Config → Step → Bool
-is_net c s = if is_of_network s then is_named c s else false
+is_net c s = if is_network s then is_within c.k s else false
 
 -- The step would stall now.
 abbrev pub Stalls : MachineLists → Step → Type 0
@@ -51,27 +27,6 @@ Stalls m s = outcome_of m.config m.code (machine_of m (λ p. [])) s ≡ Stalled
 -- The step is one of the network that the machine has, and it would stall.
 abbrev pub IsIdleMove : MachineLists → Step → Type 0
 IsIdleMove m s = (is_net m.config s ≡ true) × Stalls m s
-
--- whether a step is a turn of one of this many processors, or no turn
-abbrev pub is_turn_below : ℕ → Step → Bool
-is_turn_below count (step.Turn p) = nat_lt p count
-is_turn_below count (step.Up s w) = true
-is_turn_below count (step.Serve m) = true
-is_turn_below count (step.Down s w) = true
-is_turn_below count (step.Poke poke) = true
-
-abbrev pub no_poke : List Step → Bool
-no_poke steps = list_all (λ s. not (is_poke s)) steps
-
-abbrev pub no_turn : ℕ → List Step → Bool
-no_turn p steps = list_all (λ s. not (is_turn_of p s)) steps
-
-abbrev pub turns_below : ℕ → List Step → Bool
-turns_below count steps = list_all (is_turn_below count) steps
-
--- whether a machine of this size has all these steps
-abbrev pub all_named : Config → List Step → Bool
-all_named c steps = list_all (is_named c) steps
 
 -- whether a turn stopped its processor
 abbrev pub is_stop : Outcome → Bool
@@ -103,13 +58,13 @@ shown_at place Stalled = []
 abbrev pub given_to : (p place : ℕ) → Step → Outcome → List PassEvent
 given_to p place s o = if is_turn_of p s then shown_at place o else []
 
--- what it gives, with the processor that gets it
+-- what it gives, with the processor that gets it, if it is a turn of a processor
+abbrev pub given_in : (turn : Option ℕ) → (place : ℕ) → Outcome → List (ℕ × PassEvent)
+given_in (Some p) place o = map (λ n. (p, n)) (shown_at place o)
+given_in None place o = []
+
 abbrev pub given : (place : ℕ) → Step → Outcome → List (ℕ × PassEvent)
-given place (step.Turn p) o = map (λ n. (p, n)) (shown_at place o)
-given place (step.Up s w) o = []
-given place (step.Serve m) o = []
-given place (step.Down s w) o = []
-given place (step.Poke poke) o = []
+given place s o = given_in (turn_processor s) place o
 
 -- what steps give p, if the machine M takes the first of them, and it is at this place
 abbrev pub pass_events_of : Config → (code : List ℕ) → (p place : ℕ) → theory.Machine ObservedCore → List Step →

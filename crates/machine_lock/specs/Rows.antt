@@ -7,14 +7,14 @@ use Rattle.steps.specs.declared.step.Step.TheVariants as step
 use Rattle.steps.specs.declared.step.Outcome.{Outcome}
 use Rattle.steps.specs.declared.step.Outcome.TheVariants as outcome
 use Rattle.steps.specs.Answers.{is_stalled}
+use Rattle.steps.specs.Kinds.{all_within, no_poke, no_turn, turns_below}
 use Rattle.machine_steps.specs.Machines.{MachineLists}
 use Rattle.machine_steps.specs.Runs.{answer_after}
 pub use Rattle.machine_steps.specs.Runs.{machine_after}
 use Rattle.machine_lock.specs.declared.row.PassEvent.{PassEvent}
 use Rattle.machine_lock.specs.declared.row.Answer.{Answer}
 use Rattle.machine_lock.specs.declared.row.PassState.{PassState}
-use Rattle.machine_lock.specs.Lists.{pass_events_of, all_pass_events, given_to, all_named, no_poke, no_turn}
-use Rattle.machine_lock.specs.Lists.{turns_below}
+use Rattle.machine_lock.specs.Lists.{pass_events_of, all_pass_events, given_to}
 
 -- ---- a row
 
@@ -97,7 +97,7 @@ pub record Fits (opening : MachineLists) (first : List Step) (count : ℕ) (step
   pub begins : steps ≡ first ++ drop (length first) steps
   pub no_pokes : no_poke (drop (length first) steps) ≡ true
   pub turns : turns_below count (drop (length first) steps) ≡ true
-  pub named : all_named opening.config (drop (length first) steps) ≡ true
+  pub named : all_within opening.config.k (drop (length first) steps) ≡ true
   pub many : length rows ≡ count
   pub each : (p : ℕ) (r : PassState) → slice_get rows p ≡ Some r → RowFits opening first steps p r
   pub total : length first + steps_of rows ≡ length steps

@@ -5,14 +5,14 @@ ghost use Rattle.std.specs.Prelude.{slice_get, is_some, Ok, IfOk, IfErr, OnOk, O
 ghost use Rattle.std.specs.Arc.{arc_value};
 ghost use Rattle.ghost_map.specs.Rows.{IsWritten};
 ghost use Rattle.hart.specs.LocalRuns.{RetirementList};
-ghost use Rattle.machine_log.specs.Logs.{is_named};
+ghost use Rattle.steps.specs.Kinds.{is_poke, is_turn_of, is_within};
 ghost use Rattle.machine_log.specs.Lendings.{OfOthers, may_lend, promised};
-ghost use Rattle.machine_lock.specs.Lists.{is_net, is_poke, is_turn_of};
+ghost use Rattle.machine_lock.specs.Lists.{is_net};
 ghost use Rattle.machine_lock.specs.Passes.{moment, row_of, has_stalled, idle_of, leaves_waiting, TurnAndStep};
 ghost use Rattle.machine_lock.specs.Passes.{HaveGone, HaveWaited, IsAgreed};
 ghost use Rattle.machine_lock.specs.Passes.{IsAnswered, HasAnswered, IsTurned, IsLentOn, IsLoanOf, IsReturned};
 
-use crate::kinds::{is_of_network, is_stop, is_waiting};
+use crate::kinds::{is_stop, is_waiting};
 use crate::loan::Loan;
 use crate::pass::Pass;
 use crate::row::PassState;
@@ -103,7 +103,7 @@ fn take(
     step: Step,
     place: u32,
 ) -> Result<(), LockRefusal>
-    requires named { is_named lending.old.log.machine.config step ≡ true }
+    requires named { is_within lending.old.log.machine.config.k step ≡ true }
     requires others { OfOthers lending.old.lent step }
     requires room { (p : ℕ) → is_turn_of p step ≡ true →
         vec_len stored.old.pass_events < vec_capacity stored.old.pass_events }
@@ -199,7 +199,7 @@ impl<N: Run> LockedState<N> {
     fn answer(&mut self, pass: &mut Pass<N>, step: Step) -> Result<Outcome, LockRefusal>
         requires turn { (q : ℕ) → is_turn_of q step ≡ true → q ≡ pass.old.processor }
         requires poke { is_poke step ≡ false }
-        requires named { is_named N.opening.config step ≡ true }
+        requires named { is_within N.opening.config.k step ≡ true }
         requires others { OfOthers self.old.lent step }
         requires met { slice_get self.old.rows pass.old.processor ≡ Some pass.old.row }
         ensures answered { IfOk result (λ o. HasAnswered N.opening (moment self.old.log.steps pass.old) step o
@@ -293,7 +293,7 @@ impl<N: Run> LockedState<N> {
         ensures err { OnErr result ((pass.new ≡ pass.old) × (self.new ≡ self.old)) }
         ensures processor { pass.new.processor ≡ pass.old.processor }
     {
-        if !is_of_network(step) || !self.lending.names(&step) {
+        if !step.is_network() || !self.lending.names(&step) {
             return Err(LockRefusal::Unnamed);
         }
         self.sync_row(pass);

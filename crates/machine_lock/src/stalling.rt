@@ -3,11 +3,9 @@
 ghost use Rattle.std.specs.Prelude.{◌≡◌, ℕ, ◌≤◌, ◌<◌, ◌^◌, [], true, length, slice_get, Some};
 ghost use Rattle.machine_steps.specs.machine_theory.Processors.{open_at};
 ghost use Rattle.machine_steps.specs.omega_network.Networks.{net_of};
-ghost use Rattle.machine_log.specs.Logs.{is_named};
+ghost use Rattle.steps.specs.Kinds.{is_within};
 ghost use Rattle.machine_lock.specs.Lists.{IsIdleMove, Stalls};
 
-use crate::kinds::is_of_network;
-use machine_log::names;
 use machine_steps::{Machine, laws};
 use steps::Step;
 
@@ -15,7 +13,7 @@ use steps::Step;
 /// an open processor waits. Most steps that threads ask for have none, and one bit shows it. Others may stall too.
 #[inline(always)]
 pub(crate) fn would_stall(machine: &Machine, step: Step) -> bool
-    requires { is_named machine.now.config step ≡ true }
+    requires { is_within machine.now.config.k step ≡ true }
     ensures { result ≡ true → Stalls machine.now step }
 {
     laws::machine_is_well_formed(machine);
@@ -57,7 +55,7 @@ fn is_idle_move(machine: &Machine, step: Step) -> bool
     ensures { result ≡ true → IsIdleMove machine.now step }
 {
     laws::machine_is_well_formed(machine);
-    is_of_network(step) && names(machine.config(), &step) && would_stall(machine, step)
+    step.is_network() && step.is_within(machine.config().k) && would_stall(machine, step)
 }
 
 /// Whether a processor has a reference open.

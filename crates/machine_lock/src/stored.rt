@@ -1,11 +1,12 @@
 //! What a pass stores, and how it stores an answer.
 
 ghost use Rattle.std.specs.Prelude.{◌≡◌, ℕ, ◌<◌, ◌≤◌, ◌+◌, ◌^◌, ◌++◌, true, length, Some, vec_len, vec_capacity};
-ghost use Rattle.machine_lock.specs.Lists.{given_to, is_turn_of};
+ghost use Rattle.steps.specs.Kinds.{is_turn_of};
+ghost use Rattle.machine_lock.specs.Lists.{given_to};
 ghost use Rattle.machine_lock.specs.Rows.{counted, with_answer, with_retirements};
 ghost use Rattle.machine_lock.specs.Passes.{row_of};
 
-use crate::kinds::{counts, is_turn_of};
+use crate::kinds::counts;
 use crate::row::{Answer, PassEvent};
 use flat_machine::{Cause, Event, Retired};
 use steps::{Outcome, Step};
@@ -61,10 +62,7 @@ impl PassStateVec {
         ensures { result ≡ true → (p : ℕ) → is_turn_of p step ≡ true →
             vec_len self.now.pass_events < vec_capacity self.now.pass_events }
     {
-        match step {
-            Step::Turn(_) => self.pass_events.len() < self.pass_events.capacity(),
-            _ => true,
-        }
+        !step.is_turn() || self.pass_events.len() < self.pass_events.capacity()
     }
 
     /// The outcome of the last answer.
@@ -133,7 +131,7 @@ fn append(
     ensures given { pass_events.new.items ≡ pass_events.old.items ++ given_to processor place step outcome.now }
     ensures capacity { vec_capacity pass_events.new ≡ vec_capacity pass_events.old }
 {
-    if !is_turn_of(processor, step) {
+    if !step.is_turn_of(processor) {
         return;
     }
     match *outcome {

@@ -1,6 +1,7 @@
 -- A step of others than the lent cores does the same to the machine with all cores back.
 use Rattle.std.proofs.Common.{◌≡◌, ◌≢◌, ℕ, zero, suc, ◌<◌, ◌≤◌, Bool, List, [], ◌∷◌, length, Option, Some, None, ◌⊎◌, inl, inr, refl, sym, ap, ap₂, ◌∙◌, arith}
-use Rattle.std.proofs.lemmas.Bool.{cases_eq, cases_lt}
+use Rattle.std.proofs.Common.{eq-eqb}
+use Rattle.std.proofs.lemmas.Bool.{cases_eq, cases_lt, true≢false}
 use mathlib.Core.Path.{fun_ext}
 use Rattle.flat_machine.specs.declared.config.Config.{Config}
 use Rattle.flat_machine.specs.declared.event.Event.{Event}
@@ -154,8 +155,8 @@ shown_alike lent shown shown' same (suc n) = at (lent_at lent n) refl (shown_ali
 
 -- A step of others shows no event of p.
 shown_so : (p : ℕ) (shown : ℕ → List Event) (s : Step) (o : Outcome) → IsOfOthers p s → with_shown shown s o p ≡ shown p
-shown_so p shown (step.Turn q) (Retired r) apart = put_other shown q _ p (λ e. apart (sym e))
-shown_so p shown (step.Turn q) (Stopped cause) apart = put_other shown q _ p (λ e. apart (sym e))
+shown_so p shown (step.Turn q) (Retired r) apart = put_other shown q _ p (λ e. true≢false (sym (eq-eqb q p (sym e)) ∙ apart.0))
+shown_so p shown (step.Turn q) (Stopped cause) apart = put_other shown q _ p (λ e. true≢false (sym (eq-eqb q p (sym e)) ∙ apart.0))
 shown_so p shown (step.Turn q) Issued apart = refl
 shown_so p shown (step.Turn q) Moved apart = refl
 shown_so p shown (step.Turn q) (Combined first second) apart = refl
@@ -166,7 +167,7 @@ shown_so p shown (step.Turn q) Stalled apart = refl
 shown_so p shown (step.Up t w) o apart = refl
 shown_so p shown (step.Serve m) o apart = refl
 shown_so p shown (step.Down t w) o apart = refl
-shown_so p shown (step.Poke poke) o apart = absurd apart
+shown_so p shown (step.Poke poke) o apart = absurd (true≢false apart.1)
 
 module _ (laws : OthersDoNotNotice) (c : Config) (code : List ℕ) (net net' : Net) (ports ports' : List PortState) (modules modules' : List (List ℕ))
     (lent : List (Option Lent)) (same : length lent ≡ length ports) (same' : length lent ≡ length ports') (s : Step) (o : Outcome)

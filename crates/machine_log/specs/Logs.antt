@@ -1,10 +1,8 @@
 -- A machine with the log of its steps.
-use Rattle.std.specs.Prelude.{◌≡◌, ℕ, ◌+◌, ◌-◌, ◌≤◌, ◌^◌, min, Bool, true, ◌&&◌, nat_lt, All, List, [], ◌∷◌, ◌++◌}
-use Rattle.std.specs.Prelude.{length, map, if◌then◌else◌}
+use Rattle.std.specs.Prelude.{◌≡◌, ℕ, ◌+◌, ◌-◌, ◌≤◌, min, true, All, List, [], ◌∷◌, ◌++◌, length, map, if◌then◌else◌}
 use Rattle.flat_machine.specs.declared.config.Config.{Config}
 use Rattle.flat_machine.specs.declared.event.Event.{Event}
 use Rattle.flat_machine.specs.declared.poke.Poke.{Poke}
-use Rattle.flat_machine.specs.declared.poke.Poke.TheVariants as poke
 use Rattle.flat_machine.specs.declared.poke.Entry.TheVariants as entry
 use Rattle.flat_machine.specs.Flat.{flat_run}
 use Rattle.steps.specs.declared.step.Step.{Step}
@@ -39,17 +37,6 @@ places_of capacity steps = min capacity 4194304 - length steps
 -- Each step that was entered took one place, and no other place was lost.
 abbrev pub KeepsCapacity : (old new : ReservedLogModel) → Type 0
 KeepsCapacity old new = length new.log.steps + new.capacity_left ≡ length old.log.steps + old.capacity_left
-
--- whether a machine of this size has the numbers that a step names: a processor, module or wire below 2 ^ k, a stage
--- below k
-abbrev pub is_named : Config → Step → Bool
-is_named c (step.Turn p) = nat_lt p (2 ^ c.k)
-is_named c (step.Up s w) = nat_lt s c.k && nat_lt w (2 ^ c.k)
-is_named c (step.Serve m) = nat_lt m (2 ^ c.k)
-is_named c (step.Down s w) = nat_lt s c.k && nat_lt w (2 ^ c.k)
-is_named c (step.Poke (poke.Register p register value)) = nat_lt p (2 ^ c.k)
-is_named c (step.Poke (poke.Local p address value)) = nat_lt p (2 ^ c.k)
-is_named c (step.Poke (poke.Shared address value)) = true
 
 -- the steps after a step is entered, unless it stalled
 abbrev pub entered : List Step → Step → Outcome → List Step

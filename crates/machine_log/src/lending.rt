@@ -7,7 +7,8 @@ ghost use Rattle.machine_theory.specs.Processors.{port_at};
 ghost use Rattle.machine_theory.specs.Steps.{outcome_of};
 ghost use Rattle.machine_steps.specs.Machines.{is_free, machine_of, without_core_at};
 ghost use Rattle.machine_steps.specs.Runs.{answer_after, IsReplay};
-ghost use Rattle.machine_log.specs.Logs.{HasTaken, IsWellFormed, is_named};
+ghost use Rattle.steps.specs.Kinds.{is_within};
+ghost use Rattle.machine_log.specs.Logs.{HasTaken, IsWellFormed};
 ghost use Rattle.machine_theory.specs.Loans.{turns_of};
 ghost use Rattle.hart.specs.LocalRuns.{TakesLocal};
 ghost use Rattle.std.specs.Vec.{vec_capacity};
@@ -16,7 +17,7 @@ ghost use Rattle.machine_log.specs.declared.lent.Lent.{Lent};
 
 use crate::entering::enter;
 use crate::lent::Lent;
-use crate::log::{Logged, names};
+use crate::log::Logged;
 use crate::refusal::LockRefusal;
 use flat_machine::{Retired, Status};
 use hart::Core;
@@ -116,9 +117,9 @@ impl Lending {
 
     /// Whether the machine has each place that the step names.
     pub fn names(&self, step: &Step) -> bool
-        ensures { result ≡ is_named self.now.log.machine.config step.now }
+        ensures { result ≡ is_within self.now.log.machine.config.k step.now }
     {
-        names(self.machine.config(), step)
+        step.is_within(self.machine.config().k)
     }
 
     /// Whether the log has [`MAX_STEPS`] steps, with those that are promised to loans.

@@ -25,7 +25,7 @@ mod reserved;
 pub use entering::enter;
 pub use lending::Lending;
 pub use lent::Lent;
-pub use log::{Logged, names};
+pub use log::Logged;
 pub use refusal::LockRefusal;
 pub use replaying::{StalledStep, replay, replay_observed};
 pub use reserved::ReservedLog;

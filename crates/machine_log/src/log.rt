@@ -3,18 +3,18 @@
 ghost use Rattle.std.specs.Prelude.{◌≡◌, ◌≤◌, ◌<◌, ◌+◌, ◌*◌, ◌^◌, ◌↔◌, ◌++◌, [], length, nat_lt, true, false, Err};
 ghost use Rattle.std.specs.Prelude.{IfOk, OnOk, OnErr};
 ghost use Rattle.std.specs.Borrow.{sem};
-ghost use Rattle.flat_machine.specs.Limits.{IsWithinLimits};
 ghost use Rattle.machine_steps.specs.Machines.{AreHome, IsIdle};
 ghost use Rattle.machine_steps.specs.Draining.{drain_bound, drain_steps, IsDrained};
 ghost use Rattle.machine_steps.specs.Runs.{answer_after, IsReplay, IsSerialized};
 ghost use Rattle.machine_steps.specs.Whole.{one_steps, IsOne, IsPoked};
-ghost use Rattle.machine_log.specs.Logs.{is_named, opened, AreLawful, HasPoked, HasTaken, IsWellFormed, IsLonger};
+ghost use Rattle.steps.specs.Kinds.{is_within};
+ghost use Rattle.machine_log.specs.Logs.{opened, AreLawful, HasPoked, HasTaken, IsWellFormed, IsLonger};
 ghost use Rattle.machine_log.specs.Lending.{LendsRoom};
 
 use crate::laws;
 use crate::refusal::LockRefusal;
 use crate::reserved::ReservedLog;
-use flat_machine::{Config, Poke};
+use flat_machine::Poke;
 use machine_steps::Machine;
 use std::alloc::Global;
 use std::marker::Model;
@@ -90,9 +90,9 @@ impl Logged {
 
     /// Whether the machine has each place that the step names.
     pub fn names(&self, step: &Step) -> bool
-        ensures { result ≡ is_named self.now.machine.config step.now }
+        ensures { result ≡ is_within self.now.machine.config.k step.now }
     {
-        names(self.machine().config(), step)
+        step.is_within(self.machine().config().k)
     }
 
     /// Takes a step, and enters it unless it stalls.
@@ -107,10 +107,10 @@ impl Logged {
         ensures answer { IfOk result (λ o. o ≡ answer_after self.old.opening self.old.steps step) }
         ensures poked { IfOk result (λ o. IsIdle self.old.machine → (poke : Poke) → step ≡ Step.Poke poke →
             IsPoked self.old.machine poke o self.new.machine) }
-        ensures unnamed { (result ≡ Err LockRefusal.Unnamed) ↔ (is_named self.old.machine.config step ≡ false) }
+        ensures unnamed { (result ≡ Err LockRefusal.Unnamed) ↔ (is_within self.old.machine.config.k step ≡ false) }
         ensures not_free { result ≡ Err LockRefusal.NotFree → ⊥ }
         ensures full { (result ≡ Err LockRefusal.Full)
-            ↔ ((is_named self.old.machine.config step ≡ true) × (4194304 ≤ length self.old.steps)) }
+            ↔ ((is_within self.old.machine.config.k step ≡ true) × (4194304 ≤ length self.old.steps)) }
         ensures refused { OnErr result (self.new ≡ self.old) }
     {
         if !self.names(&step) {
@@ -212,24 +212,6 @@ impl Logged {
         self.log.make_room(count)?;
         self.log.pokes(pokes);
         Ok(())
-    }
-}
-
-/// Whether a machine of this size has each place that the step names.
-pub fn names(config: Config, step: &Step) -> bool
-    requires { IsWithinLimits config }
-    ensures { result ≡ is_named config step.now }
-{
-    let processors = config.processors();
-    match *step {
-        Step::Turn(place) | Step::Serve(place) => place < processors,
-        Step::Up { stage, wire } | Step::Down { stage, wire } => {
-            stage < config.k && wire < processors
-        }
-        Step::Poke(Poke::Register { processor, .. } | Poke::Local { processor, .. }) => {
-            processor < processors
-        }
-        Step::Poke(Poke::Shared { .. }) => true,
     }
 }
 

@@ -36,5 +36,6 @@ pub use Rattle.machine_steps.proofs.Answering.{answers_begin, answers_counted, a
 -- Lemmas of lower crates, passed on to those above.
 pub use Rattle.machine_ports.proofs.Lemmas as machine_ports
 pub use Rattle.messages.proofs.Lemmas as messages
+pub use Rattle.steps.proofs.Lemmas as steps
 pub use Rattle.machine_theory.proofs.Lemmas.serialization as serialization
 pub use Rattle.machine_theory.proofs.Lemmas as machine_theory

@@ -1,5 +1,7 @@
 -- Lists of steps of others, and a whole loan.
 use Rattle.std.proofs.Common.{◌≡◌, ◌≢◌, ℕ, ◌^◌, ◌<◌, false, List, [], ◌∷◌, ◌++◌, length, refl, sym, ap, ap₂, ◌∙◌, subst}
+use Rattle.std.proofs.Common.{eq-eqb}
+use Rattle.std.proofs.lemmas.Bool.{true≢false}
 use Rattle.machine_ports.specs.flat_machine.declared.config.Config.{Config}
 use Rattle.machine_ports.specs.flat_machine.declared.event.Retired as retirement
 use Rattle.machine_ports.specs.flat_machine.State.{Processor}
@@ -21,11 +23,11 @@ use Rattle.machine_theory.proofs.CatchingUp.{catch_up}
 
 module _ (c : Config) (code : List ℕ) (p : ℕ) where
   others_named : (s : Step) → IsOfOthers p s → IsAnothers p (named s)
-  others_named (step.Turn q) apart = apart
+  others_named (step.Turn q) other = λ same. true≢false (sym (eq-eqb q p same) ∙ other.0)
   others_named (step.Up s w) other = tt
   others_named (step.Serve m) other = tt
   others_named (step.Down s w) other = tt
-  others_named (step.Poke poke) other = absurd other
+  others_named (step.Poke poke) other = absurd (true≢false other.1)
 
   -- ---- one step
 

@@ -1,5 +1,5 @@
 -- A machine while the core of one of its processors is away.
-use Rattle.std.specs.Prelude.{◌≢◌, ℕ, List, [], ◌∷◌, ◌++◌, map, replicate}
+use Rattle.std.specs.Prelude.{◌≡◌, ℕ, false, List, [], ◌∷◌, ◌++◌, map, replicate}
 use Rattle.machine_ports.specs.flat_machine.declared.config.Config.{Config}
 use Rattle.machine_ports.specs.flat_machine.declared.event.Event.TheVariants as event
 use Rattle.machine_ports.specs.flat_machine.declared.event.Retired as retirement
@@ -10,6 +10,7 @@ use Rattle.machine_theory.specs.Processors.{ObservedCore, program, sizes_of}
 use Rattle.machine_theory.specs.Steps.{named, outcome_of, after}
 use Rattle.steps.specs.declared.step.Step.{Step}
 use Rattle.steps.specs.declared.step.Step.TheVariants as step
+use Rattle.steps.specs.Kinds.{is_poke, is_turn_of}
 use Rattle.steps.specs.declared.step.Outcome.{Outcome}
 use Rattle.steps.specs.declared.step.Outcome.TheVariants as outcome
 
@@ -28,11 +29,7 @@ gone_on g taken state = record { state = state; events = g.events ++ map event.R
 
 -- The step is neither a turn of processor p nor a write from outside.
 abbrev pub IsOfOthers : (p : ℕ) → Step → Type 0
-IsOfOthers p (step.Turn q) = q ≢ p
-IsOfOthers p (step.Up s w) = Unit {0}
-IsOfOthers p (step.Serve m) = Unit {0}
-IsOfOthers p (step.Down s w) = Unit {0}
-IsOfOthers p (step.Poke poke) = ⊥
+IsOfOthers p s = (is_turn_of p s ≡ false) × (is_poke s ≡ false)
 
 -- All steps of the list are of others than p.
 abbrev pub AreOfOthers : (p : ℕ) → List Step → Type 0

@@ -19,7 +19,9 @@ use Rattle.console_monitor.specs.declared.monitor.End.{End}
 use Rattle.machine_log.specs.declared.refusal.LockRefusal.{LockRefusal}
 use Rattle.machine_log.specs.declared.refusal.LockRefusal.TheVariants.{Unnamed}
 use Rattle.machine_lock.specs.declared.row.PassEvent.{PassEvent}
-use Rattle.machine_lock.specs.Lists.{given_to, shown_at, is_turn_of, is_of_network, is_net, is_stop}
+use Rattle.steps.specs.Kinds.{is_network, is_within}
+use Rattle.steps.proofs.Lemmas.{network_no_turn}
+use Rattle.machine_lock.specs.Lists.{given_to, shown_at, is_net, is_stop}
 use Rattle.machine_lock.specs.declared.locked_state.Round.{Round}
 use Rattle.machine_lock.specs.declared.locked_state.Rounds.{Rounds}
 use Rattle.machine_lock.specs.declared.row.PassState.{PassState}
@@ -171,19 +173,12 @@ module _ (opening : MachineLists) (old new : Moment) (loan gone : LoanState) (en
 
 -- ---- steps of the network
 
-no_turn : (p : ℕ) (s : Step) → is_of_network s ≡ true → is_turn_of p s ≡ false
-no_turn p (step.Turn q) e = absurd (cc)
-no_turn p (step.Up s w) e = refl
-no_turn p (step.Serve m) e = refl
-no_turn p (step.Down s w) e = refl
-no_turn p (step.Poke poke) e = absurd (cc)
-
-of_network : (c : Config) (s : Step) → (is_net c s ≡ false → ⊥) → is_of_network s ≡ true
-of_network c (step.Turn q) e = absurd (e refl)
-of_network c (step.Up s w) e = refl
-of_network c (step.Serve m) e = refl
-of_network c (step.Down s w) e = refl
-of_network c (step.Poke poke) e = absurd (e refl)
+of_network : (c : Config) (s : Step) → (is_net c s ≡ false → ⊥) → is_network s ≡ true
+of_network c s = by (is_network s) (is_within c.k s)
+  where
+    by : (net within : Bool) → ((if net then within else false) ≡ false → ⊥) → net ≡ true
+    by true within e = refl
+    by false within e = absurd (e refl)
 
 -- A step of the network gives the console nothing.
 pub netted : (opening : MachineLists) (old new : Moment) (s : Step) (o : Outcome) → (is_net opening.config s ≡ false → ⊥) → HasAnswered opening old s o new →
@@ -191,7 +186,7 @@ pub netted : (opening : MachineLists) (old new : Moment) (s : Step) (o : Outcome
 netted opening old new s o net t =
     ap console_of t.pass
     ∙ ap (λ ns. console_bytes (events (old.pass.row.pass_events ++ ns)))
-    (ap (λ (b : Bool). if b then shown_at (length old.log) o else []) (no_turn old.pass.processor s (of_network opening.config s net)))
+    (ap (λ (b : Bool). if b then shown_at (length old.log) o else []) (network_no_turn old.pass.processor s (of_network opening.config s net)))
     ∙ ap (λ ns. console_bytes (events ns)) (append-nil old.pass.row.pass_events)
 
 -- ---- a turn, and then a step of the network

@@ -1,6 +1,5 @@
 pub mod Running
 pub mod OneRun
 pub mod Consoles
-pub mod Records
 pub mod Logging
 pub mod Sizes

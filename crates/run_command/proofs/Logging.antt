@@ -14,7 +14,7 @@ use Rattle.trace_commands.proofs.Lemmas.{is_spelled}
 use Rattle.command_io.specs.Links.{Input}
 use Rattle.run_command.specs.Faults.{IsOfRun}
 use Rattle.run_command.specs.ThreadRuns.{HasBegun, HasEnded, IsNotThreaded, IsThreaded, ThreadedRun, threaded_run}
-use Rattle.run_command.proofs.Records.{have_records}
+use Rattle.schedules.proofs.Lemmas.trace_file.{have_records}
 
 module _ (run : ThreadedRun) (image : ImageContents) (log : Log) (consoles : List (List ℕ)) (is : IsThreaded run image log consoles) where
   -- The opening of the log of a run on threads is a machine that opens on the image.
@@ -37,7 +37,7 @@ threaded_is c file image meant opening opens log consoles ended =
       trace =
           is_spelled c log.steps limits ended.kept.room
           (subst (λ (d : Config). HaveRecords d.k log.steps) opening_config
-          (have_records log.opening.config log.steps ended.no_pokes ended.named));
+          (have_records log.opening.config.k log.steps ended.no_pokes ended.named));
     }
 
 -- If a run ends with a fault, there is no run, for the same fault.

@@ -11,7 +11,7 @@ use Rattle.schedules.specs.trace_file.Traces.{IsTrace, trace_of}
 use Rattle.machine_steps.specs.Machines.{MachineLists, IsIdle}
 use Rattle.machine_steps.specs.Runs.{IsOpening}
 use Rattle.machine_log.specs.Logs.{Log, IsWellFormed}
-use Rattle.machine_lock.specs.Lists.{all_named, no_poke}
+use Rattle.machine_steps.specs.steps.Kinds.{all_within, no_poke}
 use Rattle.command_io.specs.declared.fault.Fault.{Fault}
 use Rattle.command_io.specs.declared.fault.Fault.TheVariants as fault
 use Rattle.command_io.specs.Links.{Input}
@@ -31,7 +31,7 @@ pub record HasEnded (opening : MachineLists) (log : Log) (consoles : List (List 
   pub opening_is : log.opening ≡ opening
   pub kept : IsWellFormed log
   pub no_pokes : no_poke log.steps ≡ true
-  pub named : all_named log.opening.config log.steps ≡ true
+  pub named : all_within log.opening.config.k log.steps ≡ true
   pub stopped : (p : ℕ) → p < 2 ^ log.opening.config.k → EndInStop (events_in log.opening log.steps p)
   pub idle : IsIdle log.machine
   pub heard : AreConsoles log.opening log.steps consoles

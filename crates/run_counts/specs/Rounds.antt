@@ -1,19 +1,16 @@
 -- The fewest rounds of the sweep that take steps in their order.
-use Rattle.std.specs.Prelude.{◌≡◌, ℕ, ◌+◌, ◌≤◌, Bool, true, false, ◌==◌, ◌||◌, ◌&&◌, IsTrue}
+use Rattle.std.specs.Prelude.{◌≡◌, ℕ, ◌+◌, ◌≤◌, Bool, true, false, not, ◌==◌, ◌||◌, ◌&&◌, IsTrue}
 use Rattle.std.specs.Prelude.{List, [], ◌∷◌, ◌++◌, Option, Some, None, filter, length, nat_lt, if◌then◌else◌}
 use Rattle.steps.specs.declared.step.Step.{Step}
 use Rattle.steps.specs.declared.step.Step.TheVariants as step
+use Rattle.steps.specs.Kinds.{is_poke}
 use Rattle.run_counts.specs.declared.rounds.Begun.{Begun}
 
 -- ---- the order of a round
 
 -- whether a round asks for the step at all: it asks for any but a write from outside
 abbrev pub is_asked : Step → Bool
-is_asked (step.Turn p) = true
-is_asked (step.Up s w) = true
-is_asked (step.Serve m) = true
-is_asked (step.Down s w) = true
-is_asked (step.Poke q) = false
+is_asked s = not (is_poke s)
 
 -- The turns come first, by processor;
 abbrev pub before_turn : (processor : ℕ) → Step → Bool

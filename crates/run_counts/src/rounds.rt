@@ -3,7 +3,7 @@
 ghost use Rattle.std.specs.Prelude.{◌≡◌, ◌+◌, ◌<◌, ◌^◌};
 ghost use Rattle.run_counts.specs.Rounds.{IsFewest, before_down, before_serve, before_turn, before_up, begun_at};
 ghost use Rattle.run_counts.specs.Rounds.{comes_before};
-ghost use Rattle.run_counts.specs.Rounds.{goes_on, is_asked};
+ghost use Rattle.run_counts.specs.Rounds.{goes_on};
 
 use steps::Step;
 
@@ -36,7 +36,7 @@ fn after(begun: Begun, step: &Step) -> Begun
     requires { begun.count + 1 < 2 ^ 64 }
     ensures { result ≡ begun_at begun step.now }
 {
-    if !is_asked(step) {
+    if step.is_poke() {
         return begun;
     }
     let count = if goes_on(&begun.last, step) {
@@ -47,16 +47,6 @@ fn after(begun: Begun, step: &Step) -> Begun
     Begun {
         count,
         last: Some(*step),
-    }
-}
-
-/// Whether a round asks for the step at all.
-fn is_asked(step: &Step) -> bool
-    ensures { result ≡ is_asked step.now }
-{
-    match *step {
-        Step::Turn(_) | Step::Up { .. } | Step::Serve(_) | Step::Down { .. } => true,
-        Step::Poke(_) => false,
     }
 }
 

@@ -1,6 +1,6 @@
 -- Two logs of one image enter the same steps if one is asked for the steps of the other and more, and the other has ended
 -- there.
-use Rattle.std.proofs.Common.{◌≡◌, ℕ, ◌^◌, ◌<◌, ◌≤◌, ◌⊎◌, inl, inr, List, [], ◌∷◌, ◌++◌, length, take, refl, sym, ap, ap₂, ◌∙◌, subst, arith}
+use Rattle.std.proofs.Common.{◌≡◌, ℕ, ◌^◌, ◌<◌, ◌≤◌, ◌⊎◌, inl, inr, true, List, [], ◌∷◌, ◌++◌, length, take, refl, sym, ap, ap₂, ◌∙◌, subst, arith}
 use Rattle.std.proofs.lemmas.Bool.{cases_lt}
 use Rattle.std.proofs.lemmas.List.{append-nil, length-append, take_at}
 use Rattle.flat_machine.specs.declared.config.Config.{Config}
@@ -12,16 +12,17 @@ use Rattle.machine_steps.specs.Machines.{MachineLists, machine_of}
 use Rattle.machine_steps.specs.Runs.{IsOpening, IsReplay, all_after, answer_after}
 use Rattle.machine_steps.proofs.Lemmas.{drained_alike, same_code, same_config, same_machine}
 use Rattle.machine_log.specs.Logs.{Log, entered}
-use Rattle.schedules.specs.Own.{AreOwn}
+use Rattle.steps.specs.Kinds.{no_poke}
+use Rattle.steps.proofs.Lemmas.{no_poke_rest}
 use Rattle.schedules.specs.Sweeps.{IsFault, IsOver, RunsAfter, entered_of, status_after}
 use Rattle.schedules.proofs.Asking.{asked_append, none_asked}
-use Rattle.schedules.proofs.Own.{own_after, own_entered}
+use Rattle.schedules.proofs.NoPoke.{no_poke_entered}
 
 -- If no more steps are entered than there were, the steps are those that there were.
-no_longer : (m : MachineLists) (done asked : List Step) → AreOwn asked → length (entered_of m done asked) ≤ length done → entered_of m done asked ≡ done
-no_longer m done asked own short = by (own_entered m done asked own)
+no_longer : (m : MachineLists) (done asked : List Step) → no_poke asked ≡ true → length (entered_of m done asked) ≤ length done → entered_of m done asked ≡ done
+no_longer m done asked own short = by (no_poke_entered m done asked own)
   where
-    by : (rest : List Step) × AreOwn rest × (entered_of m done asked ≡ done ++ rest) → entered_of m done asked ≡ done
+    by : (rest : List Step) × (no_poke rest ≡ true) × (entered_of m done asked ≡ done ++ rest) → entered_of m done asked ≡ done
     by ([], o, is) = is ∙ append-nil done
     by (x ∷ rest, o, is) = absurd (let count = ap length is in let more = length-append done (x ∷ rest) in omega (arith, count, more, short))
 
@@ -54,7 +55,7 @@ pub record WasAskedFor (c : Config) (image : ImageContents) (limit : ℕ) (asked
   -- Its machine opened on the image.
   pub opens : IsOpening c image log.opening
   -- The steps that were asked for write nothing from outside.
-  pub own : AreOwn asked
+  pub own : no_poke asked ≡ true
   -- The steps of the middle log are what is entered of them.
   pub steps : middle.steps ≡ entered_of log.opening [] asked
   -- The middle log's machine is what its steps make of the opening.
@@ -93,13 +94,13 @@ module _ {c : Config} {image : ImageContents} {limit : ℕ} {xs ys : List Step} 
           ∙ asked_append a.opening [] xs rest
           ∙ ap (λ done. entered_of a.opening done rest) (sym one.steps)
 
-      own : AreOwn rest
-      own = own_after xs rest (subst AreOwn is two.own)
+      own : no_poke rest ≡ true
+      own = no_poke_rest xs rest (subst (λ xs. no_poke xs ≡ true) is two.own)
 
       -- The second log begins with what the first entered.
       begins : take (length first.steps) second.steps ≡ first.steps
       begins =
-          let e = own_entered a.opening first.steps rest own in
+          let e = no_poke_entered a.opening first.steps rest own in
           ap (take (length first.steps)) (there ∙ e.2) ∙ take_at first.steps e.0 (length first.steps) refl
 
       short : HasEnded limit a.opening first.steps rest → (length first.steps < length second.steps) ⊎ (length second.steps ≤ length first.steps) →

@@ -1,7 +1,8 @@
 -- The step at each place of the list of choices.
 use Rattle.std.proofs.Common.{◌≡◌, ℕ, zero, suc, ◌+◌, ◌-◌, ◌*◌, ◌<◌, ◌≤◌, ◌⊎◌, inl, inr, ⊎_elim, List, [], ◌∷◌, ◌++◌}
-use Rattle.std.proofs.Common.{length, Some, refl, sym, ap, ap₂, ◌∙◌, arith, add-zero, zero-add, length-append}
-use Rattle.std.specs.Prelude.{◌^◌, ◌/◌, ◌%◌, slice_get}
+use Rattle.std.proofs.Common.{length, Some, refl, sym, ap, ap₂, ◌∙◌, subst, arith, add-zero, zero-add, length-append}
+use Rattle.std.specs.Prelude.{◌^◌, ◌/◌, ◌%◌, ◌&&◌, nat_lt, slice_get, true}
+use Rattle.std.proofs.lemmas.Bool.{and_from, and_parts, lt-ltb, ltb-true, true≢false}
 use Rattle.std.specs.Option.{option_map}
 use Rattle.std.specs.List.{range_with_len}
 use mathlib.Core.Logic.{dite}
@@ -124,6 +125,9 @@ module _ (k : ℕ) where
 
   -- ---- the laws
 
+  inside : (stage wire : ℕ) → stage < k → wire < 2 ^ k → (nat_lt stage k && nat_lt wire (2 ^ k)) ≡ true
+  inside stage wire less within = and_from (nat_lt stage k) (nat_lt wire (2 ^ k)) (lt-ltb stage k less) (lt-ltb wire (2 ^ k) within)
+
   -- Each step of the list moves a message of the network, or is a service by one of its modules.
   pub are_named : (place : ℕ) (s : Step) → slice_get (choices k) place ≡ Some s → IsOfNetwork k s
   unfolding choices
@@ -131,22 +135,29 @@ module _ (k : ℕ) where
       let ups = by_stage k k Up in let serves = by_wire k Serve in let downs = by_stage k k Down in
       ⊎_elim
       (λ (f : slice_get (ups ++ serves) place ≡ Some s). ⊎_elim
-      (λ (g : slice_get ups place ≡ Some s). let (row, wire, less, within, is) = stage_there k Up place s g in rw (sym is) (less, within))
-      (λ (g : (j : ℕ) × (slice_get serves j ≡ Some s)). let t = wire_there Serve g.0 s g.1 in rw (sym t.1) t.0)
+      (λ (g : slice_get ups place ≡ Some s). let (row, wire, less, within, is) = stage_there k Up place s g in
+      subst (IsOfNetwork k) is (refl, inside row wire less within))
+      (λ (g : (j : ℕ) × (slice_get serves j ≡ Some s)). let t = wire_there Serve g.0 s g.1 in subst (IsOfNetwork k) t.1 (refl, lt-ltb g.0 (2 ^ k) t.0))
       (either_part ups serves place s f))
-      (λ (f : (j : ℕ) × (slice_get downs j ≡ Some s)). let (row, wire, less, within, is) = stage_there k Down f.0 s f.1 in rw (sym is) (less, within))
+      (λ (f : (j : ℕ) × (slice_get downs j ≡ Some s)). let (row, wire, less, within, is) = stage_there k Down f.0 s f.1 in
+      subst (IsOfNetwork k) is (refl, inside row wire less within))
       (either_part (ups ++ serves) downs place s e)
+
+  both : (stage wire : ℕ) → (nat_lt stage k && nat_lt wire (2 ^ k)) ≡ true → (stage < k) × (wire < 2 ^ k)
+  both stage wire within =
+      let parts = and_parts (nat_lt stage k) (nat_lt wire (2 ^ k)) within in (ltb-true stage k parts.0, ltb-true wire (2 ^ k) parts.1)
 
   -- Each step that moves a message of the network, and each service by a module, is in the list.
   pub are_all : (s : Step) → IsOfNetwork k s → (place : ℕ) × (slice_get (choices k) place ≡ Some s)
-  are_all (Up stage wire) h = (stage * 2 ^ k + wire, up_at stage wire h.0 h.1)
-  are_all (Serve wire) h = (k * 2 ^ k + wire, serve_at k wire refl h)
-  are_all (Down stage wire) h =
+  are_all (Up stage wire) (net, within) = let h = both stage wire within in (stage * 2 ^ k + wire, up_at stage wire h.0 h.1)
+  are_all (Serve wire) (net, within) = (k * 2 ^ k + wire, serve_at k wire refl (ltb-true wire (2 ^ k) within))
+  are_all (Down stage wire) (net, within) =
+      let h = both stage wire within in
       let h0 = h.0 in
       let same : k + 1 + stage - (k + 1) ≡ stage = omega arith in
       ((k + 1 + stage) * 2 ^ k + wire, down_at (k + 1 + stage) wire (omega arith) (omega arith) h.1 ∙ ap (λ s. Some (Down s wire)) same)
-  are_all (Turn p) h = absurd h
-  are_all (Poke poke) h = absurd h
+  are_all (Turn p) (net, within) = absurd (true≢false (sym net))
+  are_all (Poke poke) (net, within) = absurd (true≢false (sym net))
 
 -- A number modulo the list's length is a place of the list.
 pub in_the_list : (k j x : ℕ) → j ≡ k → k ≤ 6 → x % (2 * j * (1 * 2 ^ k % 4294967296) + 1 * 2 ^ k % 4294967296) < 2 * k * 2 ^ k + 2 ^ k

@@ -19,7 +19,7 @@ use Rattle.machine_log.specs.Logs.{entered}
 use Rattle.machine_log.proofs.Lemmas.{entered_moving}
 use Rattle.machine_steps.specs.Standing.{HasRunning, processor_of}
 use Rattle.schedules.specs.Sweeps.{EndsInFault, IsFault, IsOver, IsStop, RunsAfter, status_after}
-use Rattle.schedules.proofs.Own.{IsOwn}
+use Rattle.steps.specs.Kinds.{is_poke}
 use Rattle.schedules.proofs.Statuses.{statuses_kept}
 
 -- ---- lists
@@ -61,7 +61,7 @@ module _ (opening m : MachineLists) (steps : List Step) (r : IsReplay opening st
 -- ---- one more step
 
 -- If a processor runs, a step that stops none leaves one running.
-pub runs_on : (m : MachineLists) (done : List Step) (s : Step) → IsOwn s → (IsStop (answer_after m done s) → ⊥) → RunsAfter m done →
+pub runs_on : (m : MachineLists) (done : List Step) (s : Step) → is_poke s ≡ false → (IsStop (answer_after m done s) → ⊥) → RunsAfter m done →
     RunsAfter m (entered done s (answer_after m done s))
 runs_on m done s own plain (p, within, runs) = by (is_stalled (answer_after m done s))
   where

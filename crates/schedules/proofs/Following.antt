@@ -9,7 +9,7 @@ use Rattle.machine_steps.specs.Standing.{HasRunning}
 use Rattle.schedules.specs.Sweeps.{EndsInFault, IsUnderWay, HasFollowed, IsFault, IsOver, RunsAfter, WasAskedRound, entered_of, rounds}
 use Rattle.schedules.specs.declared.sweeping.SweepEnd.TheVariants.{Over, Budget}
 use Rattle.schedules.proofs.Asking.{none_asked, round_more, rounds_more}
-use Rattle.schedules.proofs.Own.{own_asked, own_entered}
+use Rattle.schedules.proofs.NoPoke.{no_poke_asked, no_poke_entered}
 use Rattle.schedules.proofs.Ending.{IsFirst, IsUnder, first_begins, first_joined, has_running, none_faulted, not_over, over_sooner, runs_after}
 
 -- The log has followed the sweep so far, and it is not over. If there is room, it continues with a whole round.
@@ -103,7 +103,7 @@ module _ (limit : ℕ) (old l new : Log) (f : IsFollowing limit old l) (size : l
 
   -- The new steps come after the old ones.
   steps_go_on : (rest : List Step) × (new.steps ≡ l.steps ++ rest)
-  steps_go_on = let e = own_entered old.opening l.steps (take r.part (round k)) (own_asked k 0 r.part) in (e.0, part_is ∙ e.2)
+  steps_go_on = let e = no_poke_entered old.opening l.steps (take r.part (round k)) (no_poke_asked k 0 r.part) in (e.0, part_is ∙ e.2)
 
   first_here : IsFirst old.opening (length l.steps) new.steps
   first_here = subst (λ m. IsFirst m (length l.steps) new.steps) f.opening r.first

@@ -13,7 +13,8 @@ use Rattle.machine_steps.specs.Standing.{HasRunning}
 use Rattle.schedules.specs.Sweeps.{HasGone, IsFault, IsInRound, IsStop, WasAskedRound, entered_of}
 use Rattle.schedules.proofs.Asking.{at_most_one, longer, none_asked, one_asked}
 use Rattle.schedules.proofs.Ending.{IsUnder, first_begins, none_faulted, runs_after}
-use Rattle.schedules.proofs.Own.{IsOwn, step_of_round}
+use Rattle.steps.specs.Kinds.{is_poke}
+use Rattle.schedules.proofs.NoPoke.{step_of_round}
 use Rattle.schedules.proofs.RoundEnds.{full_round, round_over, step_first, step_over, step_under, whole_round}
 use Rattle.std.proofs.Math.Nat.{mul-le-mul_right}
 use Rattle.schedules.proofs.Places.{round_length}
@@ -30,7 +31,7 @@ size_of limit start i l b = ap (λ (d : Config). d.k) b.config
 
 module _ (limit : ℕ) (start l new : Log) (i j : ℕ) (s : Step) (o : Outcome) (b : IsInRound limit start i l) (n : IsNext l.machine i s j)
     (taken : HasTaken l s o new) (replayed : IsReplay new.opening new.steps new.machine) (inside : length l.steps < limit) where
-  own : IsOwn s
+  own : is_poke s ≡ false
   own = step_of_round l.machine.config.k n.place s n.there
 
   asked : new.steps ≡ entered_of start.opening start.steps (take j (round start.machine.config.k))

@@ -1,5 +1,5 @@
 pub mod Places
-pub mod Own
+pub mod NoPoke
 pub mod Statuses
 pub mod Asking
 pub mod Progress

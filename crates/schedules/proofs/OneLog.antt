@@ -14,7 +14,7 @@ use Rattle.schedules.specs.Sweeps.{EndsAt, IsWholeRun, entered_of, rounds}
 use Rattle.schedules.specs.declared.sweeping.SweepEnd.{SweepEnd}
 use Rattle.schedules.specs.declared.sweeping.SweepEnd.TheVariants.{Over, Budget}
 use Rattle.schedules.proofs.Alike.{GoesOnFrom, HasEnded, WasAskedFor, goes_on}
-use Rattle.schedules.proofs.Own.{own_asked}
+use Rattle.schedules.proofs.NoPoke.{no_poke_asked}
 
 -- ---- of two sweeps, one continues the other
 
@@ -73,7 +73,7 @@ asked_for c image most e l w =
     let f = w.swept.followed in
     record {
       opens = w.opens;
-      own = own_asked c.k f.whole f.part;
+      own = no_poke_asked c.k f.whole f.part;
       steps = f.steps ∙ ap (λ (d : Config). entered_of l.opening [] (asked d.k f.whole f.part)) w.opens.config;
       replay = subst (λ m. IsReplay m w.swept.middle.steps w.swept.middle.machine) f.opening f.replay;
       few = f.few;

@@ -1,14 +1,15 @@
 -- A trace has a record of each step of a sweep and of its drain.
-use Rattle.std.proofs.Common.{◌≡◌, ℕ, ◌^◌, ◌<◌, true, List, [], ◌∷◌, ◌++◌, take, sym, ap, ap₂, ◌∙◌, subst, append_assoc}
-use Rattle.std.specs.Prelude.{◌&&◌, nat_lt}
-use Rattle.std.proofs.lemmas.Bool.{lt-ltb}
-use Rattle.std.proofs.lemmas.List.Elements.{All-append, All-cons, All-nil}
+use Rattle.std.proofs.Common.{◌≡◌, ℕ, true, List, [], ◌∷◌, ◌++◌, take, refl, sym, ap, ◌∙◌, subst, append_assoc}
+use Rattle.std.proofs.lemmas.Bool.{and_from}
+use Rattle.std.proofs.lemmas.List.Elements.{All-append}
 use Rattle.flat_machine.specs.declared.config.Config.{Config}
 use Rattle.machine_steps.specs.machine_theory.Theory as theory
 use Rattle.steps.specs.declared.step.Step.{Step}
-use Rattle.steps.specs.declared.step.Step.TheVariants as step
+use Rattle.steps.specs.Kinds.{all_within, is_within, no_poke}
+use Rattle.steps.proofs.Lemmas.{no_poke_both, no_poke_parts}
 use Rattle.trace_file.specs.Records.{HasRecord}
 use Rattle.trace_file.specs.Traces.{HaveRecords}
+use Rattle.trace_file.proofs.Lemmas.{have_records}
 use Rattle.machine_steps.specs.machine_theory.Processors.{ObservedCore}
 use Rattle.machine_steps.specs.machine_theory.Steps.{after}
 use Rattle.machine_steps.specs.Draining.{drain_steps}
@@ -18,26 +19,21 @@ use Rattle.machine_log.specs.Logs.{Log}
 use Rattle.schedules.specs.Rounds.{round}
 use Rattle.schedules.specs.Sweeps.{IsSwept, entered_of, rounds}
 use Rattle.schedules.specs.declared.sweeping.SweepEnd.{SweepEnd}
-use Rattle.schedules.proofs.Own.{AreOwn, drain_steps_are_own, own_asked, own_both, own_entered}
-use Rattle.schedules.proofs.Progress.{IsOfRound, of_round}
+use Rattle.schedules.proofs.NoPoke.{no_poke_asked, no_poke_drain, no_poke_entered}
+use Rattle.schedules.proofs.Progress.{moves_within}
 
-both : (a b : ℕ) (n m : ℕ) → a < n → b < m → (nat_lt a n && nat_lt b m) ≡ true
-both a b n m first second = ap₂ (λ x y. x && y) (lt-ltb a n first) (lt-ltb b m second)
-
-of_round_has_record : (k : ℕ) (s : Step) → IsOfRound k s → HasRecord k s
-of_round_has_record k (step.Turn p) within = lt-ltb p (2 ^ k) within
-of_round_has_record k (step.Up s w) within = both s w k (2 ^ k) within.0 within.1
-of_round_has_record k (step.Serve m) within = lt-ltb m (2 ^ k) within
-of_round_has_record k (step.Down s w) within = both s w k (2 ^ k) within.0 within.1
-of_round_has_record k (step.Poke q) within = absurd within
+-- Steps that write nothing from outside, and do something, name places of the machine.
+all_are_within : (c : Config) (code : List ℕ) (M : theory.Machine ObservedCore) (steps : List Step) → no_poke steps ≡ true → NoneStalls c code M steps →
+    all_within c.k steps ≡ true
+all_are_within c code M [] own moves = refl
+all_are_within c code M (s ∷ ss) own moves =
+    let parts = no_poke_parts s ss own in
+    and_from (is_within c.k s) (all_within c.k ss) (moves_within c code M s parts.0 moves.0) (all_are_within c code (after c code M s) ss parts.1 moves.1)
 
 -- A trace has a record of each of these steps, all of which do something and write nothing from outside.
-pub moves_have_records : (c : Config) (code : List ℕ) (M : theory.Machine ObservedCore) (steps : List Step) → AreOwn steps → NoneStalls c code M steps →
+pub moves_have_records : (c : Config) (code : List ℕ) (M : theory.Machine ObservedCore) (steps : List Step) → no_poke steps ≡ true → NoneStalls c code M steps →
     HaveRecords c.k steps
-moves_have_records c code M [] own moves = All-nil (HasRecord c.k)
-moves_have_records c code M (s ∷ ss) own moves =
-    All-cons (HasRecord c.k) s ss (of_round_has_record c.k s (of_round c code M s own.0 moves.0))
-    (moves_have_records c code (after c code M s) ss own.1 moves.1)
+moves_have_records c code M steps own moves = have_records c.k steps own (all_are_within c code M steps own moves)
 
 pub later_moves : (c : Config) (code : List ℕ) (M : theory.Machine ObservedCore) (xs ys : List Step) → NoneStalls c code M (xs ++ ys) →
     NoneStalls c code (all_after c code M xs) ys
@@ -46,15 +42,15 @@ later_moves c code M [] ys moves = moves
 later_moves c code M (x ∷ xs) ys moves = later_moves c code (after c code M x) xs ys moves.1
 
 -- a log that was asked for steps that write nothing from outside, and then drained
-module _ (old middle new : Log) (asked : List Step) (asked_are_own : AreOwn asked) (entered : middle.steps ≡ entered_of old.opening old.steps asked)
+module _ (old middle new : Log) (asked : List Step) (none_pokes : no_poke asked ≡ true) (entered : middle.steps ≡ entered_of old.opening old.steps asked)
     (opening : new.opening ≡ old.opening) (drained : new.steps ≡ middle.steps ++ drain_steps middle.machine)
     (replay : IsReplay new.opening new.steps new.machine) (size : old.machine.config ≡ old.opening.config) where
   -- the steps that the log has in addition
-  more : (rest : List Step) × AreOwn rest × (new.steps ≡ old.steps ++ rest)
+  more : (rest : List Step) × (no_poke rest ≡ true) × (new.steps ≡ old.steps ++ rest)
   more =
-      let e = own_entered old.opening old.steps asked asked_are_own in (
+      let e = no_poke_entered old.opening old.steps asked none_pokes in (
         e.0 ++ drain_steps middle.machine,
-        own_both e.0 (drain_steps middle.machine) e.1 (drain_steps_are_own middle.machine),
+        no_poke_both e.0 (drain_steps middle.machine) e.1 (no_poke_drain middle.machine),
         drained ∙ ap (λ xs. xs ++ drain_steps middle.machine) (entered ∙ e.2) ∙ append_assoc old.steps e.0 (drain_steps middle.machine),
       )
 
@@ -78,5 +74,5 @@ pub swept_has_records : (most : ℕ) (old : Log) (end : SweepEnd) (new : Log) �
 swept_has_records most old end new swept replay size =
     let k = old.machine.config.k in
     let followed = swept.followed in
-    drained_has_records old swept.middle new (rounds k followed.whole ++ take followed.part (round k)) (own_asked k followed.whole followed.part)
+    drained_has_records old swept.middle new (rounds k followed.whole ++ take followed.part (round k)) (no_poke_asked k followed.whole followed.part)
     followed.steps swept.opening swept.steps replay size

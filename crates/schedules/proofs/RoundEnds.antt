@@ -15,11 +15,11 @@ use Rattle.schedules.specs.Sweeps.{EndsInFault, IsFault, IsOver, IsStop, RunsAft
 use Rattle.schedules.proofs.Asking.{each_stalls}
 use Rattle.schedules.proofs.Ending.{IsFirst, IsUnder, ends_in, first_on, has_running, runs_after, runs_on, sound_on}
 use Rattle.schedules.proofs.Progress.{in_round, some_step_moves}
-use Rattle.schedules.proofs.Own.{IsOwn}
+use Rattle.steps.specs.Kinds.{is_poke}
 
 -- ---- a step
 
-module _ (old l new : Log) (s : Step) (o : Outcome) (opens : l.opening ≡ old.opening) (replay : IsReplay l.opening l.steps l.machine) (own : IsOwn s)
+module _ (old l new : Log) (s : Step) (o : Outcome) (opens : l.opening ≡ old.opening) (replay : IsReplay l.opening l.steps l.machine) (own : is_poke s ≡ false)
     (taken : HasTaken l s o new) (under : IsUnder old.opening (length old.steps) l.steps) where
   -- The outcome is the one that the definition gives.
   answer_is : o ≡ answer_after old.opening l.steps s

@@ -1,6 +1,7 @@
 -- A step that stops no processor changes no processor's status.
 use Rattle.std.proofs.Common.{◌≡◌, ℕ, ◌^◌, Bool, true, false, nat_lt, List, [], ◌∷◌, eqb-true, refl, sym, ap, ◌∙◌, subst}
 use Rattle.std.specs.Prelude.{◌%◌, ◌==◌, cond, eqb, Result, Ok, Err, if◌then◌else◌}
+use Rattle.std.proofs.lemmas.Bool.{true≢false}
 use Rattle.flat_machine.specs.rv_table.declared.insn.Insn.{Insn}
 use Rattle.flat_machine.specs.declared.config.Config.{Config}
 use Rattle.flat_machine.specs.declared.effect.Effect.{Effect}
@@ -31,10 +32,10 @@ use Rattle.machine_steps.specs.serialization.Program.{Kind, Rests, Alone, Refers
 use Rattle.steps.specs.declared.step.Outcome.{Outcome}
 use Rattle.steps.specs.declared.step.Step.{Step}
 use Rattle.steps.specs.declared.step.Step.TheVariants as step
+use Rattle.steps.specs.Kinds.{is_poke}
 use Rattle.machine_steps.specs.machine_theory.Processors.{ObservedCore, alone_by, kind_of, next, program, retired_by, setting_of, sizes_of}
 use Rattle.machine_steps.specs.machine_theory.Steps.{after, answer_of, outcome_of, taken, outcome_of_turn}
 use Rattle.schedules.specs.Sweeps.{IsStop}
-use Rattle.schedules.proofs.Own.{IsOwn}
 
 -- ---- a turn
 
@@ -142,15 +143,16 @@ module _ (c : Config) (code : List ℕ) (M : theory.Machine ObservedCore) where
   serves m (x ∷ rest) (y ∷ ys) = λ plain q. refl
   serves m (x ∷ rest) [] = λ plain q. refl
 
-  keeps_all : (s : Step) → IsOwn s → KeepsAll (taken c code M s)
+  keeps_all : (s : Step) → is_poke s ≡ false → KeepsAll (taken c code M s)
   keeps_all (step.Turn p) own = either (nat_lt p (2 ^ c.k)) (turned (program c code) M p (M.is_open p)) (takes p (M.is_open p))
   keeps_all (step.Up s w) own = either (nat_lt w (2 ^ c.k)) (went_up M (moved_up (sizes_of c) M.net s w)) (goes_up (moved_up (sizes_of c) M.net s w))
   keeps_all (step.Serve m) own = either (nat_lt m (2 ^ c.k)) (serve_from (sizes_of c) M m (M.net.requests c.k m) (M.net.replies c.k m))
       (serves m (M.net.requests c.k m) (M.net.replies c.k m))
   keeps_all (step.Down s w) own = either (nat_lt w (2 ^ c.k)) (went_down M (moved_down (sizes_of c) M.net s w)) (goes_down (moved_down (sizes_of c) M.net s w))
-  keeps_all (step.Poke q) own = absurd own
+  keeps_all (step.Poke q) own = absurd (true≢false own)
 
   -- A step that writes nothing from outside and stops no processor changes no processor's status.
-  pub statuses_kept : (s : Step) → IsOwn s → (IsStop (outcome_of c code M s) → ⊥) → (q : ℕ) → ((after c code M s).core q).state.status ≡ (M.core q).state.status
+  pub statuses_kept : (s : Step) → is_poke s ≡ false → (IsStop (outcome_of c code M s) → ⊥) → (q : ℕ) →
+      ((after c code M s).core q).state.status ≡ (M.core q).state.status
   unfolding outcome_of after
   statuses_kept s own plain = keeps_all s own plain

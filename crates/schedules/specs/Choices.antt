@@ -1,9 +1,10 @@
 -- The steps from which an arbiter picks, and the numbers by which it picks.
-use Rattle.std.specs.Prelude.{ℕ, zero, suc, ◌+◌, ◌*◌, ◌/◌, ◌%◌, ◌^◌, ◌<◌, ◌==◌, List, [], ◌++◌, map, bit_xor}
+use Rattle.std.specs.Prelude.{◌≡◌, ℕ, zero, suc, ◌+◌, ◌*◌, ◌/◌, ◌%◌, ◌^◌, ◌==◌, true, List, [], ◌++◌, map, bit_xor}
 use Rattle.std.specs.Prelude.{if◌then◌else◌}
 use Rattle.std.specs.List.{range_with_len}
 use Rattle.steps.specs.declared.step.Step.{Step}
-use Rattle.steps.specs.declared.step.Step.TheVariants.{Turn, Up, Serve, Down, Poke}
+use Rattle.steps.specs.declared.step.Step.TheVariants.{Up, Serve, Down}
+use Rattle.steps.specs.Kinds.{is_network, is_within}
 
 -- ---- the list
 
@@ -22,11 +23,7 @@ choices k = by_stage k k Up ++ by_wire k Serve ++ by_stage k k Down
 
 -- A step moves a message of a network of k stages, or is a service by one of its modules.
 abbrev pub IsOfNetwork : (k : ℕ) → Step → Type 0
-IsOfNetwork k (Up stage wire) = (stage < k) × (wire < 2 ^ k)
-IsOfNetwork k (Serve place) = place < 2 ^ k
-IsOfNetwork k (Down stage wire) = (stage < k) × (wire < 2 ^ k)
-IsOfNetwork k (Turn p) = ⊥
-IsOfNetwork k (Poke poke) = ⊥
+IsOfNetwork k s = (is_network s ≡ true) × (is_within k s ≡ true)
 
 -- ---- the generator, whose states are numbers below 2 ^ 32
 

@@ -1,6 +1,5 @@
 pub mod Rounds
 pub mod Skips
-pub mod Own
 pub mod Sweeps
 pub mod Choices
 -- Words of lower crates, passed on to those above.

@@ -1,13 +1,13 @@
 //! Laws of sweeps and their runs. Each is the contract of a function that does nothing.
 
-ghost use Rattle.std.specs.Prelude.{◌≡◌, ℕ, Some, length, slice_get};
+ghost use Rattle.std.specs.Prelude.{◌≡◌, ℕ, Some, false, length, slice_get, true};
 ghost use Rattle.flat_machine.specs.declared.config.Config.{Config};
 ghost use Rattle.machine_steps.specs.elf_image.Images.{ImageContents};
 ghost use Rattle.steps.specs.declared.step.Step.{Step};
+ghost use Rattle.steps.specs.Kinds.{is_poke, no_poke};
 ghost use Rattle.machine_steps.specs.Draining.{drain_steps};
 ghost use Rattle.machine_steps.specs.Machines.{IsMachine, MachineLists};
 ghost use Rattle.machine_log.specs.Logs.{Log};
-ghost use Rattle.schedules.specs.Own.{AreOwn, IsOwn};
 ghost use Rattle.schedules.specs.Rounds.{round};
 ghost use Rattle.schedules.specs.Skips.{AreQuiet};
 ghost use Rattle.machine_steps.specs.Standing.{HasRunning};
@@ -31,6 +31,6 @@ pub fn rounds_go_on()
 
 /// No step of a round, and none of a drain, writes from outside.
 pub fn sweeps_write_nothing()
-    ensures rounds { (k place : ℕ) (s : Step) → slice_get (round k) place ≡ Some s → IsOwn s }
-    ensures drains { (m : MachineLists) → AreOwn (drain_steps m) }
+    ensures rounds { (k place : ℕ) (s : Step) → slice_get (round k) place ≡ Some s → is_poke s ≡ false }
+    ensures drains { (m : MachineLists) → no_poke (drain_steps m) ≡ true }
 {}

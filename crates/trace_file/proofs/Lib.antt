@@ -7,3 +7,5 @@ pub mod Written
 pub mod Uniqueness
 pub mod Faulty
 pub mod Decided
+pub mod Within
+pub mod Lemmas

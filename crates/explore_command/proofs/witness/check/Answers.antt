@@ -1,4 +1,4 @@
-use Rattle.std.proofs.Common.{refl, arith}
+use Rattle.std.proofs.Common.{refl, sym, arith}
 use Rattle.std.proofs.lemmas.Result.{IfErr-weaker, on_ok_weaker}
 use Rattle.explore_command.proofs.Leading.{end_witness, stuck_witness, taken_home}
 use Rattle.explore_command.proofs.Refusing.{steps_refuse}
@@ -20,7 +20,7 @@ returns-in-Some-get-clause-witness c =
     let some = c.in-Some.ensures in
     on_ok_weaker c.compare.result (λ end.
     end_witness c.args.config c.args.image.now c.args.results.now c.args.steps.now c.in_ok-machine.machine c.in_ok-machine.tally
-    c.in_ok-machine.ensures.taken (c.if-not-are_of_the_machine.ensures refl) (c.if-not-is_trace.ensures.0 refl)
+    c.in_ok-machine.ensures.taken (sym c.if-not-has_no_poke.ensures) (c.if-not-is_trace.ensures.0 refl)
     c.in-Some.before c.args.number c.in-Some-get.last.now (omega (arith, some)) c.in-Some-get.ensures.lookup.3.0
     (c.in-Some-get.ensures.lookup.3.1 c.in-Some-get.last.now) end) c.compare.ensures.same
 
@@ -32,7 +32,7 @@ returns-clause-witness c =
     let none = c.in-None.ensures in
     on_ok_weaker c.look_for_an_end.result (λ stuck.
     stuck_witness c.args.config c.args.image.now c.args.results.now c.args.steps.now c.in_ok-machine.machine c.in_ok-machine.tally
-    c.in_ok-machine.ensures.taken (c.if-not-are_of_the_machine.ensures refl) (c.if-not-is_trace.ensures.0 refl)
+    c.in_ok-machine.ensures.taken (sym c.if-not-has_no_poke.ensures) (c.if-not-is_trace.ensures.0 refl)
     c.args.number (omega (arith, none)) stuck) c.look_for_an_end.ensures.stuck
 
 pub returns-clause-refused : goal.returns-clause-refused

@@ -1,17 +1,17 @@
-use Rattle.std.proofs.Common.{◌≡◌, ◌∙◌, ◌+◌, List, length, sym, ap, subst}
+use Rattle.std.proofs.Common.{◌≡◌, ◌∙◌, ◌+◌, true, List, length, sym, ap, subst}
 use Rattle.std.proofs.lemmas.Result.{IfOk-weaker}
 use Rattle.flat_machine.specs.declared.config.Config.{Config}
 use Rattle.steps.specs.declared.step.Step.{Step}
 use Rattle.machine_steps.specs.Machines.{MachineLists}
-use Rattle.schedules.specs.Own.{AreOwn}
+use Rattle.steps.specs.Kinds.{no_poke}
 use Rattle.hunt_command.specs.Runs.{WasAsked}
 use Rattle.hunt_command.specs.Schedules.{schedule}
-use Rattle.hunt_command.proofs.Plans.{own_schedule}
+use Rattle.hunt_command.proofs.Plans.{no_poke_schedule}
 use Rattle.hunt_command.proofs.running.ask_by_number.Goals as goal
 
 pub ask-requires-clause-own : goal.ask-requires-clause-own
 ask-requires-clause-own g c =
-    subst AreOwn (sym c.new-schedule.ensures) (own_schedule c.config.result.k c.args.number c.args.most)
+    subst (λ xs. no_poke xs ≡ true) (sym c.new-schedule.ensures) (no_poke_schedule c.config.result.k c.args.number c.args.most)
 
 pub ask-requires-clause-noting : goal.ask-requires-clause-noting
 ask-requires-clause-noting g c =

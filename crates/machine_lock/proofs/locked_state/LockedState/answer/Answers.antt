@@ -1,6 +1,8 @@
 use Rattle.std.proofs.Common.{◌≡◌, ◌++◌, List, Option, length, refl, Some, slice_get, slice_set, sym, ◌∙◌, ap, subst, true, arith}
 use Rattle.steps.specs.declared.step.Step.{Step}
-use Rattle.machine_log.specs.Logs.{entered, is_named}
+use Rattle.flat_machine.specs.declared.config.Config.{Config}
+use Rattle.steps.specs.Kinds.{is_within}
+use Rattle.machine_log.specs.Logs.{entered}
 use Rattle.machine_steps.specs.Runs.{answer_after}
 use Rattle.machine_lock.specs.declared.row.PassState.{PassState}
 use Rattle.machine_lock.specs.Rows.{answer, with_answer, Fits}
@@ -60,7 +62,7 @@ invariant_of-pass-2 g c =
     )
 
 pub take-requires-clause-named : goal.take-requires-clause-named
-take-requires-clause-named g c = subst (λ k. is_named k c.args.step ≡ true) (sym c.self.invariant.config) c.requires.named
+take-requires-clause-named g c = subst (λ (size : Config). is_within size.k c.args.step ≡ true) (sym c.self.invariant.config) c.requires.named
 
 pub take-requires-clause-others : goal.take-requires-clause-others
 take-requires-clause-others g c = subst (λ (x : LockedStateModel). OfOthers x.lent c.args.step) (sym c.self.view_is) c.requires.others

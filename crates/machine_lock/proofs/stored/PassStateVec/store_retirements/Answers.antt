@@ -5,7 +5,8 @@ use Rattle.steps.specs.declared.step.Step.TheVariants as step
 use Rattle.steps.specs.declared.step.Outcome.TheVariants as outcome
 use Rattle.machine_lock.specs.declared.row.PassEvent.{PassEvent}
 use Rattle.machine_lock.specs.declared.row.PassState.{PassState}
-use Rattle.machine_lock.specs.Lists.{given_to, shown_at, is_turn_of}
+use Rattle.steps.specs.Kinds.{is_turn_of}
+use Rattle.machine_lock.specs.Lists.{given_to, shown_at}
 use Rattle.machine_lock.specs.Rows.{with_answer, with_retirements}
 use Rattle.machine_lock.specs.Passes.{row_of}
 use Rattle.machine_lock.proofs.stored.PassStateVec.store_retirements.Goals as goal
