@@ -38,6 +38,9 @@ enum { MOST_BYTES = 1 << 15, MOST_FILES = 256, STATUSES = 5 };
 // What a command takes after its options.
 enum takes { A_FILE, A_FILE_AND_NOWHERE, A_TRACE_AND_AN_IMAGE, AN_IMAGE_OF_EVERY_SIZE, LINES };
 
+// A command that reads a trace. bench/hostile defines TRACE_COMMANDS as the row of each of them.
+#define ON_A_TRACE(name) { name, { NULL }, A_TRACE_AND_AN_IMAGE, 32 << 10 },
+
 // A command, its options, and the most memory that it may take, in KiB: a log of a million instructions for `words`.
 static const struct command {
     const char *name, *options[6];
@@ -55,11 +58,7 @@ static const struct command {
     { "explore", { "--each", "--k", "2", "--states", "500" }, A_FILE, 32 << 10 },
     { "explore", { "--every", "--states", "100" }, AN_IMAGE_OF_EVERY_SIZE, 32 << 10 },
     { "hunt", { "--k", "1", "--runs", "3", "--budget", "1000" }, A_FILE, 32 << 10 },
-    { "replay", { NULL }, A_TRACE_AND_AN_IMAGE, 32 << 10 },
-    { "order", { NULL }, A_TRACE_AND_AN_IMAGE, 32 << 10 },
-    { "story", { NULL }, A_TRACE_AND_AN_IMAGE, 32 << 10 },
-    { "stats", { NULL }, A_TRACE_AND_AN_IMAGE, 32 << 10 },
-    { "picture", { NULL }, A_TRACE_AND_AN_IMAGE, 32 << 10 },
+    TRACE_COMMANDS
     { "debug", { "--k", "1", "--budget", "1000" }, LINES, 32 << 10 },
 };
 

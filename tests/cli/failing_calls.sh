@@ -99,9 +99,10 @@ check 'dis and run report any call that fails, and keep the bytes written before
 
 # Each command that reads a trace, here that of `ebreak` on one processor.
 fails_a_trace() {
-    local command
+    local command named
+    named=$(tests/tools/trace_commands) && [ "$named" ] || return 1
     ./ultra run --k 0 --sweep --trace "$room/ample.trace" "$room/ebreak.elf" >"$room/out"
-    for command in replay order story stats picture; do
+    for command in $named; do
         ./ultra "$command" "$room/ample.trace" "$room/ebreak.elf" >"$room/ample"
         fails_each_call "25r:X5 89r:I9 $(stat -c %s "$room/ample")w:link" "$room/ample" "$command" "$room/ample.trace" "$room/ebreak.elf" || return 1
     done

@@ -172,10 +172,10 @@ refuses_memory_of_an_account() {
     saves_a_run_of_two && ./ultra "$1" "$room/two.trace" "$room/example.elf" >"$room/account" &&
         refuses_each_request 0 "$room/account" /dev/null "$1" "$room/two.trace" "$room/example.elf"
 }
-check 'story without memory for one request reports memory, status 4, or prints its lines' refuses_memory_of_an_account story
-check 'picture without memory for one request reports memory, status 4, or prints its lines' refuses_memory_of_an_account picture
-check 'stats without memory for one request reports memory, status 4, or prints its lines' refuses_memory_of_an_account stats
-check 'order without memory for one request reports memory, status 4, or prints its lines' refuses_memory_of_an_account order
+for command in $(tests/tools/trace_commands); do
+    [ "$command" = replay ] ||
+        check "$command without memory for one request reports memory, status 4, or prints its lines" refuses_memory_of_an_account "$command"
+done
 
 # ---- searches
 

@@ -18,11 +18,30 @@ impl Machine {
         ensures run { IsRun self.old steps.now self.new }
         ensures serialized { IsIdle self.old → IsSerialized self.old steps.now self.new }
     {
+        let Ok(()) = self.run_observed(steps, &mut NoObserver);
+    }
+
+    /// Takes each of these steps in turn, as [`Machine::run`] does, and reports each to the observer.
+    ///
+    /// # Errors
+    ///
+    /// The observer's own, if it refuses a step. The machine has taken that step, and those before it.
+    pub fn run_observed<N: StepObserver>(
+        &mut self,
+        steps: &[Step],
+        observer: &mut N,
+    ) -> Result<(), N::Refusal>
+        requires room { N.has_room observer.old (length steps.now) }
+        ensures run { OnOk result (IsRun self.old steps.now self.new) }
+        ensures serialized { IsIdle self.old → OnOk result (IsSerialized self.old steps.now self.new) }
+        ensures observed { OnOk result (AreNoted N.observed self.old steps.now observer.old observer.new) }
+    {
         laws::machine_is_well_formed(self);
         for step in steps {
-            self.apply(*step);
+            take(self, *step, observer)?;
         }
         laws::machine_is_well_formed(self);
+        Ok(())
     }
 
     /// The step that a drain takes next. `None` if no reference is open.
@@ -145,6 +164,8 @@ fn drain_within<N: StepObserver>(
 }
 
 /// Takes a step, and reports it to the observer.
+// Inlined, so that no outcome is copied for an observer that does not look at it.
+#[inline(always)]
 fn take<N: StepObserver>(
     machine: &mut Machine,
     step: Step,

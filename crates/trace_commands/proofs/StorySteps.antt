@@ -1,46 +1,89 @@
 -- The lines of steps that a machine takes one after another.
-use Rattle.std.proofs.Common.{◌≡◌, ℕ, List, [], ◌∷◌, ◌++◌, length, sym, ap, ◌∙◌}
+use Rattle.std.proofs.Common.{◌≡◌, ℕ, ◌+◌, ◌*◌, ◌^◌, ◌≤◌, List, [], ◌∷◌, ◌++◌, length, refl, sym, ap, ◌∙◌, subst, arith}
+use Rattle.std.proofs.lemmas.List.{append-nil, append_assoc}
+use Rattle.std.proofs.lemmas.Nat.{mul-le}
+use Rattle.flat_machine.specs.declared.config.Config.{Config}
+use Rattle.elf_image.specs.Images.{ImageContents}
 use Rattle.steps.specs.declared.step.Step.{Step}
 use Rattle.steps.specs.declared.step.Outcome.{Outcome}
-use Rattle.machine_steps.specs.Machines.{MachineLists, IsStep}
-use Rattle.machine_steps.specs.Runs.{IsRun}
-use Rattle.steps.specs.Answered.{Answer, answer}
-use Rattle.machine_steps.specs.Answers.{AnswersAreCounted, AnswersBegin, AnswersGoOn, answers_of}
-use Rattle.steps.specs.Groups.{GroupsGoOn, groups_after, groups_of, no_groups}
-use Rattle.trace_lines.specs.StoryLines.{StoriesGoOn, line_of, story_of}
+use Rattle.machine_steps.specs.machine_theory.Theory as theory
+use Rattle.machine_steps.specs.machine_theory.Processors.{ObservedCore}
+use Rattle.machine_steps.specs.machine_theory.Steps.{outcome_of, after}
+use Rattle.machine_steps.specs.Machines.{MachineLists, machine_of, IsMachine}
+use Rattle.machine_steps.specs.Draining.{drain_steps}
+use Rattle.machine_steps.specs.Noting.{AreNoted, AreNotedFrom}
+use Rattle.machine_steps.specs.Answers.{answers_from, answers_of}
+use Rattle.machine_steps.specs.Laws.{RunsAreSerialized}
+use Rattle.machine_steps.specs.Runs.{all_after, IsOpening, IsRun}
+use Rattle.machine_steps.proofs.Lemmas.{count_small, noted_after_run}
+use Rattle.trace_lines.specs.StoryLines.{line_of, lines_from, story_of}
+use Rattle.trace_commands.specs.Reports.{IsExitOf}
+use Rattle.trace_commands.specs.Stories.{AreStoryLines, StoryState, no_lines, with_line, IsDrainedStory}
 
--- The machine has taken these steps, the text has their lines, and the groups are those after them.
-pub record AreShown (old : MachineLists) (done : List Step) (m : MachineLists) (text : List ℕ) (groups : List (List ℕ)) : Type 0 where
-  pub run : IsRun old done m
-  pub lines : text ≡ story_of (answers_of old done)
-  pub standing : groups ≡ groups_of (answers_of old done)
+-- The lines after a step are those before it and the step's.
+abbrev pub HasLine : StoryState → Step → Outcome → StoryState → Type 0
+HasLine t s o t' = t' ≡ with_line t s o
 
--- Before the first step, the empty text has the lines of those taken, and there are no groups.
-pub none_printed : AnswersBegin → GroupsGoOn → StoriesGoOn → (m : MachineLists) (text : List ℕ) (groups : List (List ℕ)) → text ≡ [] → groups ≡ no_groups →
-    AreShown m [] m text groups
-none_printed begin grouped story m text groups empty none = record {
-  run = (begin m).0;
-  lines = empty ∙ sym (ap story_of (begin m).1 ∙ story.none);
-  standing = none ∙ sym (ap groups_of (begin m).1 ∙ grouped.none);
+joined_from : (c : Config) (code : List ℕ) (M : theory.Machine ObservedCore) (xs ys : List Step) (t mid t' : StoryState) →
+    AreNotedFrom HasLine c code M xs t mid → AreNotedFrom HasLine c code (all_after c code M xs) ys mid t' → AreNotedFrom HasLine c code M (xs ++ ys) t t'
+unfolding all_after
+joined_from c code M [] ys t mid t' same rest = subst (λ x. AreNotedFrom HasLine c code M ys x t') same rest
+joined_from c code M (x ∷ xs) ys t mid t' all rest = (all.0, all.1, joined_from c code (after c code M x) xs ys all.0 mid t' all.2 rest)
+
+numbered_from : (c : Config) (code : List ℕ) (M : theory.Machine ObservedCore) (steps : List Step) (t t' : StoryState) →
+    AreNotedFrom HasLine c code M steps t t' → t'.number ≡ t.number + length steps
+numbered_from c code M [] t t' same = ap (λ (x : StoryState). x.number) same ∙ omega arith
+numbered_from c code M (s ∷ ss) t t' all =
+    numbered_from c code (after c code M s) ss all.0 t' all.2 ∙ ap (λ (x : StoryState). x.number + length ss) all.1 ∙ omega arith
+
+lines_more : (c : Config) (code : List ℕ) (M : theory.Machine ObservedCore) (steps : List Step) (t t' : StoryState) →
+    AreNotedFrom HasLine c code M steps t t' → t'.text ≡ t.text ++ lines_from t.groups t.number (answers_from c code M steps)
+unfolding answers_from
+lines_more c code M [] t t' same = ap (λ (x : StoryState). x.text) same ∙ sym (append-nil t.text)
+lines_more c code M (s ∷ ss) t t' all =
+    let o = outcome_of c code M s in
+    let next = with_line t s o in
+    let rest = answers_from c code (after c code M s) ss in
+    subst (λ (m : StoryState). t'.text ≡ m.text ++ lines_from m.groups m.number rest) all.1 (lines_more c code (after c code M s) ss all.0 t' all.2)
+    ∙ append_assoc t.text (line_of t.groups t.number s o) (lines_from next.groups next.number rest)
+
+-- If lines are added to none, there is one for each step.
+pub one_for_each : (m : MachineLists) (steps : List Step) (t t' : StoryState) → t ≡ no_lines → AreNoted HasLine m steps t t' → t'.number ≡ length steps
+one_for_each m steps t t' none all =
+    numbered_from m.config m.code (machine_of m (λ p. [])) steps t t' all ∙ ap (λ (x : StoryState). x.number + length steps) none ∙ omega arith
+
+-- Lines that are added to none, step by step, and then those of more steps are the story of all of them.
+pub lines_are_story : (m mid : MachineLists) (steps more : List Step) (t t1 t' : StoryState) → t ≡ no_lines → IsRun m steps mid →
+    AreNoted HasLine m steps t t1 → AreNoted HasLine mid more t1 t' → t'.text ≡ story_of (answers_of m (steps ++ more))
+unfolding story_of answers_of
+lines_are_story m mid steps more t t1 t' none r first rest =
+    let M : theory.Machine ObservedCore = machine_of m (λ p. []) in
+    let all = joined_from m.config m.code M steps more t t1 t' first (noted_after_run HasLine m mid steps more t1 t' r rest) in
+    subst (λ (x : StoryState). t'.text ≡ x.text ++ lines_from x.groups x.number (answers_from m.config m.code M (steps ++ more))) none
+    (lines_more m.config m.code M (steps ++ more) t t' all)
+
+-- A drain takes few steps.
+pub drain_is_few : (k : ℕ) → k ≤ 6 → 2 ^ k * (2 * k + 2) ≤ 64 * 14
+drain_is_few k few = mul-le (2 ^ k) (2 * k + 2) 64 14 (count_small k few) (omega (arith, few))
+
+-- The story of a machine that opens on an image, takes the steps of a trace and is drained is what is printed.
+pub story_printed : RunsAreSerialized → (c : Config) (image : ImageContents) (opening new : MachineLists) (steps : List Step) (text : List ℕ) (status : ℕ) →
+    IsOpening c image opening → IsMachine opening → IsMachine new → IsDrainedStory opening steps new text → IsExitOf new status →
+    AreStoryLines c image steps text status
+story_printed each c image opening new steps text status opens is is' story exit = record {
+  all = steps ++ drain_steps story.before;
+  home = record {
+    before = story.before;
+    stands = record { opening = opening; opens = opens; replay = story.taken };
+    is = refl;
+    run = record {
+      opening = opening;
+      opens = opens;
+      machine = new;
+      replay = story.replay;
+      idle = story.idle;
+      serialized = each opening (steps ++ drain_steps story.before) new is opens.idle is' story.replay.run;
+    };
+  };
+  contents_are = record { opening = opening; opens = opens; machine = new; run = story.replay.run; are = story.lines; exit = exit };
 }
-
-module _ (go_on : AnswersGoOn) (count : AnswersAreCounted) (grouped : GroupsGoOn) (story : StoriesGoOn)
-    (old : MachineLists) (done : List Step) (m : MachineLists) (text : List ℕ)
-    (groups : List (List ℕ)) (t : AreShown old done m text groups) where
-  -- If the machine takes one step more, and its line is appended, the text has the lines of all steps.
-  pub one_printed : (number : ℕ) (s : Step) (o : Outcome) (new : MachineLists) (text' : List ℕ) (groups' : List (List ℕ)) → length done ≡ number →
-      IsStep m s o new → text' ≡ text ++ line_of groups number s o → groups' ≡ groups_after groups s o → AreShown old (done ++ s ∷ []) new text' groups'
-  one_printed number s o new text' groups' there is line more =
-      let contents_are : List Answer = answers_of old done in
-      let next = go_on old m new done s o t.run is in
-      let placed : number ≡ length contents_are = sym (count old done ∙ there) in
-      record {
-        run = next.0;
-        lines =
-            line
-            ∙ ap (λ gs. text ++ line_of gs number s o) t.standing
-            ∙ ap (λ n. text ++ line_of (groups_of contents_are) n s o) placed
-            ∙ ap (λ xs. xs ++ line_of (groups_of contents_are) (length contents_are) s o) t.lines
-            ∙ sym (ap story_of next.1 ∙ story.story contents_are (answer s o));
-        standing = more ∙ ap (λ gs. groups_after gs s o) t.standing ∙ sym (ap groups_of next.1 ∙ grouped.more contents_are (answer s o));
-      }

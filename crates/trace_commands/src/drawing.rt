@@ -5,7 +5,7 @@ ghost use Rattle.machine_picture.specs.Views.{view_of};
 ghost use Rattle.machine_steps.specs.Runs.{IsRun};
 
 use machine_picture::{Draw, view_of};
-use machine_steps::{Machine, laws};
+use machine_steps::Machine;
 use std::alloc::{AllocError, Global};
 use steps::Step;
 
@@ -24,10 +24,7 @@ pub fn picture_text<D: Draw>(
     ensures drawn { IfOk result (λ text. D.draws drawing.now (view_of machine.new (length steps.now))
         (string_bytes text)) }
 {
-    laws::answers_go_on();
-    for step in steps {
-        machine.apply(*step);
-    }
+    machine.run(steps);
     let view = view_of(alloc, machine, steps.len())?;
     drawing.draw(alloc, &view)
 }

@@ -8,12 +8,12 @@
 //! steps ([`replay_counted`]), and a tally counts what each step shows. [`print_run`] reports the log of a run in the
 //! same way. [`order_command`] prints an [`Order`], unless a number of its choice names nothing on the machine.
 //!
-//! The others take the steps of the trace on a machine that opens on the image, and then those of a drain
-//! ([`drained_steps`]). For an order, a second machine gives the serial order of all these steps ([`entries_of`]). Two
-//! more machines execute it, one entry at a time: one of them has taken the entry and the other has not yet, so that
-//! its line can say what it changed ([`order_text`]). For story and stats, a second machine takes all steps again, and
-//! each step becomes a line ([`story_text`]), or its outcome is counted ([`count_steps`]). For a picture, the second
-//! machine takes as many steps as are asked for, and its view is drawn ([`picture_text`]).
+//! A [`Story`] takes the steps of the trace on a machine that opens on the image, and then those of a drain, and each
+//! step becomes a line ([`story_text`]). The others list all these steps first ([`drained_steps`]). For an order, a
+//! second machine gives their serial order ([`entries_of`]). Two more machines execute it, one entry at a time: one of
+//! them has taken the entry and the other has not yet, so that its line can say what it changed ([`order_text`]). For
+//! stats, a second machine takes all steps again, and their outcomes are counted ([`count_steps`]). For a picture, it takes
+//! as many steps as are asked for, and its view is drawn ([`picture_text`]).
 #![tactic(auto)]
 
 mod choosing;

@@ -1,12 +1,12 @@
 //! What `ultra story` prints: the lines of the steps of a trace.
 
-use crate::draining::drained_steps;
 use crate::states::exit_status;
 use crate::telling::story_text;
 use crate::trace_report::TraceReport;
 use command_io::{Fault, machine_of_copy};
 use elf_image::Image;
 use flat_machine::Config;
+use machine_steps::laws;
 use std::alloc::Global;
 use steps::Step;
 
@@ -28,9 +28,14 @@ impl TraceReport for Story {
         config: Config,
         steps: &[Step],
     ) -> Result<(String, u8), Fault> {
-        let all = drained_steps(alloc, image, config, steps)?;
         let mut machine = machine_of_copy(alloc, image, config)?;
-        let text = story_text(alloc, &mut machine, all.as_slice())?;
-        Ok((text, exit_status(&machine)))
+        laws::machine_is_well_formed(&machine);
+        let story = story_text(alloc, &mut machine, steps)?;
+        laws::machine_is_well_formed(&machine);
+        laws::runs_are_serialized();
+        match story {
+            Ok(text) => Ok((text, exit_status(&machine))),
+            Err(stalled) => Err(Fault::Stalled(stalled.place)),
+        }
     }
 }

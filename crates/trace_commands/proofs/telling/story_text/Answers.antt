@@ -1,25 +1,40 @@
-use Rattle.std.proofs.Common.{List, take, slice_index_or, sym, subst, arith}
-use Rattle.std.specs.Prelude.{string_bytes}
-use Rattle.std.proofs.lemmas.List.{length-take-le, take_more}
-use Rattle.steps.specs.declared.step.Step.{Step}
-use Rattle.steps.specs.declared.step.Step.TheVariants as step
-use Rattle.trace_commands.proofs.StorySteps.{AreShown, none_printed, one_printed}
+use Rattle.std.proofs.Common.{◌≡◌, ◌+◌, ◌*◌, ◌^◌, ◌≤◌, length, ◌∙◌, subst, arith}
+use Rattle.std.specs.Prelude.{OnOk}
+use Rattle.machine_steps.specs.Draining.{drain_steps}
+use Rattle.machine_steps.specs.Noting.{AreNoted}
+use Rattle.machine_steps.specs.Runs.{IsReplay}
+use Rattle.machine_steps.proofs.Lemmas.{replay_joined}
+use Rattle.trace_commands.proofs.StorySteps.{HasLine, drain_is_few, one_for_each, lines_are_story}
 use Rattle.trace_commands.proofs.telling.story_text.Goals as goal
 
-pub loop-number-init : goal.loop-number-init
-loop-number-init c =
-    none_printed c.answers_go_on.ensures.begin c.groups_go_on.ensures c.stories_go_on.ensures c.args.machine.now
-    (string_bytes c.new-text.result) c.in_ok-groups.groups
-    c.new-text.ensures.bytes c.in_ok-groups.ensures
-
-pub loop-number-preserved : goal.loop-number-preserved
-loop-number-preserved c =
+pub drain_observed-requires : goal.drain_observed-requires
+drain_observed-requires c =
+    let m = c.args.machine.now in
     let steps = c.args.steps.now in
-    let l = c.loop-number in
-    subst (λ (done : List Step). AreShown c.args.machine.now done c.apply-outcome.new.self (string_bytes c.push_line.new.text) c.observe.new.self)
-    (sym (take_more steps l.number (step.Turn 0) c.loop-number-test.true))
-    (one_printed c.answers_go_on.ensures.go_on c.answers_go_on.ensures.count c.groups_go_on.ensures c.stories_go_on.ensures
-    c.args.machine.now (take l.number steps) l.machine
-    (string_bytes l.text) l.groups l.invariant l.number (slice_index_or steps l.number (step.Turn 0)) c.apply-outcome.result c.apply-outcome.new.self
-    (string_bytes c.push_line.new.text) c.observe.new.self (length-take-le l.number steps (omega (arith, c.loop-number-test.true)))
-    c.apply-outcome.ensures.step c.in_ok-push_line.ensures c.in_ok-observe.ensures)
+    let mid = c.replay_observed.new.machine in
+    let before = c.in_ok-lines.lines in
+    let after = c.replay_observed.new.observer in
+    let first = subst (λ r. OnOk r (AreNoted HasLine m steps before after)) c.in_default.is c.in_ok-replayed.ensures.observed in
+    let number : after.number ≡ length steps = one_for_each m steps before after c.in_ok-lines.ensures first in
+    let few : 2 ^ mid.config.k * (2 * mid.config.k + 2) ≤ 896 = drain_is_few mid.config.k c.machine_is_well_formed.ensures.limits.stages in
+    record { room = omega (arith, number, few, c.requires) }
+
+pub returns-clause-story : goal.returns-clause-story
+returns-clause-story c =
+    let m = c.args.machine.now in
+    let steps = c.args.steps.now in
+    let mid = c.replay_observed.new.machine in
+    let new = c.drain_observed.new.self in
+    let before = c.in_ok-lines.lines in
+    let after = c.replay_observed.new.observer in
+    let replay = subst (λ r. OnOk r (IsReplay m steps mid)) c.in_default.is c.in_ok-replayed.ensures.replay in
+    let first = subst (λ r. OnOk r (AreNoted HasLine m steps before after)) c.in_default.is c.in_ok-replayed.ensures.observed in
+    let drained = c.in_ok-drain_observed.ensures in
+    record {
+      before = mid;
+      taken = replay;
+      replay = replay_joined m mid new steps (drain_steps mid) replay drained.replay;
+      idle = drained.drained.idle;
+      lines = c.into_text.ensures
+          ∙ lines_are_story m mid steps (drain_steps mid) before after c.drain_observed.new.observer c.in_ok-lines.ensures replay.run first drained.observed;
+    }
