@@ -12,8 +12,8 @@
 //! step becomes a line ([`story_text`]). The others list all these steps first ([`drained_steps`]). For an order, a
 //! second machine gives their serial order ([`entries_of`]). Two more machines execute it, one entry at a time: one of
 //! them has taken the entry and the other has not yet, so that its line can say what it changed ([`order_text`]). For
-//! stats, a second machine takes all steps again, and their outcomes are counted ([`count_steps`]). For a picture, it takes
-//! as many steps as are asked for, and its view is drawn ([`picture_text`]).
+//! stats, a second machine takes all steps again, and their outcomes are counted ([`count_steps`]). For a picture, it
+//! takes as many steps as are asked for, and its view is drawn ([`picture_text`]).
 #![tactic(auto)]
 
 mod choosing;
