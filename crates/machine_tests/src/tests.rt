@@ -4,6 +4,7 @@
 mod beside_a_plain_machine;
 mod combining;
 mod draining;
+mod kinds;
 mod limits;
 mod opening;
 mod ordering;
