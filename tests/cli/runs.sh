@@ -86,6 +86,61 @@ spends_its_budget() {
 }
 check 'a run reports a used-up budget: budget, status 4, and no trace' spends_its_budget
 
+# ---- without a log
+
+# prints_the_same IMAGE OPTION ..: by the sweep, a run without a log prints, reports and ends as one with a log does.
+prints_the_same() {
+    local image=$1 with=0 without=0
+    shift
+    ./ultra run --sweep --budget 4000000 "$@" "$image" >"$room/with.out" 2>"$room/with.err" || with=$?
+    ./ultra run --sweep --budget 4000000 --no-log "$@" "$image" >"$room/without.out" 2>"$room/without.err" || without=$?
+    [ "$with" -eq "$without" ] && diff "$room/with.out" "$room/without.out" && diff "$room/with.err" "$room/without.err"
+}
+
+# Some of the programs end by a fault, and some never end.
+examples_print_the_same() {
+    local text k
+    for text in examples/*.s examples/algorithms/{,wrong/}*.s examples/explore/*.s; do
+        ./ultra asm "$text" "$room/same.elf" || return 1
+        for k in 0 1 3; do
+            prints_the_same "$room/same.elf" --k "$k" || { echo "$text with --k $k" && return 1; }
+        done
+    done
+    prints_the_same "$room/hot_spot.elf" --k 6 --b 0 && prints_the_same "$room/barrier.elf" --k 5 --b 0
+}
+check 'a run without a log prints what one with a log prints, for each example' examples_print_the_same
+
+# After five instructions, 2^21 + 3 times three, one of which multiplies by 2^16 + 1. The product of n of them is
+# 1 + n * 2^16, modulo 2^32, so 3 * 2^16 + 1 is stored. That takes more steps than a log has room for.
+takes_six_million_steps() {
+    cat >"$room/multiplies.s" <<'END'
+ lui x5, 0x200
+ addi x5, x5, 3
+ addi x6, x0, 1
+ lui x7, 0x10
+ addi x7, x7, 1
+loop: mul x6, x6, x7
+ addi x5, x5, -1
+ bne x5, x0, loop
+ lui x8, 0x80000
+ sw x6, 0(x8)
+ ecall
+END
+    ./ultra asm "$room/multiplies.s" "$room/multiplies.elf" &&
+        ends 4 'ultra: budget' ./ultra run --sweep --k 0 "$room/multiplies.elf" &&
+        ends 4 'ultra: budget' ./ultra run --sweep --no-log --k 0 --budget 6000000 "$room/multiplies.elf" &&
+        ./ultra run --sweep --no-log --k 0 "$room/multiplies.elf" >"$room/out" 2>"$room/err" && diff /dev/null "$room/err" &&
+        diff <(printf 'processor 0 pc 00010028 halt 00 retired %d console -\nword 0 00030001\n' $((5 + 3 * ((1 << 21) + 3) + 2))) "$room/out"
+}
+check 'a run without a log takes six million steps; with a log it reports a used-up budget' takes_six_million_steps
+
+refuses_to_have_no_log() {
+    local refusal='error: --no-log goes with --sweep, and not with --trace'
+    ends 2 "$refusal" ./ultra run --no-log "$room/example.elf" &&
+        ends 2 "$refusal" ./ultra run --sweep --no-log --trace "$room/none.trace" "$room/example.elf" && [ ! -e "$room/none.trace" ]
+}
+check 'a run without a log is refused on threads and with a trace, with status 2' refuses_to_have_no_log
+
 # ---- machines that do not exist
 
 lacks_room_for_replies() {

@@ -124,8 +124,8 @@ with_sizes a = with_number shared_words (with_number combinations
 unfoldable pub run_command : App
 run_command =
     with_number start (with_number budget (with_sizes
-    (with_rule (with_rule (with_rule (with_file (new_app (codes "run"))) (option (codes "trace")))
-    (flag (codes "sweep"))) (flag (codes "quiet")))))
+    (with_rule (with_rule (with_rule (with_rule (with_file (new_app (codes "run"))) (option (codes "trace")))
+    (flag (codes "sweep"))) (flag (codes "no-log"))) (flag (codes "quiet")))))
 
 -- a trace, the image of its run, and the number of shared words
 abbrev pub replaying : Text → App

@@ -144,6 +144,10 @@ const RUN: CommandForm = CommandForm {
             help: "Run by the sweep, on one thread: every run gives the same result",
         },
         Argument::Flag {
+            name: "no-log",
+            help: "With --sweep, keep no log of the steps, so that --budget may be up to 4000000000 of them; not with --trace",
+        },
+        Argument::Flag {
             name: "quiet",
             help: "Show no progress line on a terminal",
         },

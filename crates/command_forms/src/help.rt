@@ -52,6 +52,9 @@ steps that did something, 4000000 at most (also for its default of 10000000); th
 in the network are drained. --start has no effect. With --b 0 the sweep is not fair: a processor can
 starve while the network is full.
 
+With --no-log too, the steps are not kept. The report is the same, and the run may take 4000000000
+steps, but no trace of it can be written.
+
 The report has a line for each processor, `processor P pc VVVVVVVV STATUS retired N console HEX`:
 its number, its pc in hex, `run`, `halt HH` (HH is what it halted with, in hex) or `fault N`, how
 many instructions it has retired, and the bytes it sent to the console in hex, or `-` for none.

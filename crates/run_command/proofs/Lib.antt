@@ -3,3 +3,5 @@ pub mod OneRun
 pub mod Consoles
 pub mod Logging
 pub mod Sizes
+pub mod Counting
+pub mod Unlogged

@@ -7,27 +7,27 @@ use Rattle.command_io.specs.declared.fault.Fault.{Fault}
 use Rattle.command_io.specs.declared.fault.Fault.TheVariants as fault
 use Rattle.command_io.specs.Files.{IsFaultOfSize}
 use Rattle.command_io.specs.Links.{Input}
-use Rattle.run_command.specs.SweepRuns.{RunItselfFails, sweep_run}
+use Rattle.run_command.specs.SweepRuns.{RunFailsWithin, sweep_run}
 use Rattle.run_command.specs.ThreadRuns.{IsNotThreaded, threaded_run}
 
 module _ (c : Config) (file : Input) (image : ImageContents) (meant : IsImageOf c.shared_words file.bytes image) where
   -- There is no run by the sweep, for the same fault.
-  pub not_run : (budget : ℕ) (f : Fault) → IsFaultOfSize c f → RunItselfFails (sweep_run c budget file) f
-  not_run budget fault.Size p = ((image, meant), p)
-  not_run budget fault.Memory p = tt
-  not_run budget (fault.Image e) p = absurd p
-  not_run budget (fault.Line n) p = absurd p
-  not_run budget (fault.Text e) p = absurd p
-  not_run budget fault.NotUtf8 p = absurd p
-  not_run budget (fault.Trace e) p = absurd p
-  not_run budget (fault.Stalled n) p = absurd p
-  not_run budget fault.Budget p = absurd p
-  not_run budget fault.Full p = absurd p
-  not_run budget fault.Loan p = absurd p
-  not_run budget fault.Start p = absurd p
-  not_run budget fault.States p = absurd p
-  not_run budget fault.Alone p = absurd p
-  not_run budget fault.Link p = absurd p
+  pub not_run : (most budget : ℕ) (f : Fault) → IsFaultOfSize c f → RunFailsWithin most (sweep_run c budget file) f
+  not_run most budget fault.Size p = ((image, meant), p)
+  not_run most budget fault.Memory p = tt
+  not_run most budget (fault.Image e) p = absurd p
+  not_run most budget (fault.Line n) p = absurd p
+  not_run most budget (fault.Text e) p = absurd p
+  not_run most budget fault.NotUtf8 p = absurd p
+  not_run most budget (fault.Trace e) p = absurd p
+  not_run most budget (fault.Stalled n) p = absurd p
+  not_run most budget fault.Budget p = absurd p
+  not_run most budget fault.Full p = absurd p
+  not_run most budget fault.Loan p = absurd p
+  not_run most budget fault.Start p = absurd p
+  not_run most budget fault.States p = absurd p
+  not_run most budget fault.Alone p = absurd p
+  not_run most budget fault.Link p = absurd p
 
   -- There is no run on threads, for the same fault.
   pub not_on_threads : (f : Fault) → IsFaultOfSize c f → IsNotThreaded (threaded_run c file) f

@@ -1,18 +1,23 @@
 -- A run of the image in a file by the sweep, and why there may be none.
-use Rattle.std.specs.Prelude.{◌≡◌, ℕ}
+use Rattle.std.specs.Prelude.{◌≡◌, ℕ, min, List, None}
 use Rattle.flat_machine.specs.declared.config.Config.{Config}
 use Rattle.flat_machine.specs.Limits.{IsWithinLimits}
 use Rattle.elf_image.specs.Files.{IsImageOf, IsImageRefusal}
 use Rattle.elf_image.specs.Images.{ImageContents}
 use Rattle.schedules.specs.trace_file.Traces.{IsTrace, trace_of}
+use Rattle.machine_steps.specs.Machines.{MachineLists}
+use Rattle.machine_steps.specs.Runs.{IsReplay}
+use Rattle.machine_steps.specs.steps.declared.step.Step.{Step}
 use Rattle.machine_log.specs.Logs.{Log}
-use Rattle.schedules.specs.Sweeps.{IsSwept, IsWholeRun, most_of}
+use Rattle.schedules.specs.Sweeps.{IsSwept, IsWholeRun, most_of, opened}
 use Rattle.schedules.specs.declared.sweeping.SweepEnd.{SweepEnd}
 use Rattle.schedules.specs.declared.sweeping.SweepEnd.TheVariants.{Budget, Over}
 use Rattle.command_io.specs.declared.fault.Fault.{Fault}
 use Rattle.command_io.specs.declared.fault.Fault.TheVariants as fault
 use Rattle.command_io.specs.Links.{Input}
-use Rattle.trace_commands.specs.TraceReports.{AskedRun}
+use Rattle.command_io.specs.Tallies.{TallyState}
+use Rattle.trace_commands.specs.CountedReplays.{IsReplayCounted}
+use Rattle.trace_commands.specs.TraceReports.{AskedRun, IsReportedRun, TraceOutput}
 
 -- A run by the sweep, as it is asked for: the machine's size, the number of steps that it may take, and the image's
 -- file.
@@ -24,11 +29,15 @@ pub record SweepRun : Type 0 where
 abbrev pub sweep_run : Config → (budget : ℕ) → Input → SweepRun
 sweep_run config budget file = record { config = config; budget = budget; file = file }
 
--- The log of a run of the file's image: from the machine's opening on, the log has followed the sweep to this end,
--- within the budget, and was then drained.
-pub record IsRunOf (run : SweepRun) (end : SweepEnd) (image : ImageContents) (log : Log) : Type 0 where
+-- The log of a run of the file's image: from the machine's opening on, the log has followed the sweep to this end, for
+-- at most `most` steps, and was then drained.
+pub record IsRunWithin (most : ℕ) (run : SweepRun) (end : SweepEnd) (image : ImageContents) (log : Log) : Type 0 where
   pub meant : IsImageOf run.config.shared_words run.file.bytes image
-  pub whole : IsWholeRun run.config image (most_of run.budget) end log
+  pub whole : IsWholeRun run.config image most end log
+
+-- the same within the budget
+abbrev pub IsRunOf : SweepRun → SweepEnd → ImageContents → Log → Type 0
+IsRunOf run = IsRunWithin (most_of run.budget) run
 
 -- The run was over at the end of the sweep, and a trace file can spell the steps of its log.
 pub record IsFinishedRun (run : SweepRun) (image : ImageContents) (log : Log) : Type 0 where
@@ -39,15 +48,19 @@ pub record IsFinishedRun (run : SweepRun) (image : ImageContents) (log : Log) : 
 abbrev pub IsSomeFinishedRun : SweepRun → Log → Type 0
 IsSomeFinishedRun run log = (image : ImageContents) × IsFinishedRun run image log
 
--- Why there is no such run: the image is refused; the machine's size is out of limits; or the budget is used up, a
--- processor still runs, and no fault has stopped one. Nothing is said about a lack of memory.
-abbrev pub RunItselfFails : SweepRun → Fault → Type 0
-RunItselfFails run (fault.Image e) = IsImageRefusal run.config.shared_words run.file.bytes e
-RunItselfFails run fault.Size = ((image : ImageContents) × IsImageOf run.config.shared_words run.file.bytes image)
+-- Why there is no such run of at most `most` steps: the image is refused; the machine's size is out of limits; or all
+-- these steps are taken, a processor still runs, and no fault has stopped one. Nothing is said about a lack of memory.
+abbrev pub RunFailsWithin : (most : ℕ) → SweepRun → Fault → Type 0
+RunFailsWithin most run (fault.Image e) = IsImageRefusal run.config.shared_words run.file.bytes e
+RunFailsWithin most run fault.Size = ((image : ImageContents) × IsImageOf run.config.shared_words run.file.bytes image)
     × (IsWithinLimits run.config → ⊥)
-RunItselfFails run fault.Budget = (image : ImageContents) × (log : Log) × IsRunOf run Budget image log
-RunItselfFails run fault.Memory = Unit {0}
-RunItselfFails run other = ⊥
+RunFailsWithin most run fault.Budget = (image : ImageContents) × (log : Log) × IsRunWithin most run Budget image log
+RunFailsWithin most run fault.Memory = Unit {0}
+RunFailsWithin most run other = ⊥
+
+-- the same within the budget
+abbrev pub RunItselfFails : SweepRun → Fault → Type 0
+RunItselfFails run = RunFailsWithin (most_of run.budget) run
 
 -- such a run, as a command reports it
 abbrev pub by_sweep : SweepRun → AskedRun
@@ -58,6 +71,29 @@ by_sweep run = record {
   is_not_run = RunItselfFails run;
 }
 
+-- ---- a run whose log is not kept
+
+-- the most steps that such a run takes before its drain
+abbrev pub most_unlogged : (budget : ℕ) → ℕ
+most_unlogged budget = min budget 4000000000
+
+-- such a run, as a command reports it: it has a log, which is not kept
+abbrev pub without_log : SweepRun → AskedRun
+without_log run = record {
+  config = run.config;
+  file = run.file;
+  is_run = IsRunWithin (most_unlogged run.budget) run Over;
+  is_not_run = RunFailsWithin (most_unlogged run.budget) run;
+}
+
+-- no trace is asked for
+abbrev pub no_trace : TraceOutput (Unit {0})
+no_trace = record { contents = λ none. None; old = None; new = None }
+
+-- This is the report of the run, with this exit status.
+abbrev pub IsSomeReport : AskedRun → (text : List ℕ) → (status : ℕ) → Type 0
+IsSomeReport run text status = (steps : List Step) × IsReportedRun run steps text status
+
 -- ---- from the machine's opening on
 
 -- Why the sweep is not over: the budget is used up; or there is no memory for the steps, and none is taken.
@@ -65,3 +101,28 @@ abbrev pub IsNotOver : (budget : ℕ) → (old new : Log) → Fault → Type 0
 IsNotOver budget old new fault.Budget = IsSwept (most_of budget) old Budget new
 IsNotOver budget old new fault.Memory = new ≡ old
 IsNotOver budget old new other = ⊥
+
+-- the log of a machine that has taken these steps since its opening
+abbrev pub log_of : (opening : MachineLists) → (steps : List Step) → MachineLists → Log
+log_of opening steps m = record { opening = opening; steps = steps; machine = m }
+
+-- The machine has followed the sweep until it was over, for at most `most` steps, and was then drained. The tally has
+-- what its processors have shown.
+pub record IsCountedRun (most : ℕ) (opening m : MachineLists) (tally : TallyState) : Type 0 where
+  pub steps : List Step
+  pub counted : IsReplayCounted opening steps m tally
+  pub swept : IsSwept most (opened opening) Over (log_of opening steps m)
+
+-- Some machine has followed the sweep to this end, for at most `most` steps, and was then drained.
+pub record IsSweptTo (most : ℕ) (opening : MachineLists) (end : SweepEnd) : Type 0 where
+  pub steps : List Step
+  pub machine : MachineLists
+  pub replay : IsReplay opening steps machine
+  pub swept : IsSwept most (opened opening) end (log_of opening steps machine)
+
+-- Why there is no counted run: the sweep is not over after `most` steps; or it is over within them, and there was no
+-- memory to count what the processors showed.
+abbrev pub IsNotCounted : (most : ℕ) → (opening : MachineLists) → Fault → Type 0
+IsNotCounted most opening fault.Budget = IsSweptTo most opening Budget
+IsNotCounted most opening fault.Memory = IsSweptTo most opening Over
+IsNotCounted most opening other = ⊥

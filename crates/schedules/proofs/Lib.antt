@@ -13,6 +13,7 @@ pub mod OfKinds
 pub mod Skipping
 pub mod Going
 pub mod Parts
+pub mod Takers
 pub mod Alike
 pub mod OneLog
 pub mod Choices

@@ -8,8 +8,10 @@ ghost use Rattle.machine_steps.specs.Standing.{HasRunning};
 ghost use Rattle.schedules.specs.Rounds.{round};
 ghost use Rattle.schedules.specs.Sweeps.{HasFollowed, HasGone, HasGoneRow, HasGoneRows, IsFault, IsStop, IsSwept};
 ghost use Rattle.schedules.specs.Sweeps.{WasAskedRound, most_of};
+ghost use Rattle.schedules.specs.Takers.{EachGoesOn, HasLog};
 
 use crate::row::{Downs, Row, Services, Turns, Ups};
+use crate::taker::StepTaker;
 use flat_machine::Cause;
 use machine_log::{LockRefusal, Logged, ReservedLog};
 use machine_steps::{Machine, any_runs};
@@ -76,75 +78,84 @@ fn sweep(log: &mut ReservedLog, most: u32) -> SweepEnd
     end
 }
 
-/// Follows the sweep until it is over, or the log has `limit` steps.
-fn follow(log: &mut ReservedLog, limit: usize) -> SweepEnd
-    requires few { length log.old.log.steps ≤ limit }
-    requires room { limit ≤ length log.old.log.steps + log.old.capacity_left }
-    ensures followed { HasFollowed limit log.old.log result log.new.log }
-    ensures config { log.new.log.machine.config ≡ log.old.log.machine.config }
-    ensures room { length log.new.log.steps + log.new.capacity_left ≡ length log.old.log.steps + log.old.capacity_left }
+/// Follows the sweep from the beginning of a round, until a fault stops a processor, no processor runs, or `limit`
+/// steps are taken.
+pub fn follow<T: StepTaker>(taker: &mut T, limit: usize) -> SweepEnd
+    requires log { HasLog T.is_log taker.old }
+    requires few { T.count taker.old ≤ limit }
+    requires room { limit ≤ T.most taker.old }
+    ensures followed { EachGoesOn T.is_log taker.old taker.new (λ old new. HasFollowed limit old result new) }
+    ensures config { (T.machine taker.new).config ≡ (T.machine taker.old).config }
+    ensures most { T.most taker.new ≡ T.most taker.old }
 {
-    if !any_runs(log.machine()) {
+    if !any_runs(taker.machine()) {
         return SweepEnd::Over;
     }
-    // While the sweep is not over, each round enters at least one step.
-    while log.steps().len() < limit {
-        if take_round(log, limit) {
+    // While the sweep is not over, each round takes at least one step.
+    while taker.count() < limit {
+        if take_round(taker, limit) {
             return SweepEnd::Over;
         }
     }
     SweepEnd::Budget
 }
 
-/// Takes a round of the sweep, up to the step after which the sweep is over or the log has `limit` steps. Returns
-/// whether the sweep is over.
-fn take_round(log: &mut ReservedLog, limit: usize) -> bool
-    requires few { length log.old.log.steps < limit }
-    requires room { limit ≤ length log.old.log.steps + log.old.capacity_left }
-    requires running { HasRunning log.old.log.machine }
-    ensures round { WasAskedRound limit log.old.log result log.new.log }
-    ensures config { log.new.log.machine.config ≡ log.old.log.machine.config }
-    ensures room { length log.new.log.steps + log.new.capacity_left ≡ length log.old.log.steps + log.old.capacity_left }
+/// Takes a round of the sweep, up to the step after which the sweep is over or `limit` steps are taken. Returns whether
+/// the sweep is over.
+fn take_round<T: StepTaker>(taker: &mut T, limit: usize) -> bool
+    requires few { T.count taker.old < limit }
+    requires room { limit ≤ T.most taker.old }
+    requires running { HasRunning (T.machine taker.old) }
+    ensures round { EachGoesOn T.is_log taker.old taker.new (λ old new. WasAskedRound limit old result new) }
+    ensures config { (T.machine taker.new).config ≡ (T.machine taker.old).config }
+    ensures most { T.most taker.new ≡ T.most taker.old }
 {
-    machine_log::laws::reserved_log_is_well_formed(log);
-    match take_rows(log, limit) {
+    let machine = taker.machine();
+    machine_steps::laws::machine_is_well_formed(machine);
+    match take_rows(taker, limit) {
         Some(is_over) => is_over,
         None => false,
     }
 }
 
 /// Goes through all rows of a round, as [`take_row`] does through one.
-fn take_rows(log: &mut ReservedLog, limit: usize) -> Option<bool>
-    requires room { limit ≤ length log.old.log.steps + log.old.capacity_left }
-    ensures gone { HasGone limit 0 (length (round log.old.log.machine.config.k)) log.old.log result log.new.log }
-    ensures room { length log.new.log.steps + log.new.capacity_left ≡ length log.old.log.steps + log.old.capacity_left }
+fn take_rows<T: StepTaker>(taker: &mut T, limit: usize) -> Option<bool>
+    requires room { limit ≤ T.most taker.old }
+    ensures gone { EachGoesOn T.is_log taker.old taker.new
+        (λ old new. HasGone limit 0 (length (round old.machine.config.k)) old result new) }
+    ensures config { (T.machine taker.new).config ≡ (T.machine taker.old).config }
+    ensures most { T.most taker.new ≡ T.most taker.old }
 {
-    machine_log::laws::reserved_log_is_well_formed(log);
-    if let Some(is_over) = take_row(log, limit, &Turns) {
+    let machine = taker.machine();
+    machine_steps::laws::machine_is_well_formed(machine);
+    if let Some(is_over) = take_row(taker, limit, &Turns) {
         return Some(is_over);
     }
-    if let Some(is_over) = take_ups(log, limit) {
+    if let Some(is_over) = take_ups(taker, limit) {
         return Some(is_over);
     }
-    if let Some(is_over) = take_row(log, limit, &Services) {
+    if let Some(is_over) = take_row(taker, limit, &Services) {
         return Some(is_over);
     }
-    take_downs(log, limit)
+    take_downs(taker, limit)
 }
 
 /// Goes through the rows of a round in which requests move up.
-fn take_ups(log: &mut ReservedLog, limit: usize) -> Option<bool>
-    requires room { limit ≤ length log.old.log.steps + log.old.capacity_left }
-    ensures gone { HasGoneRows limit 1 (log.old.log.machine.config.k + 1) log.old.log result log.new.log }
-    ensures room { length log.new.log.steps + log.new.capacity_left ≡ length log.old.log.steps + log.old.capacity_left }
+fn take_ups<T: StepTaker>(taker: &mut T, limit: usize) -> Option<bool>
+    requires room { limit ≤ T.most taker.old }
+    ensures gone { EachGoesOn T.is_log taker.old taker.new
+        (λ old new. HasGoneRows limit 1 (old.machine.config.k + 1) old result new) }
+    ensures config { (T.machine taker.new).config ≡ (T.machine taker.old).config }
+    ensures most { T.most taker.new ≡ T.most taker.old }
 {
-    machine_log::laws::reserved_log_is_well_formed(log);
-    let stages = log.machine().config().k;
+    let machine = taker.machine();
+    machine_steps::laws::machine_is_well_formed(machine);
+    let stages = machine.config().k;
     for passed in 0..stages {
         let row = Ups {
             stage: stages - 1 - passed,
         };
-        if let Some(is_over) = take_row(log, limit, &row) {
+        if let Some(is_over) = take_row(taker, limit, &row) {
             return Some(is_over);
         }
     }
@@ -152,15 +163,18 @@ fn take_ups(log: &mut ReservedLog, limit: usize) -> Option<bool>
 }
 
 /// Goes through the rows of a round in which replies move down.
-fn take_downs(log: &mut ReservedLog, limit: usize) -> Option<bool>
-    requires room { limit ≤ length log.old.log.steps + log.old.capacity_left }
-    ensures gone { HasGoneRows limit (log.old.log.machine.config.k + 2) (2 * log.old.log.machine.config.k + 2)
-        log.old.log result log.new.log }
-    ensures room { length log.new.log.steps + log.new.capacity_left ≡ length log.old.log.steps + log.old.capacity_left }
+fn take_downs<T: StepTaker>(taker: &mut T, limit: usize) -> Option<bool>
+    requires room { limit ≤ T.most taker.old }
+    ensures gone { EachGoesOn T.is_log taker.old taker.new
+        (λ old new. HasGoneRows limit (old.machine.config.k + 2) (2 * old.machine.config.k + 2) old result new) }
+    ensures config { (T.machine taker.new).config ≡ (T.machine taker.old).config }
+    ensures most { T.most taker.new ≡ T.most taker.old }
 {
-    machine_log::laws::reserved_log_is_well_formed(log);
-    for stage in 0..log.machine().config().k {
-        if let Some(is_over) = take_row(log, limit, &Downs { stage }) {
+    let machine = taker.machine();
+    machine_steps::laws::machine_is_well_formed(machine);
+    let stages = machine.config().k;
+    for stage in 0..stages {
+        if let Some(is_over) = take_row(taker, limit, &Downs { stage }) {
             return Some(is_over);
         }
     }
@@ -168,21 +182,24 @@ fn take_downs(log: &mut ReservedLog, limit: usize) -> Option<bool>
 }
 
 /// Asks for the steps of a row that may do something, one after another. If the round ends among them, returns whether
-/// the sweep is over; if it is not, the log has `limit` steps.
+/// the sweep is over; if it is not, `limit` steps are taken.
 // Inlined for each kind of row, so that the compiler knows what a step of that kind may do and answer.
 #[inline(always)]
-fn take_row<R: Row>(log: &mut ReservedLog, limit: usize, row: &R) -> Option<bool>
-    requires there { R.is_there row.now log.old.log.machine.config.k }
-    requires room { limit ≤ length log.old.log.steps + log.old.capacity_left }
-    ensures gone { HasGoneRow limit (R.number row.now log.old.log.machine.config.k) log.old.log result log.new.log }
-    ensures room { length log.new.log.steps + log.new.capacity_left ≡ length log.old.log.steps + log.old.capacity_left }
+fn take_row<T: StepTaker, R: Row>(taker: &mut T, limit: usize, row: &R) -> Option<bool>
+    requires there { R.is_there row.now (T.machine taker.old).config.k }
+    requires room { limit ≤ T.most taker.old }
+    ensures gone { EachGoesOn T.is_log taker.old taker.new
+        (λ old new. HasGoneRow limit (R.number row.now old.machine.config.k) old result new) }
+    ensures config { (T.machine taker.new).config ≡ (T.machine taker.old).config }
+    ensures most { T.most taker.new ≡ T.most taker.old }
 {
-    machine_log::laws::reserved_log_is_well_formed(log);
+    let machine = taker.machine();
+    machine_steps::laws::machine_is_well_formed(machine);
     let mut wire = 0;
-    while log.steps().len() < limit {
-        let next = row.first(log.machine(), wire)?;
-        let outcome = log.step(row.step(next));
-        if is_over(&outcome, log.machine()) {
+    while taker.count() < limit {
+        let next = row.first(taker.machine(), wire)?;
+        let outcome = taker.step(row.step(next));
+        if is_over(&outcome, taker.machine()) {
             return Some(true);
         }
         wire = next + 1;

@@ -283,7 +283,8 @@ asm_given file out words named =
 
 run_rows : (file : Text) → List Row
 run_rows file =
-    row (codes "FILE") file CommandLine ∷ row (codes "sweep") (codes "false") DefaultValue ∷ row (codes "quiet") (codes "false") DefaultValue ∷ []
+    row (codes "FILE") file CommandLine ∷ row (codes "sweep") (codes "false") DefaultValue
+    ∷ row (codes "no-log") (codes "false") DefaultValue ∷ row (codes "quiet") (codes "false") DefaultValue ∷ []
 
 run_met : (program file : Text) → IsNoOption file → Meets (program ∷ codes "run" ∷ file ∷ []) (codes "run") (run_rows file)
 unfolding row run_rows clap_on_literals commands
@@ -293,13 +294,14 @@ run_are : (file : Text) (words : List Text) → HasFile (codes "run") file words
     IsPlain s words
 unfolding name_of row run_rows
 run_are file words named (asked.Run r) said =
-    let sizes = said.1.4 in
-    let budget = said.1.5 in
-    let start = said.1.6 in (
+    let sizes = said.1.5 in
+    let budget = said.1.6 in
+    let start = said.1.7 in (
       file_read file r.file.now words named said.1.0,
       no_text r.trace said.1.1,
       unset r.sweep said.1.2.0,
-      unset r.quiet said.1.3.0,
+      unset r.no_log said.1.3.0,
+      unset r.quiet said.1.4.0,
       (sizes.0.0, sizes.1.0, sizes.2.0, sizes.3.0, sizes.4.0),
       budget.0,
       start.0,

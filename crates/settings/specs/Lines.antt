@@ -65,8 +65,8 @@ GivesDis rows d = IsPath (codes "FILE") rows d.file.now × IsNumber shared_words
 abbrev pub GivesRun : List Row → Run → Type 0
 GivesRun rows r = IsPath (codes "FILE") rows r.file.now
     × IsOption (codes "trace") rows (option_map (λ t. t.now) r.trace) × IsFlag (codes "sweep") rows r.sweep
-    × IsFlag (codes "quiet") rows r.quiet × AreSizes rows r.sizes × IsNumber budget rows r.budget
-    × IsNumber start rows r.start
+    × IsFlag (codes "no-log") rows r.no_log × IsFlag (codes "quiet") rows r.quiet × AreSizes rows r.sizes
+    × IsNumber budget rows r.budget × IsNumber start rows r.start
 
 abbrev pub GivesReplay : List Row → Replay → Type 0
 GivesReplay rows r = IsPath (codes "TRACE") rows r.trace.now × IsPath (codes "FILE") rows r.file.now

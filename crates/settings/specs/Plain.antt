@@ -51,7 +51,7 @@ IsPlain (asked.Check c) words = HasFile (codes "check") c.file.now words
 IsPlain (asked.Asm a) words = HasFiles (codes "asm") a.file.now a.out.now words
 IsPlain (asked.Dis d) words = HasFile (codes "dis") d.file.now words × (d.words ≡ 1024)
 IsPlain (asked.Run r) words = HasFile (codes "run") r.file.now words
-    × (r.trace ≡ None) × (r.sweep ≡ false) × (r.quiet ≡ false)
+    × (r.trace ≡ None) × (r.sweep ≡ false) × (r.no_log ≡ false) × (r.quiet ≡ false)
     × AreUsual r.sizes × (r.budget ≡ 10000000) × (r.start ≡ 1)
 IsPlain (asked.Hunt h) words = HasFile (codes "hunt") h.file.now words
     × (h.trace ≡ None) × (h.overwrite ≡ false) × (h.quiet ≡ false)

@@ -74,6 +74,8 @@ pub struct Run<'a> {
     pub trace: Option<&'a str>,
     /// Whether the schedule is the sweep. If not, each processor runs on a thread of its own.
     pub sweep: bool,
+    /// Whether the run keeps no log of its steps.
+    pub no_log: bool,
     /// Whether to leave out reports of the run's progress.
     pub quiet: bool,
     /// The sizes of the machine.

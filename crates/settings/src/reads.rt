@@ -180,6 +180,7 @@ fn run<'a>(matches: &ArgMatches<'a>) -> Run<'a>
         file: path(matches, "FILE"),
         trace: option(matches, "trace"),
         sweep: flag(matches, "sweep"),
+        no_log: flag(matches, "no-log"),
         quiet: flag(matches, "quiet"),
         sizes: sizes(matches),
         budget: number(matches, BUDGET),

@@ -4,6 +4,6 @@
 pub use Rattle.trace_commands.proofs.Logging.{is_spelled, only_memory}
 pub use Rattle.trace_commands.proofs.LogReports.{can_be_reported, no_run, run_printed}
 -- The tally that has noted the steps of a run has what the processors show in them.
-pub use Rattle.trace_commands.proofs.TakenAgain.{StepObserver, all_replayed}
+pub use Rattle.trace_commands.proofs.TakenAgain.{StepObserver, all_replayed, was_made}
 -- Lemmas of lower crates, passed on.
 pub use Rattle.machine_log.proofs.Lemmas.{none_stalls}

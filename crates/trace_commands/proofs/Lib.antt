@@ -1,5 +1,6 @@
 pub mod Tallying
 pub mod TakenAgain
+pub mod InMemory
 pub mod Logging
 pub mod LogReports
 pub mod FlatReports

@@ -1,4 +1,5 @@
 pub mod CountedReplays
+pub mod InMemory
 pub mod Reports
 pub mod TraceReports
 pub mod Explained

@@ -6,7 +6,9 @@
 //!
 //! A report depends only on the image, the machine's size and the steps: a machine that opens on the image takes the
 //! steps ([`replay_counted`]), and a tally counts what each step shows. [`print_run`] reports the log of a run in the
-//! same way. [`order_command`] prints an [`Order`], unless a number of its choice names nothing on the machine.
+//! same way. A machine that keeps no log counts what it shows as it goes ([`step_tallied`]), and is reported itself
+//! ([`report_with_status`]). [`order_command`] prints an [`Order`], unless a number of its choice names nothing on the
+//! machine.
 //!
 //! A [`Story`] takes the steps of the trace on a machine that opens on the image, and then those of a drain, and each
 //! step becomes a line ([`story_text`]). The others list all these steps first ([`drained_steps`]). For an order, a
@@ -50,10 +52,10 @@ pub use output::save;
 pub use picture::Picture;
 pub use printing::print_run;
 pub use replay::{Report, replay_command};
-pub use reporting::push_words;
+pub use reporting::{push_words, report_with_status};
 pub use states::exit_status;
 pub use stats::Stats;
 pub use story::Story;
-pub use taking::{drain_counted, replay_counted};
+pub use taking::{drain_tallied, drained, replay_counted, step_tallied};
 pub use telling::story_text;
 pub use trace_report::{TraceReport, trace_command};

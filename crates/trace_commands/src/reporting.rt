@@ -25,7 +25,7 @@ use std::alloc::{AllocError, Global};
 /// # Errors
 ///
 /// [`AllocError`] if there is no memory for it.
-pub(crate) fn report_with_status(
+pub fn report_with_status(
     alloc: Global,
     machine: &Machine,
     tally: &Tally,

@@ -1,6 +1,7 @@
 //! A tally for which memory may run out while the steps go on.
 
-ghost use Rattle.std.specs.Prelude.{◌≡◌, IfErr, IfOk, Some};
+ghost use Rattle.std.specs.Prelude.{◌≡◌, ◌+◌, ℕ, IfErr, IfOk, Some};
+ghost use Rattle.trace_commands.specs.CountedReplays.{HasRoom, IsTallied};
 
 use command_io::{Fault, Tally};
 use std::convert::Infallible;
@@ -41,11 +42,21 @@ impl StepObserver for TallyInMemory {
 
     #[inline(always)]
     fn observe(&mut self, step: Step, outcome: &Outcome) -> Result<(), Infallible> {
-        if let Some(tally) = &mut self.tally {
-            if tally.observe(step, outcome).is_err() {
-                self.tally = None;
-            }
-        }
+        note(&mut self.tally, step, outcome);
         Ok(())
+    }
+}
+
+/// Notes the outcome of a step in the tally, if there is one. If there is no memory for that, the tally is lost.
+#[inline(always)]
+pub(crate) fn note(tally: &mut Option<Tally>, step: Step, outcome: &Outcome)
+    requires room { (more : ℕ) × HasRoom tally.old (more + 1) }
+    ensures noted { IsTallied tally.old step outcome.now tally.new }
+    ensures room { (more : ℕ) → HasRoom tally.old (more + 1) → HasRoom tally.new more }
+{
+    if let Some(counting) = tally {
+        if counting.observe(step, outcome).is_err() {
+            *tally = None;
+        }
     }
 }

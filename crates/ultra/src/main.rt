@@ -28,7 +28,7 @@ use hunt_command::{Hunt as Hunted, HuntProgress, NoHuntProgress, hunt_command};
 use link::{LinkRead, LinkWrite, Meter};
 use machine_picture::Svg;
 use processor_threads::Open;
-use run_command::{Progress, run_command, threaded_run_command};
+use run_command::{Progress, run_command, threaded_run_command, unlogged_run_command};
 use settings::{
     Explore, Hunt, Replay, Run, Session, Settings, Sizes, TraceCommand, settings, status_of,
 };
@@ -250,12 +250,15 @@ fn run_file<
 ) -> Result<u8, Refusal<'a>>
     requires works { W.has_failed out.old ≡ false }
 {
+    if run.no_log && (!run.sweep || run.trace.is_some()) {
+        return Err(Refusal::NoLog);
+    }
     let mut file = Meter::new(open_beside(rt, run.file, run.trace, reason)?);
     let mut trace = trace_to(rt, run.trace, reason);
     Ok(run_image(rt, &mut file, run, terminal, &mut trace, out, err))
 }
 
-/// Runs an image, on threads or by the sweep. The progress of threads is reported on a terminal.
+/// Runs an image, on threads or by the sweep, with or without a log. The progress of threads is reported on a terminal.
 fn run_image<
     F: LinkRead,
     T: LinkWrite,
@@ -277,7 +280,9 @@ fn run_image<
 {
     let alloc = rt.alloc();
     let config = config_of(&run.sizes);
-    if run.sweep {
+    if run.no_log {
+        unlogged_run_command(alloc, file, config, run.budget, out, err)
+    } else if run.sweep {
         run_command(alloc, file, config, run.budget, trace, out, err)
     } else if terminal && !run.quiet {
         let gate = Progress::new(rt, rt);

@@ -15,6 +15,8 @@ pub(crate) enum Refusal<'a> {
     Half,
     /// A witness and every size are asked for.
     Every,
+    /// A run without a log is asked for on threads, or with a trace.
+    NoLog,
 }
 
 impl Refusal<'_> {
@@ -29,6 +31,7 @@ impl Refusal<'_> {
             Refusal::SameFile => refuse("OUT is the same file as FILE", err),
             Refusal::Half => refuse("--witness and --trace go together", err),
             Refusal::Every => refuse("--every goes with neither --witness nor --trace", err),
+            Refusal::NoLog => refuse("--no-log goes with --sweep, and not with --trace", err),
         }
     }
 }

@@ -6,6 +6,7 @@ mod ends;
 mod memory;
 mod replays;
 mod reports;
+mod unlogged;
 
 use flat_machine::Config;
 use link::Meter;

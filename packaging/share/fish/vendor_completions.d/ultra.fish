@@ -72,6 +72,7 @@ complete -c ultra -n '__ultra_wants_more dis 1 --words' -F
 
 complete -c ultra -n '__ultra_has_command run' -l trace -r -F -d 'Where to write the steps of the run, for `ultra replay`; opened after the run is over'
 complete -c ultra -n '__ultra_has_command run' -l sweep -d 'Run by the sweep, on one thread: every run gives the same result'
+complete -c ultra -n '__ultra_has_command run' -l no-log -d 'With --sweep, keep no log of the steps, so that --budget may be up to 4000000000 of them; not with --trace'
 complete -c ultra -n '__ultra_has_command run' -l quiet -d 'Show no progress line on a terminal'
 complete -c ultra -n '__ultra_has_command run' -l k -x -a '0 1 2 3 4 5 6' -d 'Stages of the network, 0 to 6; the machine has 2^k processors and 2^k memory modules [default: 2]'
 complete -c ultra -n '__ultra_has_command run' -l c -x -a '2 3 4 5 6 7 8 9 10 11 12 13 14 15 16' -d 'Messages that a queue of a switch holds, 2 to 16 [default: 4]'

@@ -45,4 +45,4 @@ returns-in_err-machine_of-clause-refused g c =
     rw (p.1, p.2)
     (not_run c.args.config (input {R = g.row.R.Denot} g.R.Read.remaining g.R.Link.has_failed c.args.file.now c.image_of.new.file)
     c.in_ok-image.image c.in_ok-image.ensures.image
-    c.args.budget c.in_err-machine_of.field-0.0 c.in_err-machine_of.ensures.refused)
+    (most_of c.args.budget) c.args.budget c.in_err-machine_of.field-0.0 c.in_err-machine_of.ensures.refused)

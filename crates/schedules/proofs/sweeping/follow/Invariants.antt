@@ -1,13 +1,14 @@
-use Rattle.std.proofs.Common.{◌≡◌, ◌+◌, ◌-◌, length}
+use Rattle.std.proofs.Common.{◌≡◌, ◌-◌}
+use Rattle.schedules.specs.Takers.{EachGoesOn}
 use Rattle.schedules.proofs.Following.{IsFollowing}
 use Rattle.schedules.proofs.sweeping.follow.Given as goal
 
-abbrev pub invariant-loop-log : goal.invariant-loop-log
-invariant-loop-log l = record {
-  config : l.log.log.machine.config ≡ l.initial.log.log.machine.config;
-  room : length l.log.log.steps + l.log.capacity_left ≡ length l.initial.log.log.steps + l.initial.log.capacity_left;
-  following : IsFollowing l.limit l.initial.log.log l.log.log;
+abbrev pub invariant-loop-taker : goal.invariant-loop-taker
+invariant-loop-taker g l = record {
+  config : (g.T.StepTaker.machine l.taker).config ≡ (g.T.StepTaker.machine l.initial.taker).config;
+  most : g.T.StepTaker.most l.taker ≡ g.T.StepTaker.most l.initial.taker;
+  following : EachGoesOn g.T.StepTaker.is_log l.initial.taker l.taker (IsFollowing l.limit);
 }
 
-abbrev pub decreases-loop-log : goal.decreases-loop-log
-decreases-loop-log l = l.limit - length l.log.log.steps
+abbrev pub decreases-loop-taker : goal.decreases-loop-taker
+decreases-loop-taker g l = l.limit - g.T.StepTaker.count l.taker

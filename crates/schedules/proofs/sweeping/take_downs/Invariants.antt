@@ -1,11 +1,13 @@
-use Rattle.std.proofs.Common.{◌≡◌, ◌+◌, ◌*◌, ◌^◌, ◌≤◌, None, length}
+use Rattle.std.proofs.Common.{◌≡◌, ◌+◌, ◌*◌, ◌^◌, ◌≤◌, None}
 use Rattle.schedules.specs.Sweeps.{HasGone}
+use Rattle.schedules.specs.Takers.{EachGoesOn}
 use Rattle.schedules.proofs.sweeping.take_downs.Given as goal
 
 abbrev pub invariant-loop-stage : goal.invariant-loop-stage
-invariant-loop-stage l = record {
-  gone : HasGone l.limit ((l.initial.log.log.machine.config.k + 2) * 2 ^ l.initial.log.log.machine.config.k) ((l.initial.log.log.machine.config.k + 2 +
-      l.stage) * 2 ^ l.initial.log.log.machine.config.k) l.initial.log.log None l.log.log;
-  room : length l.log.log.steps + l.log.capacity_left ≡ length l.initial.log.log.steps + l.initial.log.capacity_left;
-  few : l.initial.log.log.machine.config.k ≤ 6;
+invariant-loop-stage g l = record {
+  gone : EachGoesOn g.T.StepTaker.is_log l.initial.taker l.taker (λ old new.
+      HasGone l.limit ((old.machine.config.k + 2) * 2 ^ old.machine.config.k) ((old.machine.config.k + 2 + l.stage) * 2 ^ old.machine.config.k) old None new);
+  config : (g.T.StepTaker.machine l.taker).config ≡ (g.T.StepTaker.machine l.initial.taker).config;
+  most : g.T.StepTaker.most l.taker ≡ g.T.StepTaker.most l.initial.taker;
+  few : (g.T.StepTaker.machine l.initial.taker).config.k ≤ 6;
 }

@@ -1,20 +1,19 @@
-use Rattle.std.proofs.Common.{◌≡◌, ◌+◌, ◌-◌, ◌*◌, ◌^◌, ◌≤◌, length}
-use Rattle.machine_steps.specs.Runs.{IsReplay}
+use Rattle.std.proofs.Common.{◌≡◌, ◌+◌, ◌-◌, ◌*◌, ◌^◌, ◌≤◌}
 use Rattle.machine_log.specs.Logs.{Log}
 use Rattle.schedules.specs.Sweeps.{IsInRound}
+use Rattle.schedules.specs.Takers.{EachGoesOn}
 use Rattle.schedules.proofs.sweeping.take_row.Given as goal
 
-abbrev pub invariant-loop-log : goal.invariant-loop-log
-invariant-loop-log g l = record {
-  replay : IsReplay l.log.log.opening l.log.log.steps l.log.log.machine;
-  config : l.log.log.machine.config ≡ l.initial.log.log.machine.config;
-  stages : l.log.log.machine.config.k ≤ 6;
-  room : length l.log.log.steps + l.log.capacity_left ≡ length l.initial.log.log.steps + l.initial.log.capacity_left;
-  wire : l.wire ≤ 2 ^ l.initial.log.log.machine.config.k;
-  on : (start : Log) → IsInRound l.limit start (g.R.Row.number l.row l.initial.log.log.machine.config.k * 2 ^ l.initial.log.log.machine.config.k)
-      l.initial.log.log →
-      IsInRound l.limit start (g.R.Row.number l.row l.initial.log.log.machine.config.k * 2 ^ l.initial.log.log.machine.config.k + l.wire) l.log.log;
+abbrev pub invariant-loop-taker : goal.invariant-loop-taker
+invariant-loop-taker g l = record {
+  config : (g.T.StepTaker.machine l.taker).config ≡ (g.T.StepTaker.machine l.initial.taker).config;
+  most : g.T.StepTaker.most l.taker ≡ g.T.StepTaker.most l.initial.taker;
+  stages : (g.T.StepTaker.machine l.taker).config.k ≤ 6;
+  wire : l.wire ≤ 2 ^ (g.T.StepTaker.machine l.initial.taker).config.k;
+  on : EachGoesOn g.T.StepTaker.is_log l.initial.taker l.taker (λ old new. (start : Log) →
+      IsInRound l.limit start (g.R.Row.number l.row old.machine.config.k * 2 ^ old.machine.config.k) old →
+      IsInRound l.limit start (g.R.Row.number l.row old.machine.config.k * 2 ^ old.machine.config.k + l.wire) new);
 }
 
-abbrev pub decreases-loop-log : goal.decreases-loop-log
-decreases-loop-log g l = 2 ^ l.initial.log.log.machine.config.k - l.wire
+abbrev pub decreases-loop-taker : goal.decreases-loop-taker
+decreases-loop-taker g l = 2 ^ (g.T.StepTaker.machine l.initial.taker).config.k - l.wire

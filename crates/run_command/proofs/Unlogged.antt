@@ -1,0 +1,128 @@
+-- A machine that keeps no log has one all the same: it is that of a run of the image.
+use Rattle.std.proofs.Common.{◌≡◌, ℕ, ◌+◌, ◌++◌, List, length, Option, Some, refl, sym, ap, ◌∙◌, subst, arith}
+use Rattle.flat_machine.specs.declared.config.Config.{Config}
+use Rattle.elf_image.specs.Files.{IsImageOf}
+use Rattle.elf_image.specs.Images.{ImageContents}
+use Rattle.machine_steps.specs.steps.declared.step.Step.{Step}
+use Rattle.machine_steps.specs.Draining.{drain_steps}
+use Rattle.machine_steps.specs.Machines.{MachineLists}
+use Rattle.machine_steps.specs.Runs.{IsOpening, IsReplay}
+use Rattle.machine_log.specs.Logs.{Log}
+use Rattle.schedules.specs.Sweeps.{HasFollowed, IsSwept, opened}
+use Rattle.schedules.specs.declared.sweeping.SweepEnd.{SweepEnd}
+use Rattle.schedules.specs.declared.sweeping.SweepEnd.TheVariants.{Budget, Over}
+use Rattle.command_io.specs.declared.fault.Fault.{Fault}
+use Rattle.command_io.specs.declared.fault.Fault.TheVariants as fault
+use Rattle.command_io.specs.Links.{Input, Output}
+use Rattle.command_io.specs.Tallies.{TallyState}
+use Rattle.trace_commands.specs.Causes.{RunFails}
+use Rattle.trace_commands.specs.InMemory.{IsReplayInMemory}
+use Rattle.trace_commands.specs.TraceReports.{IsReportOf, IsReportedRun, IsRunReport}
+use Rattle.run_command.specs.CountedMachines.{CountedModel, IsCountedLog, IsDrainedLog}
+use Rattle.run_command.specs.SweepRuns.{IsCountedRun, IsNotCounted, IsRunWithin, IsSomeReport, IsSweptTo, RunFailsWithin, log_of, most_unlogged}
+use Rattle.run_command.specs.SweepRuns.{no_trace, sweep_run, without_log}
+
+-- ---- the machine
+
+-- A log of the machine counted has followed the sweep.
+abbrev pub HasFollowedCounted : (limit : ℕ) → (opening : MachineLists) → SweepEnd → CountedModel → Type 0
+HasFollowedCounted limit opening end counted = (after : Log) × IsCountedLog counted after × HasFollowed limit (opened opening) end after
+
+module _ (most limit : ℕ) (opening : MachineLists) (end : SweepEnd) (counted : CountedModel) (m : MachineLists) (tally : Option TallyState)
+    (same : limit ≡ most) (f : HasFollowedCounted limit opening end counted) (d : IsDrainedLog counted m tally) where
+  steps : List Step
+  steps = f.0.steps ++ drain_steps f.0.machine
+
+  in_memory : IsReplayInMemory opening steps m tally
+  in_memory = subst (λ (x : MachineLists). IsReplayInMemory x steps m tally) f.2.opening (d.counted f.0 f.1)
+
+  swept : IsSwept most (opened opening) end (log_of opening steps m)
+  swept = record {
+    middle = f.0;
+    followed = subst (λ n. HasFollowed n (opened opening) end f.0) (let sum : limit ≡ 0 + most = omega (arith, same) in sum) f.2;
+    opening = refl;
+    steps = refl;
+    idle = d.idle;
+  }
+
+  -- If the sweep was over and there was memory to count, the machine is that of a counted run.
+  pub counted_run : (t : TallyState) → tally ≡ Some t → end ≡ Over → IsCountedRun most opening m t
+  counted_run t there over = record {
+    steps = steps;
+    counted = in_memory.counted t there;
+    swept = subst (λ e. IsSwept most (opened opening) e (log_of opening steps m)) over swept;
+  }
+
+  -- In any case the machine has followed the sweep to this end.
+  pub is_swept : IsSweptTo most opening end
+  is_swept = record { steps = steps; machine = m; replay = in_memory.replay; swept = swept }
+
+-- ---- the run
+
+module _ (c : Config) (budget : ℕ) (file : Input) (image : ImageContents) (meant : IsImageOf c.shared_words file.bytes image) (m : MachineLists)
+    (opens : IsOpening c image m) where
+  abbrev most : ℕ
+  most = most_unlogged budget
+
+  run_within : (end : SweepEnd) (steps : List Step) (new : MachineLists) → IsReplay m steps new → IsSwept most (opened m) end (log_of m steps new) →
+      IsRunWithin most (sweep_run c budget file) end image (log_of m steps new)
+  run_within end steps new replay swept = record { meant = meant; whole = record { opens = opens; replay = replay; swept = swept } }
+
+  -- The report of a counted run is that of a run of the image.
+  pub is_reported : (new : MachineLists) (tally : TallyState) (text : List ℕ) (status : ℕ) (r : IsCountedRun most m new tally) →
+      IsReportOf c image r.steps text status → IsSomeReport (without_log (sweep_run c budget file)) text status
+  is_reported new tally text status r report = (
+    r.steps,
+    record {
+      image = image;
+      log = log_of m r.steps new;
+      is = run_within Over r.steps new r.counted.replay r.swept;
+      entered = refl;
+      report = report;
+    },
+  )
+
+  -- If the machine has not followed the sweep until it was over, there is no run, for the same fault.
+  pub not_counted : (f : Fault) → IsNotCounted most m f → RunFailsWithin most (sweep_run c budget file) f
+  not_counted fault.Budget p = (image, log_of m p.steps p.machine, run_within Budget p.steps p.machine p.replay p.swept)
+  not_counted fault.Memory p = tt
+  not_counted (fault.Image e) p = absurd p
+  not_counted (fault.Line n) p = absurd p
+  not_counted (fault.Text e) p = absurd p
+  not_counted fault.NotUtf8 p = absurd p
+  not_counted (fault.Trace e) p = absurd p
+  not_counted fault.Size p = absurd p
+  not_counted (fault.Stalled n) p = absurd p
+  not_counted fault.Full p = absurd p
+  not_counted fault.Loan p = absurd p
+  not_counted fault.Start p = absurd p
+  not_counted fault.States p = absurd p
+  not_counted fault.Alone p = absurd p
+  not_counted fault.Link p = absurd p
+
+-- ---- the command
+
+module _ (c : Config) (budget : ℕ) (file : Input) where
+  -- The report of the run is one of a command that is asked for no trace.
+  pub run_report : (text : List ℕ) (status : ℕ) → IsSomeReport (without_log (sweep_run c budget file)) text status →
+      IsRunReport (without_log (sweep_run c budget file)) no_trace status text
+  run_report text status r = record { steps = r.0; reported = r.1; saved = tt }
+
+  -- If there is no run, the command fails with the same fault.
+  pub run_fails : (out : Output) (f : Fault) → RunFailsWithin (most_unlogged budget) (sweep_run c budget file) f →
+      RunFails (without_log (sweep_run c budget file)) no_trace out f
+  run_fails out (fault.Image e) p = (p, refl)
+  run_fails out fault.Size p = (p, refl)
+  run_fails out fault.Budget p = (p, refl)
+  run_fails out fault.Memory p = (p, refl)
+  run_fails out (fault.Line n) p = absurd p
+  run_fails out (fault.Text e) p = absurd p
+  run_fails out fault.NotUtf8 p = absurd p
+  run_fails out (fault.Trace e) p = absurd p
+  run_fails out (fault.Stalled n) p = absurd p
+  run_fails out fault.Full p = absurd p
+  run_fails out fault.Loan p = absurd p
+  run_fails out fault.Start p = absurd p
+  run_fails out fault.States p = absurd p
+  run_fails out fault.Alone p = absurd p
+  run_fails out fault.Link p = absurd p

@@ -1,0 +1,13 @@
+use Rattle.std.proofs.Common.{◌^◌, refl, sym, ap, ◌∙◌}
+use Rattle.flat_machine.specs.declared.config.Config.{Config}
+use Rattle.run_command.proofs.Counting.{counted_none, noted_none}
+use Rattle.run_command.proofs.counted.CountedMachine.new.Goals as goal
+
+pub returns-clause-log : goal.returns-clause-log
+returns-clause-log c = record {
+  opening = sym c.of-opening.ensures;
+  machine = refl;
+  count = refl;
+  counted = counted_none c.args.machine c.new-tally.result c.ok.result c.processors.result c.ok.ensures.value c.new-tally.ensures
+      (c.processors.ensures ∙ ap (λ (d : Config). 2 ^ d.k) c.config.ensures.config);
+}

@@ -1,0 +1,18 @@
+use Rattle.std.proofs.lemmas.Result.{IfErr-at_err, IfOk-at_ok}
+use Rattle.command_io.proofs.Lemmas.{of_link, reports_with}
+use Rattle.run_command.proofs.unlogged.unlogged_run_command.Goals as goal
+
+pub returns-clause-reported : goal.returns-clause-reported
+returns-clause-reported g c low = IfOk-at_ok _ (c.report_outcome.ensures.done low) c.execute-outcome.ensures.reported
+
+pub returns-clause-fault : goal.returns-clause-fault
+returns-clause-fault g c high =
+    let outcome = c.execute-outcome.result in
+    let e = c.execute-outcome.ensures in
+    reports_with outcome _
+    (λ f is. record {
+      cause = IfErr-at_err _ is e.fault;
+      unread = of_link outcome f _ _ is e.unread;
+      unprinted = of_link outcome f _ _ is e.failed;
+    })
+    (c.report_outcome.ensures.fault high)

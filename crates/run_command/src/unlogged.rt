@@ -1,0 +1,130 @@
+//! `ultra run --sweep --no-log`: from the bytes of an image to the report of its run, without a log.
+
+ghost use Rattle.std.specs.Prelude.{◌≡◌, ◌≤◌, ◌↔◌, true, false, IfOk, IfErr, IsErrOf, OnErr, string_bytes};
+ghost use Rattle.trace_commands.specs.TraceReports.{PrintsRun};
+ghost use Rattle.trace_commands.specs.Causes.{RunCommandFails, RunFails};
+ghost use Rattle.command_io.specs.FaultTexts.{IsReported};
+ghost use Rattle.command_io.specs.Links.{input, output};
+ghost use Rattle.command_io.specs.Printing.{ReportsCause};
+ghost use Rattle.run_command.specs.SweepRuns.{IsCountedRun, IsNotCounted, IsSomeReport, RunFailsWithin, most_unlogged};
+ghost use Rattle.run_command.specs.SweepRuns.{no_trace, sweep_run, without_log};
+
+use crate::counted::CountedMachine;
+use command_io::{Fault, Tally, image_of, machine_of, print, report_outcome};
+use elf_image::ImageError;
+use flat_machine::Config;
+use link::{LinkRead, LinkWrite};
+use machine_steps::{Machine, laws};
+use schedules::{SweepEnd, follow};
+use std::alloc::Global;
+use std::io::Write;
+use trace_commands::report_with_status;
+
+/// The most steps that a run without a log takes before its drain. A tally counts fewer than 2^32.
+const MAX_UNLOGGED: u32 = 4_000_000_000;
+
+/// Reads an image, runs it by the sweep on a machine of this size, and prints the report, as [`crate::run_command`]
+/// does. It keeps no log of the steps, so that the run may take more of them, and it reports the machine itself. The
+/// sweep ends if a fault stops a processor, if no processor runs, or after as many steps as the budget; then the
+/// machine takes steps until no reference is open.
+///
+/// Returns the exit status: 0 if the report is printed, 1 if it is printed and a fault has stopped a processor, else
+/// that of the fault reported on standard error. Faults are checked in this order: of the image, of the machine's size,
+/// of the run, of the report.
+pub fn unlogged_run_command<R: LinkRead, W: LinkWrite, E: Write>(
+    alloc: Global,
+    file: &mut R,
+    config: Config,
+    budget: u32,
+    out: &mut W,
+    err: &mut E,
+) -> u8
+    requires reads { R.has_failed file.old ≡ false }
+    requires prints { W.has_failed out.old ≡ false }
+    ensures reported { result ≤ 1 → PrintsRun
+        (without_log (sweep_run config budget (input R.remaining R.has_failed file.old file.new)))
+        no_trace (output W.contents W.has_failed out.old out.new) result }
+    ensures fault { 2 ≤ result → ReportsCause (RunCommandFails
+        (without_log (sweep_run config budget (input R.remaining R.has_failed file.old file.new)))
+        no_trace (output W.contents W.has_failed out.old out.new))
+        (IsReported (E.contents err.old) (E.contents err.new)) result }
+    ensures unread { R.has_failed file.new ≡ true → result ≡ 3 }
+    ensures failed { W.has_failed out.new ≡ true → result ≡ 3 }
+    ensures silent { 2 ≤ result → W.has_failed out.new ≡ false → out.new ≡ out.old }
+    ensures quiet { result ≤ 1 → err.new ≡ err.old }
+{
+    let outcome = execute(alloc, file, config, budget, out);
+    report_outcome(outcome, err)
+}
+
+/// Executes the command.
+fn execute<R: LinkRead, W: LinkWrite>(
+    alloc: Global,
+    file: &mut R,
+    config: Config,
+    budget: u32,
+    out: &mut W,
+) -> Result<u8, Fault>
+    requires reads { R.has_failed file.old ≡ false }
+    requires prints { W.has_failed out.old ≡ false }
+    ensures reported { IfOk result (PrintsRun
+        (without_log (sweep_run config budget (input R.remaining R.has_failed file.old file.new)))
+        no_trace (output W.contents W.has_failed out.old out.new)) }
+    ensures fault { IfErr result (RunFails
+        (without_log (sweep_run config budget (input R.remaining R.has_failed file.old file.new)))
+        no_trace (output W.contents W.has_failed out.old out.new)) }
+    ensures unread { IsErrOf result (Fault.Image ImageError.Link) ↔ (R.has_failed file.new ≡ true) }
+    ensures failed { IsErrOf result Fault.Link ↔ (W.has_failed out.new ≡ true) }
+    ensures low { IfOk result (λ status. status ≤ 1) }
+    ensures silent { OnErr result (W.has_failed out.new ≡ false → out.new ≡ out.old) }
+{
+    let (text, status) = report_run(alloc, file, config, budget)?;
+    print(out, text.as_str())?;
+    Ok(status)
+}
+
+/// Runs the image, and returns the report of the run and its exit status.
+fn report_run<R: LinkRead>(
+    alloc: Global,
+    file: &mut R,
+    config: Config,
+    budget: u32,
+) -> Result<(String, u8), Fault>
+    requires reads { R.has_failed file.old ≡ false }
+    ensures reported { IfOk result (λ done. IsSomeReport
+        (without_log (sweep_run config budget (input R.remaining R.has_failed file.old file.new)))
+        (string_bytes done.0) done.1) }
+    ensures low { IfOk result (λ done. done.1 ≤ 1) }
+    ensures refused { IfErr result (RunFailsWithin (most_unlogged budget)
+        (sweep_run config budget (input R.remaining R.has_failed file.old file.new))) }
+    ensures unread { IsErrOf result (Fault.Image ImageError.Link) ↔ (R.has_failed file.new ≡ true) }
+{
+    let image = image_of(alloc, file, &config)?;
+    let machine = machine_of(alloc, image, config)?;
+    laws::machine_is_well_formed(&machine);
+    let (machine, tally) = run_to_end(alloc, machine, budget)?;
+    Ok(report_with_status(alloc, &machine, &tally, None)?)
+}
+
+/// Follows the sweep until it is over, and drains the machine. Returns it with what its processors have shown.
+///
+/// # Errors
+///
+/// [`Fault::Budget`] if the budget is used up before the sweep is over, otherwise [`Fault::Memory`] if there was no
+/// memory to count what processors showed.
+fn run_to_end(alloc: Global, machine: Machine, budget: u32) -> Result<(Machine, Tally), Fault>
+    ensures counted { IfOk result (λ done. IsCountedRun (most_unlogged budget) machine done.0 done.1) }
+    ensures refused { IfErr result (IsNotCounted (most_unlogged budget) machine) }
+{
+    let mut counted = CountedMachine::new(alloc, machine);
+    let most = budget.min(MAX_UNLOGGED);
+    let end = follow(&mut counted, most as usize);
+    let (machine, tally) = counted.drained();
+    match end {
+        SweepEnd::Budget => Err(Fault::Budget),
+        SweepEnd::Over => match tally {
+            Some(tally) => Ok((machine, tally)),
+            None => Err(Fault::Memory),
+        },
+    }
+}
