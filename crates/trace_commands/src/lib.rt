@@ -56,6 +56,6 @@ pub use reporting::{push_words, report_with_status};
 pub use states::exit_status;
 pub use stats::Stats;
 pub use story::Story;
-pub use taking::{drain_tallied, drained, replay_counted, step_tallied};
+pub use taking::{drain_counted, drain_tallied, replay_counted, step_tallied};
 pub use telling::story_text;
 pub use trace_report::{TraceReport, trace_command};

@@ -15,8 +15,8 @@ invariant_of-self-2 c =
     subst (AreWithin 0 (n + 1)) (sym c.in_ok-store.ensures.stored)
     (joined_within 0 n (n + 1) c.self.inside.nonzero.items (stored n c.args.value) c.self.invariant (stored_within n c.args.value))
 
-pub returns : goal.returns
-returns c =
+pub returns-clause-pushed : goal.returns-clause-pushed
+returns-clause-pushed c =
     let n = c.self.inside.len in
     ap (listed_words (n + 1)) c.in_ok-store.ensures.stored
     ∙ (pushed n c.args.value c.self.inside.nonzero.items c.self.invariant ∙ ap (λ xs. xs ++ c.args.value ∷ []) c.self.view_is)
