@@ -289,7 +289,8 @@ check 'the linker refuses an unknown section' \
 check 'the compiler refuses a shared variable with an initial value' refuses_c zero 'static SHARED(int) x = 5; int main(void) { return x; }'
 check 'the compiler refuses a fetch-and-add of a byte' \
     refuses_c negative 'static SHARED(char) x; int main(void) { return fetch_and_add(&x, 1); }'
-check 'make refuses compare-and-swap' refuses_c 'it uses lr.w or sc.w' \
+check 'make refuses compare-and-swap' \
+    refuses_c 'it uses lr.w or sc.w, which this machine does not have (fault 1): use fetch_and_add and its kin in ultra.h, not compare-and-swap (ultra explain fault 1)' \
     'static SHARED(int) x; int main(void) { int e = 0; return __atomic_compare_exchange_n(&x, &e, 1, 0, 5, 5); }'
 check 'the linker refuses too many shared variables' refuses_c 'need more words' 'static SHARED(int) x[2000]; int main(void) { return x[9]; }'
 check 'the linker refuses a size of the stack that is not a multiple of 16' refuses_c 'multiple of 16' 'int main(void) { return 0; }' STACK_SIZE=100

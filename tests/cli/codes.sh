@@ -57,3 +57,80 @@ explains_each_of_its_list() {
 check 'ultra explain explains all that it lists' explains_each_of_its_list
 check 'ultra explain refuses an unknown code, with status 2' \
     ends 2 "$(printf "error: unrecognized code 'A33'\n\n\`ultra explain\` lists what there is.")" ./ultra explain A33
+
+# explains_as NAME WORD ..: `ultra explain` with these words prints the text of NAME.
+explains_as() {
+    local name=$1
+    shift
+    diff <(./ultra explain "$name" && echo "status $?") <(./ultra explain "$@" && echo "status $?") || { echo "$*"; return 1; }
+}
+
+# Each line that the files of examples/broken cause is explained as its code, as one word and as several, with `ultra: `
+# and without.
+explains_the_lines() {
+    local line code tried=0
+    while read -r line; do
+        code=${line#ultra: }
+        # shellcheck disable=SC2086
+        explains_as "${code%% *}" "$line" && explains_as "${code%% *}" "$code" && explains_as "${code%% *}" $line &&
+            explains_as "${code%% *}" $code || return 1
+        tried=$((tried + 1))
+    done < <(grep -oE '`ultra: [^`]+`' examples/broken/README.md | tr -d '`' | sort -u)
+    [ "$tried" -gt 15 ]
+}
+check 'ultra explain takes each line of examples/broken as it is printed' explains_the_lines
+
+# A fault is explained as it stands in a report.
+explains_faults() {
+    local number
+    for number in {1..8}; do
+        explains_as "$number" fault "$number" && explains_as "$number" "fault $number" || return 1
+    done
+    ./ultra run --sweep --k 0 "$room/ebreak.elf" >"$room/out" 2>&1
+    # shellcheck disable=SC2046
+    explains_as 8 $(grep -o 'fault [0-9]' "$room/out")
+}
+check 'ultra explain takes a fault as it stands in a report' explains_faults
+check 'ultra explain refuses a line that is not printed, with status 2' \
+    ends 2 "$(printf "error: unrecognized code 'A3 lime 2'\n\n\`ultra explain\` lists what there is.")" ./ultra explain A3 lime 2
+
+# The text of fault 1 names what to write instead of lr.w and sc.w, and the text of each fault speaks of C.
+speaks_of_c() {
+    local number word
+    for number in {1..8}; do
+        ./ultra explain fault "$number" | grep -q '^In C: ' || { echo "$number"; return 1; }
+    done
+    ./ultra explain fault 1 >"$room/out"
+    for word in lr.w sc.w amoadd.w amoswap.w __atomic_compare_exchange fetch_and_add; do
+        grep -qF "\`$word" "$room/out" || grep -qF "    $word" "$room/out" || { echo "$word"; return 1; }
+    done
+}
+check 'the text of each fault speaks of C, and that of fault 1 of compare-and-swap' speaks_of_c
+
+# ---- help
+
+# prints_help STATUS LINE WORD ..: the command ends with STATUS, prints LINE among others, and nothing on standard error.
+prints_help() {
+    local status=$1 line=$2 ended=0
+    shift 2
+    ./ultra "$@" >"$room/out" 2>"$room/err" || ended=$?
+    diff /dev/null "$room/err" && grep -qFx "$line" "$room/out" && [ "$ended" -eq "$status" ] || { echo "$*: status $ended"; return 1; }
+}
+
+helps() {
+    prints_help 0 'Usage: ultra <COMMAND>' help && prints_help 0 'Usage: ultra run [OPTIONS] <FILE>' help run &&
+        prints_help 0 'Usage: ultra explain [CODE]...' help explain && prints_help 2 'Usage: ultra <COMMAND>' --help &&
+        prints_help 2 'Usage: ultra run [OPTIONS] <FILE>' run --help && prints_help 2 'ultra 0.1.0' --version
+}
+check 'ultra help and ultra help COMMAND end with status 0, --help and --version with 2' helps
+
+helps_with_unknown_command() {
+    ! ./ultra help frob >"$room/out" 2>"$room/err" && diff /dev/null "$room/out" &&
+        grep -qFx "error: unrecognized subcommand 'frob'" "$room/err"
+}
+check 'ultra help refuses an unknown command' helps_with_unknown_command
+
+help_to_a_full_disk() {
+    ./ultra help >/dev/full
+}
+check 'ultra help reports a full disk: link, status 3' ends_with_code 3 link "standard output: $no_space_left" help_to_a_full_disk

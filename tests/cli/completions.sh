@@ -88,8 +88,8 @@ offers_in_bash() {
 }
 check 'bash completes the value after an equals sign' offers_in_bash 'ultra run --r=' '1 2 3'
 check 'bash completes a begun value after an equals sign' offers_in_bash 'ultra run --c=1' '10 11 12 13 14 15 16'
-check 'bash offers an option once' offers_in_bash 'ultra dis --words 3 -' '--help'
-check 'bash offers all options if no file is due' offers_in_bash 'ultra dis FILE ' '--help --words'
+check 'bash offers an option once' offers_in_bash 'ultra dis --words 3 -' '--comments --help'
+check 'bash offers all options if no file is due' offers_in_bash 'ultra dis FILE ' '--comments --help --words'
 check 'bash offers no option after two dashes' offers_in_bash 'ultra dis -- FILE ' ''
 check 'bash offers topics in letters of either case' offers_in_bash 'ultra explain e0' 'E01 E02 E03 E04 E05 E06'
 

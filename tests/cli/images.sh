@@ -17,6 +17,16 @@ assembles_ebreak() {
 }
 check 'ebreak is assembled to the bytes that were worked out by hand, and disassembled' assembles_ebreak
 
+# The words are encoded by hand from the listing of Zalrsc in the RISC-V manual: lr.w.aqrl a0, (a2); sc.w a0, a1, (a2);
+# and lr.w with an rs2, which is none.
+names_missing_instructions() {
+    printf '.word 0x1606252f, 0x18b6252f, 0x1016252f\necall\n' >"$room/missing.s"
+    printf '%s\n' '00010000 1606252f - # lr.w' '00010004 18b6252f - # sc.w' '00010008 1016252f -' '0001000c 00000073 ecall' >"$room/named"
+    assembles_to "$room/missing.s" "$room/missing.elf" && diff "$room/named" <(./ultra dis --comments "$room/missing.elf") &&
+        diff <(sed 's/ # .*//' "$room/named") <(./ultra dis "$room/missing.elf")
+}
+check 'dis --comments names lr.w and sc.w' names_missing_instructions
+
 # The code of an example's image is that of the .dis file next to its text.
 disassembles_as_it_should() {
     assembles_to "$1" "$room/example.elf" && diff "${1%.s}.dis" <(./ultra dis "$room/example.elf" 2>&1)

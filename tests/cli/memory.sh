@@ -137,15 +137,15 @@ refuses_memory_of_code() {
 }
 check 'dis without memory for one request reports memory, status 4, or prints its lines' refuses_memory_of_code
 
-# A command line that asks for help, and one that is wrong.
+# The command `help`, a command line that asks for help, and one that is wrong.
 refuses_memory_of_usage() {
-    local words
-    for words in 'help run' words; do
+    local status words
+    while read -r status words; do
         # shellcheck disable=SC2086
         ./ultra $words >"$room/help" 2>"$room/usage"
         # shellcheck disable=SC2086
-        refuses_each_request 2 "$room/help" "$room/usage" $words || return 1
-    done
+        refuses_each_request "$status" "$room/help" "$room/usage" $words || return 1
+    done <<<$'0 help run\n2 run --help\n2 words'
 }
 check 'help and a wrong command line, without memory for one request, report memory, status 4, or print their text' refuses_memory_of_usage
 

@@ -65,10 +65,10 @@ counts_a_hot_spot() {
 # As docs/COMMANDS.md says: without wait buffers each of the 12,800 references moves through six stages by itself.
 # With buffers of four records, the requests of a round combine in pairs at each stage, so the module serves one for 64.
 counts_what_combining_saves() {
-    counts_a_hot_spot 0 'steps 217984 turns 51584 up 76800 serve 12800 down 76800 poke 0 rounds 13205' \
+    counts_a_hot_spot 0 'machine k 6 c 4 b 0 r 1' 'steps 217984 turns 51584 up 76800 serve 12800 down 76800 poke 0 rounds 13205' \
         'stage 0 up 12800 combined 0 down 12800 split 0 requests 2 records 0 replies 1' \
         'stage 5 up 12800 combined 0 down 12800 split 0 requests 4 records 0 replies 1' 'module 0 serves 12800 1x12800' &&
-        counts_a_hot_spot 4 'steps 89584 turns 51584 up 25200 serve 200 down 12600 poke 0 rounds 2806' \
+        counts_a_hot_spot 4 'machine k 6 c 4 b 4 r 1' 'steps 89584 turns 51584 up 25200 serve 200 down 12600 poke 0 rounds 2806' \
             'stage 0 up 6400 combined 6400 down 0 split 6400 requests 1 records 1 replies 1' \
             'stage 5 up 200 combined 200 down 0 split 200 requests 1 records 1 replies 1' 'module 0 serves 200 64x200'
 }

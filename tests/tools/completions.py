@@ -124,7 +124,7 @@ class Argument:
         self.help = fields["help"]
         self.low, self.high = fields.get("low"), fields.get("high")
         self.value = fields.get("value", "NUMBER" if self.low is not None else None)
-        self.is_option = self.kind not in ("Path", "Word")
+        self.is_option = self.kind not in ("Path", "Words")
 
     def values(self):
         """The values of a short range."""
@@ -197,7 +197,7 @@ def bash():
     for command in commands():
         options = " ".join(f"--{option.name}" for option in command.options() if option.kind != "Flag")
         flags = " ".join(f"--{option.name}" for option in command.options() if option.kind == "Flag")
-        places = " ".join("topic" if place.kind == "Word" else "file" for place in command.places())
+        places = " ".join("topic" if place.kind == "Words" else "file" for place in command.places())
         cases.append(f"        {command.name}) options='{options}' flags='{flags}' places=({places}) ;;")
         for option in command.options():
             if option.kind == "Text":
@@ -327,7 +327,7 @@ def zsh():
                 spec += f"[{in_brackets(option.help)}]"
             specs.append(quoted(spec))
         for at, place in enumerate(command.places(), 1):
-            specs.append(quoted(f"{at}:{place.name}:" + ("_ultra_topics" if place.kind == "Word" else "_files")))
+            specs.append(quoted(f"{at}:{place.name}:" + ("_ultra_topics" if place.kind == "Words" else "_files")))
         lines = " \\\n                ".join(specs)
         cases.append(f"        {command.name})\n            _arguments \\\n                {lines}\n            ;;")
     return f"""#compdef ultra
@@ -487,7 +487,7 @@ def item(label, text):
 
 def synopsis(command):
     options = ["[\\fIOPTION\\fR]..."] if command.options() else []
-    places = [f"\\fI{place.name}\\fR" if place.kind == "Path" else f"[\\fI{place.name}\\fR]" for place in command.places()]
+    places = [f"\\fI{place.name}\\fR" if place.kind == "Path" else f"[\\fI{place.name}\\fR]..." for place in command.places()]
     return f"\\fBultra {command.name}\\fR " + " ".join(options + places)
 
 

@@ -17,21 +17,22 @@ use std::alloc::{AllocError, Global};
 use std::io::Write;
 
 /// Reads an image for machines with this many shared words, and prints its code: a line for each word up to the last
-/// that is not zero. Returns the exit status: 0 if all lines are printed, otherwise that of the fault that is reported
-/// on standard error. All lines are made before the first is printed.
+/// that is not zero, with comments if they are wanted. Returns the exit status: 0 if all lines are printed, otherwise
+/// that of the fault that is reported on standard error. All lines are made before the first is printed.
 pub fn dis_command<R: LinkRead, W: LinkWrite, E: Write>(
     alloc: Global,
     file: &mut R,
     shared_words: u32,
+    comments: bool,
     out: &mut W,
     err: &mut E,
 ) -> u8
     requires reads { R.has_failed file.old ≡ false }
     requires works { W.has_failed out.old ≡ false }
     ensures listed { result ≡ 0 →
-        Prints (IsDisassembly shared_words (R.remaining file.old)) (W.contents out.old) (W.contents out.new) }
+        Prints (IsDisassembly shared_words comments (R.remaining file.old)) (W.contents out.old) (W.contents out.new) }
     ensures fault { result ≢ 0 → ReportsFault W.has_failed Fault.Link ⊥
-        (IsCauseOrUnread (DisassemblyFails shared_words (R.remaining file.old) (W.contents out.old) (W.contents
+        (IsCauseOrUnread (DisassemblyFails shared_words comments (R.remaining file.old) (W.contents out.old) (W.contents
         out.new))
         (Fault.Image ImageError.Link) (R.has_failed file.new))
         (IsReported (E.contents err.old) (E.contents err.new)) out.old out.new result }
@@ -39,7 +40,7 @@ pub fn dis_command<R: LinkRead, W: LinkWrite, E: Write>(
     ensures unread { R.has_failed file.new ≡ true → result ≡ 3 }
     ensures quiet { result ≡ 0 → err.new ≡ err.old }
 {
-    match execute(alloc, file, shared_words, out) {
+    match execute(alloc, file, shared_words, comments, out) {
         Ok(()) => DONE,
         Err(fault) => report_fault(fault, err),
     }
@@ -50,15 +51,16 @@ fn execute<R: LinkRead, W: LinkWrite>(
     alloc: Global,
     file: &mut R,
     shared_words: u32,
+    comments: bool,
     out: &mut W,
 ) -> Result<(), Fault>
     requires reads { R.has_failed file.old ≡ false }
     requires works { W.has_failed out.old ≡ false }
     ensures unread { IsErrOf result (Fault.Image ImageError.Link) ↔ (R.has_failed file.new ≡ true) }
     ensures failed { IsErrOf result Fault.Link ↔ (W.has_failed out.new ≡ true) }
-    ensures listed { OnOk result (Prints (IsDisassembly shared_words (R.remaining file.old)) (W.contents out.old)
-        (W.contents out.new)) }
-    ensures fault { IfErr result (DisassemblyFails shared_words (R.remaining file.old) (W.contents out.old)
+    ensures listed { OnOk result (Prints (IsDisassembly shared_words comments (R.remaining file.old))
+        (W.contents out.old) (W.contents out.new)) }
+    ensures fault { IfErr result (DisassemblyFails shared_words comments (R.remaining file.old) (W.contents out.old)
         (W.contents out.new)) }
     ensures silent { OnErr result (W.has_failed out.new ≡ false → out.new ≡ out.old) }
 {
@@ -71,15 +73,15 @@ fn execute<R: LinkRead, W: LinkWrite>(
         shared_words,
     };
     let image = image_of(alloc, file, &config)?;
-    let text = listing_of(alloc, &image)?;
+    let text = listing_of(alloc, &image, comments)?;
     print(out, text.as_str())
 }
 
 /// The lines of an image's code.
-fn listing_of(alloc: Global, image: &Image) -> Result<String, AllocError>
-    ensures { IfOk result (λ text. IsListing (region_of_bytes image.now.layout.code) (string_bytes text)) }
+fn listing_of(alloc: Global, image: &Image, comments: bool) -> Result<String, AllocError>
+    ensures { IfOk result (λ text. IsListing comments (region_of_bytes image.now.layout.code) (string_bytes text)) }
 {
     let layout = image.layout();
     let code = Code::new(alloc, layout.code.as_slice())?;
-    listing(alloc, &code)
+    listing(alloc, &code, comments)
 }

@@ -86,6 +86,10 @@ step = record { name = codes "step"; low = 0; high = 4294967295 }
 abbrev pub path : Text → Rule
 path id = record (new_rule id) { required = true }
 
+-- up to four words
+abbrev pub words : Text → Rule
+words id = record (new_rule id) { range = Some (record { start_inclusive = 0; end_inclusive = 4 }) }
+
 -- `--NAME TEXT`
 abbrev pub option : Text → Rule
 option name = record (new_rule name) { long = Some name; value_names = 1 }
@@ -114,7 +118,7 @@ unfoldable pub asm_command : App
 asm_command = with_rule (with_file (new_app (codes "asm"))) (path (codes "OUT"))
 
 unfoldable pub dis_command : App
-dis_command = with_number shared_words (with_file (new_app (codes "dis")))
+dis_command = with_number shared_words (with_rule (with_file (new_app (codes "dis"))) (flag (codes "comments")))
 
 -- the options for a machine's sizes
 abbrev pub with_sizes : App → App
@@ -141,7 +145,7 @@ unfoldable pub trace_command : TraceCommand → App
 trace_command command = replaying (trace_name command)
 
 unfoldable pub explain_command : App
-explain_command = with_rule (new_app (codes "explain")) (new_rule (codes "CODE"))
+explain_command = with_rule (new_app (codes "explain")) (words (codes "CODE"))
 
 unfoldable pub order_command : App
 order_command = with_rule (with_rule (replaying (codes "order")) (number processor)) (number shared_word)

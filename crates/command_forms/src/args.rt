@@ -15,7 +15,7 @@ pub(crate) fn arg_of<'a>(alloc: Global, argument: Argument) -> Arg<'a>
 {
     match argument {
         Argument::Path { id, help } => Arg::new(alloc, id).required(true).help(help),
-        Argument::Word { id, help } => Arg::new(alloc, id).help(help),
+        Argument::Words { id, help } => Arg::new(alloc, id).num_args(..=4).help(help),
         Argument::Text { name, value, help } => Arg::new(alloc, name)
             .long(name)
             .value_name(value)

@@ -35,8 +35,8 @@ pub(crate) enum Argument {
         id: &'static str,
         help: &'static str,
     },
-    /// A word, which is optional.
-    Word {
+    /// Up to four words.
+    Words {
         id: &'static str,
         help: &'static str,
     },
@@ -125,7 +125,14 @@ const ASM: CommandForm = CommandForm {
 const DIS: CommandForm = CommandForm {
     name: "dis",
     about: "Print the code of an image, a line for each word up to the last that is not zero",
-    arguments: &[IMAGE, Argument::Number(SHARED_WORDS)],
+    arguments: &[
+        IMAGE,
+        Argument::Flag {
+            name: "comments",
+            help: "Write the name of an instruction that the machine does not have behind its word, as `# lr.w`",
+        },
+        Argument::Number(SHARED_WORDS),
+    ],
     ends: DIS_ENDS,
 };
 
@@ -295,9 +302,9 @@ const DEBUG: CommandForm = CommandForm {
 const EXPLAIN: CommandForm = CommandForm {
     name: "explain",
     about: "Explain what a code that ultra prints means, what usually causes it and what to do",
-    arguments: &[Argument::Word {
+    arguments: &[Argument::Words {
         id: "CODE",
-        help: "A code, as `A3`, a fault's number, as `4`, or a page; without it, all of them are listed",
+        help: "What is printed, as `A3 line 2` or `fault 4`, its code alone, or a page; without it, all are listed",
     }],
     ends: EXPLAIN_ENDS,
 };

@@ -28,7 +28,8 @@ UTF-8 (`link`) or OUT cannot be written (`I9`), 4 out of memory.";
 /// What `dis` prints and reports, and its exit statuses.
 pub(crate) const DIS_ENDS: &str = "\
 Each line is an address, the word there and its instruction, as `00010000 00100073 ebreak`, or `-` if
-the word is no instruction.
+the word is no instruction. With --comments ` # lr.w` or ` # sc.w` follows if it is one of these two, by
+which other machines make compare-and-swap; `ultra explain 1` says what to use instead.
 
 Exit status: 0 done, 2 a refused image (`ultra: I1` to `I8`) or command line, 3 FILE cannot be opened
 (`link`) or read (`I9`) or standard output cannot be written (`link`), 4 out of memory.";
@@ -87,9 +88,10 @@ file or standard output failed, 4 out of memory.";
 
 /// What `explain` takes and prints, and its exit statuses.
 pub(crate) const EXPLAIN_ENDS: &str = "\
-CODE is what follows `ultra: `, without a line or a step, as `A3` of `ultra: A3 line 2`; the number of
-a fault in a report, as `4` of `fault 4`; an error of the debugger, as `E01`; or a page: `calls`, the
-environment calls of a program, and `memory-map`, the addresses that it sees. Case does not matter.
+CODE is what is printed on standard error, as `ultra: A3 line 2`, `A3 line 2` or `A3` alone; a fault in a
+report, as `fault 4`, or its number alone; an error of the debugger, as `E01`; or a page: `calls`, the
+environment calls of a program, and `memory-map`, the addresses that it sees. Case does not matter, and
+quotes around it make no difference.
 
 Exit status: 0 done, 2 nothing has that name, or a refused command line, 3 standard output cannot be
 written (`link`), 4 out of memory.";

@@ -1,5 +1,5 @@
 -- What the getters of clap's matches give, for plain values.
-use Rattle.std.proofs.Common.{◌≡◌, ◌∙◌, ◌==◌, ◌<◌, ◌≤◌, ◌^◌, ℕ, Bool, cond, ap, sym, arith, true≢false, [], ◌∷◌, drop}
+use Rattle.std.proofs.Common.{◌≡◌, ◌∙◌, ◌==◌, ◌<◌, ◌≤◌, ◌^◌, ℕ, Bool, cond, ap, sym, arith, true≢false, List, [], ◌∷◌, drop}
 use Rattle.std.proofs.Common.{Option, Some, None, Result, Ok, true, false, option_map, is_some, refl, pos, codes}
 use Rattle.std.specs.Prelude.{IfSome, IsSome, IsSomeAnd, MatchOption, unwrap_or}
 use Rattle.std.specs.Borrow.{Bor}
@@ -12,6 +12,7 @@ use Rattle.std.proofs.lemmas.Str.Parse.{digit_from_value}
 use Rattle.clap.specs.Lexer.{without_minus}
 use Rattle.clap.specs.Words.{IsSignedIn, ReadsOne, Text}
 use Rattle.clap.proofs.CallerReads.{signed_reads}
+use Rattle.settings.specs.Plain.{texts_of}
 
 -- If the plain value is present, the getter gives a text.
 pub text_there : (o : Option (Bor Text)) (t : Option Text) → option_map (λ s. s.now) o ≡ t → is_some t ≡ true → IsSome o
@@ -21,6 +22,16 @@ text_there (Some s) t e there = refl
 -- If the getter gives a text, the plain value is this text.
 pub text_given : (o : Option (Bor Text)) (t : Option Text) (s : Bor Text) → option_map (λ s. s.now) o ≡ t → o ≡ Some s → t ≡ Some s.now
 text_given o t s e is = sym e ∙ ap (option_map (λ s. s.now)) is
+
+-- If the getter gives texts, the plain value is these texts.
+pub texts_given : (texts : List (Bor Text)) (t : Option (List Text)) → Some (texts_of texts) ≡ t → texts_of texts ≡ unwrap_or t []
+texts_given texts (Some t) e = cc
+texts_given texts None e = cc
+
+-- If the getter gives none, there is no plain value.
+pub no_texts : (t : Option (List Text)) → None ≡ t → [] ≡ unwrap_or t []
+no_texts None e = refl
+no_texts (Some t) e = cc
 
 -- ---- flags
 

@@ -25,7 +25,7 @@ use Rattle.settings.specs.Lines.{Named}
 use Rattle.command_forms.specs.Commands.{trace_name, ultra_command}
 use Rattle.command_forms.specs.declared.forms.TraceCommand.{TraceCommand}
 use Rattle.command_forms.specs.declared.forms.TraceCommand.TheVariants as trace
-use Rattle.settings.specs.Plain.{HasCode, HasFile, HasFiles, HasTrace, IsNoOption, IsPlain}
+use Rattle.settings.specs.Plain.{HasFile, HasFiles, HasOthers, HasTrace, IsNoOption, IsPlain, texts_of}
 use Rattle.command_forms.proofs.Lemmas.{commands}
 use Rattle.settings.proofs.TraceNames.{no_trace}
 
@@ -168,25 +168,22 @@ unset : (b : Bool) → (b ≡ true → Some (codes "false") ≡ Some (codes "tru
 unset false f = refl
 unset true f = let bad : Some (codes "false") ≡ Some (codes "true") = f refl in cc
 
--- ---- the commands with one file and no flag: `words FILE`, `check FILE`, `dis FILE` and `debug FILE`
+-- ---- the commands with one file and no flag: `words FILE`, `check FILE` and `debug FILE`
 
 data FileCommand : Type 0 where
   OfWords : FileCommand
   OfCheck : FileCommand
-  OfDis : FileCommand
   OfDebug : FileCommand
 
 abbrev file_command : FileCommand → Text
 file_command OfWords = codes "words"
 file_command OfCheck = codes "check"
-file_command OfDis = codes "dis"
 file_command OfDebug = codes "debug"
 
 file_met : (c : FileCommand) (program file : Text) → IsNoOption file → Meets (program ∷ file_command c ∷ file ∷ []) (file_command c) (file_rows file)
 unfolding row file_rows clap_on_literals commands
 file_met OfWords program file h = rw (no_hyphens file h, no_hyphen file h, no_hyphen file h) (refl, refl)
 file_met OfCheck program file h = rw (no_hyphens file h, no_hyphen file h, no_hyphen file h) (refl, refl)
-file_met OfDis program file h = rw (no_hyphens file h, no_hyphen file h, no_hyphen file h) (refl, refl)
 file_met OfDebug program file h = rw (no_hyphens file h, no_hyphen file h, no_hyphen file h) (refl, refl)
 
 file_are : (c : FileCommand) (file : Text) (words : List Text) → HasFile (file_command c) file words → (s : Settings)
@@ -198,9 +195,6 @@ file_are OfWords file words named other said = apart (name_of other) (codes "wor
 file_are OfCheck file words named (asked.Check c) said = file_read file c.file.now words named said.1
 file_are OfCheck file words named (asked.Trace d r) said = no_trace d (codes "check") refl said.0
 file_are OfCheck file words named other said = apart (name_of other) (codes "check") refl said.0
-file_are OfDis file words named (asked.Dis d) said = (file_read file d.file.now words named said.1.0, said.1.1.0)
-file_are OfDis file words named (asked.Trace d r) said = no_trace d (codes "dis") refl said.0
-file_are OfDis file words named other said = apart (name_of other) (codes "dis") refl said.0
 file_are OfDebug file words named (asked.Debug d) said =
     let sizes = said.1.2 in
     let budget = said.1.3 in
@@ -279,6 +273,28 @@ asm_given : (file out : Text) (words : List Text) → HasFiles (codes "asm") fil
 asm_given file out words named =
     give _ words (codes "asm") (asm_rows file out) (rw named.1 (asm_met named.0 file out named.2 named.3)) (asm_are file out words named)
 
+-- ---- `dis FILE`
+
+dis_rows : (file : Text) → List Row
+dis_rows file = row (codes "FILE") file CommandLine ∷ row (codes "comments") (codes "false") DefaultValue ∷ []
+
+dis_met : (program file : Text) → IsNoOption file → Meets (program ∷ codes "dis" ∷ file ∷ []) (codes "dis") (dis_rows file)
+unfolding row dis_rows clap_on_literals commands
+dis_met program file h = rw (no_hyphens file h, no_hyphen file h, no_hyphen file h) (refl, refl)
+
+dis_are : (file : Text) (words : List Text) → HasFile (codes "dis") file words → (s : Settings) → (name_of s ≡ codes "dis") × AreOf (dis_rows file) s →
+    IsPlain s words
+unfolding name_of row dis_rows
+dis_are file words named (asked.Dis d) said =
+    let shared = said.1.2 in
+    (file_read file d.file.now words named said.1.0, unset d.comments said.1.1.0, shared.0)
+dis_are file words named (asked.Trace d r) said = no_trace d (codes "dis") refl said.0
+dis_are file words named other said = apart (name_of other) (codes "dis") refl said.0
+
+-- `dis FILE` gives the file, no flag, and the default of each number.
+dis_given : (file : Text) (words : List Text) → HasFile (codes "dis") file words → GivePlain words
+dis_given file words named = give _ words (codes "dis") (dis_rows file) (rw named.1 (dis_met named.0 file named.2)) (dis_are file words named)
+
 -- ---- `run FILE`
 
 run_rows : (file : Text) → List Row
@@ -347,32 +363,53 @@ hunt_are file words named other said = apart (name_of other) (codes "hunt") refl
 hunt_given : (file : Text) (words : List Text) → HasFile (codes "hunt") file words → GivePlain words
 hunt_given file words named = give _ words (codes "hunt") (hunt_rows file) (rw named.1 (hunt_met named.0 file named.2)) (hunt_are file words named)
 
--- ---- `explain [CODE]`
+-- ---- `explain [CODE]..`
 
-explain_rows : Option Text → List Row
-explain_rows None = []
-explain_rows (Some code) = row (codes "CODE") code CommandLine ∷ []
+explain_rows : List Text → List Row
+explain_rows [] = []
+explain_rows (word ∷ others) =
+    record { id = codes "CODE"; values = word ∷ others; count = None; source = Some CommandLine; reading = AsWritten } ∷ []
 
-explain_met : (code : Option Text) (words : List Text) → HasCode (codes "explain") code words → Meets words (codes "explain") (explain_rows code)
-unfolding row explain_rows clap_on_literals commands
-explain_met None words named = rw named.1 (refl, refl)
-explain_met (Some code) words named = rw (named.1, no_hyphens code named.2, no_hyphen code named.2, no_hyphen code named.2) (refl, refl)
+explain_met : (others words : List Text) → HasOthers (codes "explain") others words → Meets words (codes "explain") (explain_rows others)
+unfolding explain_rows clap_on_literals commands
+explain_met [] words named = rw named.1 (refl, refl)
+explain_met (a ∷ []) words named =
+    let h : IsNoOption a = named.2 0 a (omega arith) in
+    rw (named.1, no_hyphens a h, no_hyphen a h, no_hyphen a h) (refl, refl)
+explain_met (a ∷ b ∷ []) words named =
+    let h : IsNoOption a = named.2 0 a (omega arith) in
+    let k : IsNoOption b = named.2 1 a (omega arith) in
+    rw (named.1, no_hyphens a h, no_hyphen a h, no_hyphen a h, no_hyphens b k, no_hyphen b k, no_hyphen b k) (refl, refl)
+explain_met (a ∷ b ∷ c ∷ []) words named =
+    let h : IsNoOption a = named.2 0 a (omega arith) in
+    let k : IsNoOption b = named.2 1 a (omega arith) in
+    let l : IsNoOption c = named.2 2 a (omega arith) in
+    rw (named.1, no_hyphens a h, no_hyphen a h, no_hyphen a h, no_hyphens b k, no_hyphen b k, no_hyphen b k, no_hyphens c l, no_hyphen c l, no_hyphen c l)
+    (refl, refl)
+explain_met (a ∷ b ∷ c ∷ d ∷ []) words named =
+    let h : IsNoOption a = named.2 0 a (omega arith) in
+    let k : IsNoOption b = named.2 1 a (omega arith) in
+    let l : IsNoOption c = named.2 2 a (omega arith) in
+    let m : IsNoOption d = named.2 3 a (omega arith) in
+    rw (named.1, no_hyphens a h, no_hyphen a h, no_hyphen a h) (rw (no_hyphens b k, no_hyphen b k, no_hyphen b k)
+    (rw (no_hyphens c l, no_hyphen c l, no_hyphen c l) (rw (no_hyphens d m, no_hyphen d m, no_hyphen d m) (refl, refl))))
+explain_met (a ∷ b ∷ c ∷ d ∷ e ∷ others) words named = absurd (omega (arith, named.3))
 
-explain_code : (code : Option Text) (x : Explain) → GivesExplain (explain_rows code) x → code ≡ option_map (λ c. c.now) x.code
-unfolding row explain_rows
-explain_code None x said = said
-explain_code (Some code) x said = said
+explain_words : (others : List Text) (x : Explain) → GivesExplain (explain_rows others) x → others ≡ texts_of x.words.items
+unfolding explain_rows
+explain_words [] x said = sym said
+explain_words (word ∷ others) x said = sym said
 
-explain_are : (code : Option Text) (words : List Text) → HasCode (codes "explain") code words → (s : Settings)
-    → (name_of s ≡ codes "explain") × AreOf (explain_rows code) s → IsPlain s words
+explain_are : (others words : List Text) → HasOthers (codes "explain") others words → (s : Settings)
+    → (name_of s ≡ codes "explain") × AreOf (explain_rows others) s → IsPlain s words
 unfolding name_of
-explain_are code words named (asked.Explain x) said = subst (λ c. HasCode (codes "explain") c words) (explain_code code x said.1) named
-explain_are code words named (asked.Trace d r) said = no_trace d (codes "explain") refl said.0
-explain_are code words named other said = apart (name_of other) (codes "explain") refl said.0
+explain_are others words named (asked.Explain x) said = subst (λ them. HasOthers (codes "explain") them words) (explain_words others x said.1) named
+explain_are others words named (asked.Trace d r) said = no_trace d (codes "explain") refl said.0
+explain_are others words named other said = apart (name_of other) (codes "explain") refl said.0
 
--- `explain CODE` gives the code, and `explain` gives none.
-explain_given : (code : Option Text) (words : List Text) → HasCode (codes "explain") code words → GivePlain words
-explain_given code words named = give _ words (codes "explain") (explain_rows code) (explain_met code words named) (explain_are code words named)
+-- `explain` gives the words after it, of which there are at most four.
+explain_given : (others words : List Text) → HasOthers (codes "explain") others words → GivePlain words
+explain_given others words named = give _ words (codes "explain") (explain_rows others) (explain_met others words named) (explain_are others words named)
 
 -- ---- `explore FILE`
 
@@ -415,7 +452,7 @@ pub plain_given : (s : Settings) (words : List Text) → IsPlain s words → Giv
 plain_given (asked.Words w) words said = file_given OfWords w.file.now words said
 plain_given (asked.Check c) words said = file_given OfCheck c.file.now words said
 plain_given (asked.Asm a) words said = asm_given a.file.now a.out.now words said
-plain_given (asked.Dis d) words said = file_given OfDis d.file.now words said.0
+plain_given (asked.Dis d) words said = dis_given d.file.now words said.0
 plain_given (asked.Run r) words said = run_given r.file.now words said.0
 plain_given (asked.Hunt h) words said = hunt_given h.file.now words said.0
 plain_given (asked.Explore x) words said = explore_given x.file.now words said.0
@@ -423,4 +460,4 @@ plain_given (asked.Trace c r) words said = trace_given (Alone c) r.trace.now r.f
 plain_given (asked.Order o) words said = trace_given OfOrder o.replay.trace.now o.replay.file.now words said.0.0
 plain_given (asked.Picture p) words said = trace_given OfPicture p.replay.trace.now p.replay.file.now words said.0.0
 plain_given (asked.Debug d) words said = file_given OfDebug d.file.now words said.0
-plain_given (asked.Explain e) words said = explain_given (option_map (λ c. c.now) e.code) words said
+plain_given (asked.Explain e) words said = explain_given (texts_of e.words.items) words said

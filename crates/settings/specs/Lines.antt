@@ -1,8 +1,9 @@
 -- The settings for the words of a command line.
-use Rattle.std.specs.Prelude.{◌≡◌, ◌≤◌, ◌↔◌, ℕ, pos, Bool, true, List, codes, Option, Some, None, option_map, IsSomeAnd}
-use Rattle.std.specs.Prelude.{MatchOption}
+use Rattle.std.specs.Prelude.{◌≡◌, ◌≤◌, ◌↔◌, ℕ, pos, Bool, true, List, [], codes, Option, Some, None, option_map}
+use Rattle.std.specs.Prelude.{unwrap_or, IsSomeAnd, MatchOption}
 use Rattle.std.specs.Str.Parse.{signed_digits_value}
-use Rattle.clap.specs.Words.{Row, Text, first_of, subcommand_of}
+use Rattle.clap.specs.Words.{Row, Text, all_of, first_of, subcommand_of}
+use Rattle.settings.specs.Plain.{texts_of}
 use Rattle.settings.specs.declared.choice.Settings.{Settings}
 use Rattle.settings.specs.declared.choice.Settings.TheVariants as asked
 use Rattle.settings.specs.declared.choice.Words.{Words}
@@ -60,7 +61,8 @@ abbrev pub GivesAsm : List Row → Asm → Type 0
 GivesAsm rows a = IsPath (codes "FILE") rows a.file.now × IsPath (codes "OUT") rows a.out.now
 
 abbrev pub GivesDis : List Row → Dis → Type 0
-GivesDis rows d = IsPath (codes "FILE") rows d.file.now × IsNumber shared_words rows d.words
+GivesDis rows d = IsPath (codes "FILE") rows d.file.now × IsFlag (codes "comments") rows d.comments
+    × IsNumber shared_words rows d.words
 
 abbrev pub GivesRun : List Row → Run → Type 0
 GivesRun rows r = IsPath (codes "FILE") rows r.file.now
@@ -73,7 +75,7 @@ GivesReplay rows r = IsPath (codes "TRACE") rows r.trace.now × IsPath (codes "F
     × IsNumber shared_words rows r.words
 
 abbrev pub GivesExplain : List Row → Explain → Type 0
-GivesExplain rows e = IsOption (codes "CODE") rows (option_map (λ c. c.now) e.code)
+GivesExplain rows e = texts_of e.words.items ≡ unwrap_or (all_of (codes "CODE") rows) []
 
 abbrev pub GivesOrder : List Row → Order → Type 0
 GivesOrder rows o = GivesReplay rows o.replay × IsChoice processor rows o.processor × IsChoice shared_word rows o.word

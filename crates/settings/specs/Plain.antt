@@ -1,6 +1,6 @@
 -- Command lines without options, word by word.
-use Rattle.std.specs.Prelude.{◌≡◌, ◌≢◌, false, List, [], ◌∷◌, codes, map, Option, Some, None, option_map, slice_get}
-use Rattle.std.specs.Prelude.{IfSome}
+use Rattle.std.specs.Prelude.{◌≡◌, ◌≢◌, ◌≤◌, false, List, [], ◌∷◌, codes, length, map, None, slice_get, IfSome}
+use Rattle.std.specs.List.{All}
 use Rattle.std.specs.Borrow.{Bor}
 use Rattle.clap.specs.Words.{Text}
 use Rattle.command_forms.specs.Commands.{trace_name}
@@ -17,10 +17,6 @@ texts_of words = map (λ word. word.now) words
 abbrev pub IsNoOption : Text → Type 0
 IsNoOption word = IfSome (slice_get word 0) (λ b. b ≢ 45)
 
--- The words are the program's name and a command.
-abbrev pub IsAlone : (command : Text) → List Text → Type 0
-IsAlone command words = (program : Text) × (words ≡ program ∷ command ∷ [])
-
 -- The words are the program's name, a command and a file.
 abbrev pub HasFile : (command file : Text) → List Text → Type 0
 HasFile command file words = (program : Text) × (words ≡ program ∷ command ∷ file ∷ []) × IsNoOption file
@@ -34,22 +30,22 @@ HasFiles command one other words = (program : Text) × (words ≡ program ∷ co
 abbrev pub HasTrace : (command : Text) → Replay → List Text → Type 0
 HasTrace command r words = HasFiles command r.trace.now r.file.now words × (r.words ≡ 1024)
 
--- The words are the program's name, a command and the code, if there is one.
-abbrev pub HasCode : (command : Text) → Option Text → List Text → Type 0
-HasCode command None words = IsAlone command words
-HasCode command (Some code) words = HasFile command code words
+-- The words are the program's name, a command and others, of which there are at most four.
+abbrev pub HasOthers : (command : Text) → (others : List Text) → List Text → Type 0
+HasOthers command others words = (program : Text) × (words ≡ program ∷ command ∷ others) × All IsNoOption others
+    × (length others ≤ 4)
 
 -- The sizes are the defaults.
 abbrev pub AreUsual : Sizes → Type 0
 AreUsual s = (s.k ≡ 2) × (s.c ≡ 4) × (s.b ≡ 4) × (s.r ≡ 1) × (s.words ≡ 1024)
 
--- The words are just the command of these settings with its files or its code. So no flag is set, no trace is written,
--- no choice is made, and each number is its default.
+-- The words are just the command of these settings with its files, or `explain` with at most four words. So no flag is
+-- set, no trace is written, no choice is made, and each number is its default.
 abbrev pub IsPlain : Settings → List Text → Type 0
 IsPlain (asked.Words w) words = HasFile (codes "words") w.file.now words
 IsPlain (asked.Check c) words = HasFile (codes "check") c.file.now words
 IsPlain (asked.Asm a) words = HasFiles (codes "asm") a.file.now a.out.now words
-IsPlain (asked.Dis d) words = HasFile (codes "dis") d.file.now words × (d.words ≡ 1024)
+IsPlain (asked.Dis d) words = HasFile (codes "dis") d.file.now words × (d.comments ≡ false) × (d.words ≡ 1024)
 IsPlain (asked.Run r) words = HasFile (codes "run") r.file.now words
     × (r.trace ≡ None) × (r.sweep ≡ false) × (r.no_log ≡ false) × (r.quiet ≡ false)
     × AreUsual r.sizes × (r.budget ≡ 10000000) × (r.start ≡ 1)
@@ -64,4 +60,4 @@ IsPlain (asked.Order o) words = HasTrace (codes "order") o.replay words × (o.pr
 IsPlain (asked.Picture p) words = HasTrace (codes "picture") p.replay words × (p.step ≡ None)
 IsPlain (asked.Debug d) words = HasFile (codes "debug") d.file.now words
     × (d.trace ≡ None) × AreUsual d.sizes × (d.budget ≡ 100000) × (d.port ≡ 3333)
-IsPlain (asked.Explain e) words = HasCode (codes "explain") (option_map (λ c. c.now) e.code) words
+IsPlain (asked.Explain e) words = HasOthers (codes "explain") (texts_of e.words.items) words

@@ -1,9 +1,10 @@
 //! From the words of the command line to settings.
-ghost use Rattle.std.specs.Prelude.{◌≡◌, ◌≢◌, IfOk, MatchResult};
+ghost use Rattle.std.specs.Prelude.{◌≡◌, IfOk, MatchResult};
 ghost use Rattle.clap.specs.Words.{FailsBy, fault_of, kind_of};
 ghost use Rattle.command_forms.specs.Commands.{ultra_command};
 ghost use Rattle.settings.specs.Lines.{IsAsked};
 ghost use Rattle.settings.specs.Plain.{IsPlain, texts_of};
+ghost use Rattle.settings.specs.Statuses.{is_help, status_of_error};
 
 use crate::choice::Settings;
 use crate::reads::subcommand_settings;
@@ -18,7 +19,7 @@ fn read<'a>(alloc: Global, words: &'a [&'a str]) -> Result<Settings<'a>, Error>
     ensures kinds { FailsBy (fault_of ultra_command (texts_of words.entry.now)) result }
 {
     let matches = matches_of(alloc, words)?;
-    Ok(subcommand_settings(&matches))
+    Ok(subcommand_settings(alloc, &matches)?)
 }
 
 /// Returns what the words ask for. The first word is the program's name. An `Err` is a mistake in the words, a request
@@ -31,8 +32,8 @@ pub fn settings<'a>(alloc: Global, words: &'a [&'a str]) -> Result<Settings<'a>,
     // memory. A request for help or the version is a fault, too.
     ensures kinds { FailsBy (fault_of ultra_command (texts_of words.entry.now)) result }
 
-    // If the words are just a command with its files or its code, the settings say just that, with every option as if
-    // it were not given. The only possible error is out of memory.
+    // If the words are just a command with its files, or `explain` with at most four words, the settings say just that,
+    // with every option as if it were not given. The only possible error is out of memory.
     ensures plain { (s : Settings) → IsPlain s (texts_of words.entry.now) →
         MatchResult result (λ given. IsPlain given (texts_of words.entry.now))
         (λ e. kind_of e ≡ ErrorKind.OutOfMemory) }
@@ -40,13 +41,24 @@ pub fn settings<'a>(alloc: Global, words: &'a [&'a str]) -> Result<Settings<'a>,
     read(alloc, words)
 }
 
-/// The exit status for a command line that gives no settings: 4 if out of memory, else 2.
-pub fn status_of(error: &Error) -> u8
-    ensures memory { kind_of error.now ≡ ErrorKind.OutOfMemory → result ≡ 4 }
-    ensures refused { kind_of error.now ≢ ErrorKind.OutOfMemory → result ≡ 2 }
+/// The exit status for a command line that gives no settings: 4 if out of memory, 0 if `help` is the command and help
+/// is printed, else 2.
+pub fn status_of(words: &[&str], error: &Error) -> u8
+    ensures { result ≡ status_of_error (texts_of words.now) (kind_of error.now) }
 {
     match error.kind() {
         ErrorKind::OutOfMemory => 4,
+        ErrorKind::DisplayHelp if is_help(words) => 0,
         _ => 2,
+    }
+}
+
+/// Whether the command is `help`.
+fn is_help(words: &[&str]) -> bool
+    ensures { result ≡ is_help (texts_of words.now) }
+{
+    match words {
+        [_, command, ..] => *command == "help",
+        _ => false,
     }
 }

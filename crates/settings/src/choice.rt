@@ -61,6 +61,8 @@ pub struct Asm<'a> {
 pub struct Dis<'a> {
     /// The image.
     pub file: &'a str,
+    /// Whether to write the names of missing instructions as comments.
+    pub comments: bool,
     /// How many shared words the machine has for which the image is read, from 1 to 262,144.
     pub words: u32,
 }
@@ -97,11 +99,11 @@ pub struct Replay<'a> {
     pub words: u32,
 }
 
-/// `explain [CODE]`.
+/// `explain [CODE]..`.
 #[derive(Debug, PartialEq, Eq, Drop)]
 pub struct Explain<'a> {
-    /// The word to explain, if one is given.
-    pub code: Option<&'a str>,
+    /// The words that say what to explain, at most four. If there are none, all topics are listed.
+    pub words: Vec<&'a str>,
 }
 
 /// `order TRACE FILE`, and which lines it prints.

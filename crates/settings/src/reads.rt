@@ -1,9 +1,10 @@
 //! From the matches of a subcommand to its settings.
-ghost use Rattle.std.specs.Prelude.{◌≡◌, ◌≤◌, ◌<◌, ◌^◌, codes, option_map};
-ghost use Rattle.clap.specs.Words.{found_of, rows_of, subcommand_rows_of};
+ghost use Rattle.std.specs.Prelude.{◌≡◌, ◌≤◌, ◌<◌, ◌^◌, codes, option_map, unwrap_or, [], IfOk};
+ghost use Rattle.clap.specs.Words.{all_of, found_of, rows_of, subcommand_rows_of};
 ghost use Rattle.settings.specs.Lines.{AreSizes, GivesAsm, GivesCheck, GivesDis, GivesExplain, GivesExplore};
 ghost use Rattle.settings.specs.Lines.{GivesHunt, IsChoice, IsChosen, IsFlag, IsNumber, IsOption, GivesOrder};
 ghost use Rattle.settings.specs.Lines.{IsPath, GivesPicture, GivesReplay, GivesRun, GivesSession, GivesWords};
+ghost use Rattle.settings.specs.Plain.{texts_of};
 ghost use Rattle.settings.specs.Given.{HasAsm, HasDebug, HasDis, HasExplore, HasHunt, HasNumber, HasOrder};
 ghost use Rattle.settings.specs.Given.{HasPath, HasPicture, HasReplay, HasRun, HasSizes, IsComplete};
 ghost use Rattle.command_forms.specs.Forms.{bounded, bounds_as, ranged, ranged_as};
@@ -18,6 +19,7 @@ use command_forms::{
     RUN_STEPS, RUNS, SHARED_WORD, SHARED_WORDS, STAGES, START, STATES, STEP, STEPS, TraceCommand,
     WITNESS,
 };
+use std::alloc::{AllocError, Global};
 
 /// The text of a required argument.
 fn path<'a>(matches: &ArgMatches<'a>, id: &str) -> &'a str
@@ -154,6 +156,7 @@ fn dis<'a>(matches: &ArgMatches<'a>) -> Dis<'a>
 {
     Dis {
         file: path(matches, "FILE"),
+        comments: flag(matches, "comments"),
         words: number(matches, SHARED_WORDS),
     }
 }
@@ -199,12 +202,36 @@ fn replay<'a>(matches: &ArgMatches<'a>) -> Replay<'a>
     }
 }
 
-fn explain<'a>(matches: &ArgMatches<'a>) -> Explain<'a>
-    ensures { GivesExplain (rows_of (found_of matches.now)) result }
+/// The words of an optional argument, none if it is not given.
+fn words_of<'a>(
+    alloc: Global,
+    matches: &ArgMatches<'a>,
+    id: &str,
+) -> Result<Vec<&'a str>, AllocError>
+    ensures { IfOk result (λ words. texts_of words.items
+        ≡ unwrap_or (all_of id.now (rows_of (found_of matches.now))) []) }
 {
-    Explain {
-        code: option(matches, "CODE"),
+    match matches.get_raw(id) {
+        Some(words) => copy_of(alloc, words),
+        None => Ok(Vec::new(alloc)),
     }
+}
+
+/// A copy of a list of words.
+fn copy_of<'a>(alloc: Global, words: &[&'a str]) -> Result<Vec<&'a str>, AllocError>
+    ensures { IfOk result (λ copy. copy.items ≡ words.now) }
+{
+    let mut copy = Vec::new(alloc);
+    copy.extend_from_slice(words)?;
+    Ok(copy)
+}
+
+fn explain<'a>(alloc: Global, matches: &ArgMatches<'a>) -> Result<Explain<'a>, AllocError>
+    ensures { IfOk result (GivesExplain (rows_of (found_of matches.now))) }
+{
+    Ok(Explain {
+        words: words_of(alloc, matches, "CODE")?,
+    })
 }
 
 fn order<'a>(matches: &ArgMatches<'a>) -> Order<'a>
@@ -273,27 +300,30 @@ fn hunt<'a>(matches: &ArgMatches<'a>) -> Hunt<'a>
     }
 }
 
-/// The settings of the subcommand in the matches.
-pub(crate) fn subcommand_settings<'a>(matches: &ArgMatches<'a>) -> Settings<'a>
+/// The settings of the subcommand in the matches. The words that `explain` is given take memory.
+pub(crate) fn subcommand_settings<'a>(
+    alloc: Global,
+    matches: &ArgMatches<'a>,
+) -> Result<Settings<'a>, AllocError>
     requires { IsComplete (subcommand_rows_of matches.now) }
-    ensures { IsChosen (subcommand_rows_of matches.now) result }
+    ensures { IfOk result (IsChosen (subcommand_rows_of matches.now)) }
 {
     let (name, inner) = matches.subcommand().unwrap();
     if let Some(command) = TraceCommand::of_name(name) {
-        return Settings::Trace(command, replay(inner));
+        return Ok(Settings::Trace(command, replay(inner)));
     }
     match name {
-        "words" => Settings::Words(words(inner)),
-        "check" => Settings::Check(check(inner)),
-        "asm" => Settings::Asm(asm(inner)),
-        "dis" => Settings::Dis(dis(inner)),
-        "run" => Settings::Run(run(inner)),
-        "hunt" => Settings::Hunt(hunt(inner)),
-        "explore" => Settings::Explore(explore(inner)),
-        "order" => Settings::Order(order(inner)),
-        "picture" => Settings::Picture(picture(inner)),
-        "debug" => Settings::Debug(session(inner)),
-        "explain" => Settings::Explain(explain(inner)),
+        "words" => Ok(Settings::Words(words(inner))),
+        "check" => Ok(Settings::Check(check(inner))),
+        "asm" => Ok(Settings::Asm(asm(inner))),
+        "dis" => Ok(Settings::Dis(dis(inner))),
+        "run" => Ok(Settings::Run(run(inner))),
+        "hunt" => Ok(Settings::Hunt(hunt(inner))),
+        "explore" => Ok(Settings::Explore(explore(inner))),
+        "order" => Ok(Settings::Order(order(inner))),
+        "picture" => Ok(Settings::Picture(picture(inner))),
+        "debug" => Ok(Settings::Debug(session(inner))),
+        "explain" => Ok(Settings::Explain(explain(alloc, inner)?)),
         _ => unreachable!(),
     }
 }

@@ -41,19 +41,23 @@ Words(Words { file: "--a" })
 $ ultra asm a.s a.elf
 Asm(Asm { file: "a.s", out: "a.elf" })
 $ ultra dis a.elf
-Dis(Dis { file: "a.elf", words: 1024 })
+Dis(Dis { file: "a.elf", comments: false, words: 1024 })
 $ ultra dis a.elf --words 1
-Dis(Dis { file: "a.elf", words: 1 })
+Dis(Dis { file: "a.elf", comments: false, words: 1 })
 $ ultra dis --words 262144 a.elf
-Dis(Dis { file: "a.elf", words: 262144 })
+Dis(Dis { file: "a.elf", comments: false, words: 262144 })
 $ ultra dis --words=1000 a.elf
-Dis(Dis { file: "a.elf", words: 1000 })
+Dis(Dis { file: "a.elf", comments: false, words: 1000 })
 $ ultra dis a.elf --words=+7
-Dis(Dis { file: "a.elf", words: 7 })
+Dis(Dis { file: "a.elf", comments: false, words: 7 })
 $ ultra dis a.elf --words 00009
-Dis(Dis { file: "a.elf", words: 9 })
+Dis(Dis { file: "a.elf", comments: false, words: 9 })
+$ ultra dis --comments a.elf
+Dis(Dis { file: "a.elf", comments: true, words: 1024 })
+$ ultra dis a.elf --words 2 --comments
+Dis(Dis { file: "a.elf", comments: true, words: 2 })
 $ ultra dis --words 0001024 -- a.elf
-Dis(Dis { file: "a.elf", words: 1024 })
+Dis(Dis { file: "a.elf", comments: false, words: 1024 })
 "#;
 
 /// Wrong command lines with their errors, and parts of the help.
@@ -84,6 +88,12 @@ DisplayHelp
 Run a program of hex words on one processor and print its registers
 
 Usage: ultra words <FILE>
+$ ultra help
+DisplayHelp
+Usage: ultra <COMMAND>
+$ ultra help frob
+InvalidSubcommand
+error: unrecognized subcommand 'frob'
 $ ultra asm --help
 DisplayHelp
 Exit status: 0 done, 2 a fault of the text or of the command line,\
@@ -95,7 +105,7 @@ DisplayVersion
 ultra 0.1.0
 ";
 
-static CASES: [&str; 21] = [
+static CASES: [&str; 22] = [
     TAKEN,
     REFUSED,
     run::TAKEN,
@@ -104,6 +114,7 @@ static CASES: [&str; 21] = [
     replay::TAKEN,
     replay::HELP,
     explain::TAKEN,
+    explain::REFUSED,
     explain::HELP,
     order::TAKEN,
     order::HELP,
@@ -120,17 +131,21 @@ static CASES: [&str; 21] = [
 ];
 
 /// Compares an error with the expected answer. Returns an error if out of memory.
+///
+/// The status is 2, but for help that the command `help` prints.
 fn compare_error(
     rt: &(impl Abort + AllocGlobal),
     line: &str,
+    words: &[&str],
     error: &Error,
     answer: &str,
 ) -> Result<(), AllocError> {
     if error.kind() == ErrorKind::OutOfMemory {
-        assert_same!(rt; status_of(error), 4, line);
+        assert_same!(rt; status_of(words, error), 4, line);
         return Err(AllocError);
     }
-    assert_same!(rt; status_of(error), 2, line);
+    let is_help = line.starts_with("ultra help") && answer.starts_with("DisplayHelp\n");
+    assert_same!(rt; status_of(words, error), if is_help { 0 } else { 2 }, line);
     let (kind, part) = answer.split_once('\n').expect(rt, "a kind");
     let given = format!(in rt.alloc(); "{:?}", error.kind())?;
     assert_same!(rt; given.as_str(), kind, line);
@@ -149,7 +164,7 @@ fn compare(rt: &(impl Abort + AllocGlobal), case: &str) -> Result<(), AllocError
             assert_same!(rt; given.as_str(), answer, line);
             Ok(())
         }
-        Err(error) => compare_error(rt, line, &error, answer),
+        Err(error) => compare_error(rt, line, words.as_slice(), &error, answer),
     }
 }
 

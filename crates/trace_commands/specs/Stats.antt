@@ -1,5 +1,6 @@
 -- What `ultra stats` prints: from the bytes of files to counts of what the steps of a run did.
-use Rattle.std.specs.Prelude.{◌≡◌, ℕ, List}
+use Rattle.std.specs.Prelude.{◌≡◌, ◌++◌, ℕ, List, codes}
+use Rattle.std.specs.Fmt.{decimal}
 use Rattle.flat_machine.specs.declared.config.Config.{Config}
 use Rattle.elf_image.specs.Images.{ImageContents}
 use Rattle.steps.specs.declared.step.Step.{Step}
@@ -15,9 +16,14 @@ use Rattle.trace_commands.specs.Longest.{AreLongest}
 use Rattle.trace_commands.specs.Reports.{IsExitOf}
 use Rattle.trace_commands.specs.Explained.{IsDrainedWithSteps}
 
--- The machine of this size that opens on the image takes the steps. The lines have the counts of what the steps did,
--- the longest queues, and the fewest rounds of the sweep that take the steps. The exit status is that of the machine
--- after the steps.
+-- `machine k K c C b B r R`
+abbrev pub size_line : Config → List ℕ
+size_line config = codes "machine k " ++ decimal config.k ++ codes " c " ++ decimal config.c ++ codes " b "
+    ++ decimal config.b ++ codes " r " ++ decimal config.r ++ codes "\n"
+
+-- The machine of this size that opens on the image takes the steps. After the line of the size come the counts of what
+-- the steps did, the longest queues, and the fewest rounds of the sweep that take the steps. The exit status is that of
+-- the machine after the steps.
 pub record AreCountedSteps (c : Config) (image : ImageContents) (steps : List Step) (text : List ℕ)
     (status : ℕ) : Type 0 where
   pub opening : MachineLists
@@ -30,7 +36,7 @@ pub record AreCountedSteps (c : Config) (image : ImageContents) (steps : List St
   pub most : AreLongest opening steps longest
   pub rounds : ℕ
   pub fewest : IsFewest steps rounds
-  pub lines : text ≡ lines_of c.k counts longest rounds
+  pub lines : text ≡ size_line c ++ lines_of c.k counts longest rounds
   pub exit : IsExitOf machine status
 
 -- These are the lines that count the steps of a trace and those of a drain.

@@ -33,6 +33,7 @@ mod picture;
 mod printing;
 mod replay;
 mod reporting;
+mod size_line;
 mod states;
 mod stats;
 mod story;

@@ -2,6 +2,7 @@
 
 use crate::counting::count_steps;
 use crate::draining::drained_steps;
+use crate::size_line::below_size;
 use crate::states::exit_status;
 use crate::trace_report::TraceReport;
 use command_io::{Fault, machine_of_copy};
@@ -12,8 +13,8 @@ use std::alloc::Global;
 use steps::Step;
 
 /// What `ultra stats` prints for a trace ([`crate::trace_report::trace_command`]): takes the trace's steps, and then
-/// steps until no reference is open. The lines count what all these steps did. The exit status is 1 if a fault has
-/// stopped a processor.
+/// steps until no reference is open. The first line is the machine's size; the others count what all these steps did.
+/// The exit status is 1 if a fault has stopped a processor.
 #[derive(Clone, Copy, Debug, Drop)]
 pub struct Stats;
 
@@ -34,7 +35,8 @@ impl TraceReport for Stats {
         let (counts, longest) = count_steps(alloc, &mut machine, all.as_slice())?;
         let k = machine.config().k;
         let rounds = rounds_of(all.as_slice());
-        let text = counts_text(alloc, &counts, &longest, rounds, k)?;
+        let counted = counts_text(alloc, &counts, &longest, rounds, k)?;
+        let text = below_size(alloc, config, counted.as_str())?;
         Ok((text, exit_status(&machine)))
     }
 }

@@ -17,7 +17,7 @@ use crate::reports::{Explained, Place, Reason, Reports, place_of, report_place};
 use crate::traces::TraceFiles;
 use asm_commands::{asm_command, check_command, dis_command};
 use clap::Error;
-use command_io::{Fault, LINK_FAILED, REFUSED, report_fault};
+use command_io::{DONE, Fault, LINK_FAILED, SPENT, report_fault};
 use debug_session::debug_command;
 use explain_command::{all_topics, explain_command};
 use explore_command::{
@@ -97,7 +97,7 @@ fn carry_out_words<
     };
     match settings(rt.alloc(), words.as_slice()) {
         Ok(settings) => execute_and_report(rt, &settings, terminal, reason, out, err),
-        Err(error) => refuse_words(&error, out, err),
+        Err(error) => refuse_words(words.as_slice(), &error, reason, out, err),
     }
 }
 
@@ -165,7 +165,7 @@ fn execute<
         }
         Settings::Dis(dis) => {
             let mut file = Meter::new(open(rt, dis.file, reason)?);
-            Ok(dis_command(alloc, &mut file, dis.words, out, err))
+            Ok(dis_command(alloc, &mut file, dis.words, dis.comments, out, err))
         }
         Settings::Run(run) => run_file(rt, run, terminal, reason, out, err),
         Settings::Hunt(hunt) => hunt_file(rt, hunt, terminal, reason, out, err),
@@ -203,7 +203,8 @@ fn execute<
         Settings::Debug(session) => debug_file(rt, session, reason, out, err),
         Settings::Explain(explain) => {
             let topics = all_topics();
-            Ok(explain_command(alloc, &topics, explain.code, out, err))
+            let words = explain.words.as_slice();
+            Ok(explain_command(alloc, &topics, words, out, err))
         }
     }
 }
@@ -493,17 +494,36 @@ fn refuse_arguments<E: Write>(kind: ErrorKind, err: &mut E) -> u8 {
     refuse("an argument is not UTF-8", err)
 }
 
-/// Reports why the command line is refused, in the words of its parser. Help that was asked for goes to standard
-/// output.
-fn refuse_words<W: Write, E: Write>(error: &Error, out: &mut W, err: &mut E) -> u8 {
-    let status = status_of(error);
-    if status != REFUSED {
+/// Reports why the command line is refused, in the words of its parser. Help and the version that were asked for go to
+/// standard output.
+fn refuse_words<W: LinkWrite, E: Write>(
+    words: &[&str],
+    error: &Error,
+    reason: &Reason,
+    out: &mut W,
+    err: &mut E,
+) -> u8 {
+    let status = status_of(words, error);
+    if status == SPENT {
         return report_fault(Fault::Memory, err);
     }
-    let _ = if error.use_stderr() {
-        write!(err, "{error}")
-    } else {
-        write!(out, "{error}")
-    };
+    if error.use_stderr() {
+        let _ = write!(err, "{error}");
+        return status;
+    }
+    match write!(out, "{error}") {
+        // The command line is the first fault, whether its text can be printed or not. The command `help` is none.
+        Err(_) if status == DONE => refuse_help(reason, out, err),
+        _ => status,
+    }
+}
+
+/// Reports that help cannot be printed: standard output has failed, or there is no memory for the text.
+fn refuse_help<W: LinkWrite, E: Write>(reason: &Reason, out: &W, err: &mut E) -> u8 {
+    if !out.failed() {
+        return report_fault(Fault::Memory, err);
+    }
+    let status = report_fault(Fault::Link, err);
+    report_place(Place::StandardOutput, reason.get(), err);
     status
 }

@@ -275,7 +275,7 @@ fn unknown(rt: &(impl Abort + AllocGlobal), most: usize) -> bool {
 }
 
 /// Command lines with one argument too many: the argument, and the usage.
-static ONE_TOO_MANY: [(&str, &str, &str); 6] = [
+static ONE_TOO_MANY: [(&str, &str, &str); 5] = [
     ("words a.hex b.hex", "b.hex", "words <FILE>"),
     ("asm a.s a.elf b.elf", "b.elf", "asm <FILE> <OUT>"),
     ("run a.elf b.elf", "b.elf", "run [OPTIONS] <FILE>"),
@@ -284,7 +284,6 @@ static ONE_TOO_MANY: [(&str, &str, &str); 6] = [
         "b.elf",
         "replay [OPTIONS] <TRACE> <FILE>",
     ),
-    ("explain A3 A4", "A4", "explain [CODE]"),
     ("check a.s a.elf", "a.elf", "check <FILE>"),
 ];
 

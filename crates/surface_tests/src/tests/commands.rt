@@ -18,15 +18,17 @@ fn words_are_settings(rt: HostRuntime) -> Result<(), Fail> {
         Ok(found) => {
             let wanted = Settings::Dis(Dis {
                 file: "a.elf",
+                comments: false,
                 words: 1024,
             });
             assert_same!(rt; found, wanted);
         }
         Err(_) => return Err(Fail::from("a mistake")),
     }
-    match settings(rt.alloc(), &["ultra"]) {
+    let alone = ["ultra"];
+    match settings(rt.alloc(), &alone) {
         Ok(_) => return Err(Fail::from("no command")),
-        Err(error) => assert_same!(rt; status_of(&error), 2),
+        Err(error) => assert_same!(rt; status_of(&alone, &error), 2),
     }
     Ok(())
 }
@@ -60,7 +62,14 @@ fn texts_become_images_and_lines(rt: HostRuntime) -> Result<(), Fail> {
     })
     .comes_to(0, &EBREAK, "")?;
     ran!(Vec::new(alloc), Vec::new(alloc), |out, err| {
-        dis_command(alloc, &mut Meter::new(EBREAK.as_slice()), 1024, out, err)
+        dis_command(
+            alloc,
+            &mut Meter::new(EBREAK.as_slice()),
+            1024,
+            false,
+            out,
+            err
+        )
     })
     .comes_to(0, b"00010000 00100073 ebreak\n", "")
 }

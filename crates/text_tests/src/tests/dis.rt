@@ -10,7 +10,7 @@ use test_support::{
     Deaf, EBREAK, Endless, HUNDRED_ADDS, Meter, Ran, Source, assert_same, ran, with_bytes,
 };
 
-/// The outcome of disassembling a file, with devices for the lines and for standard error.
+/// The outcome of disassembling a file without comments, with devices for the lines and for standard error.
 fn run_on<R: Read + Drop, W: Write + Drop, E: Write + Drop>(
     alloc: Global,
     file: R,
@@ -21,7 +21,7 @@ fn run_on<R: Read + Drop, W: Write + Drop, E: Write + Drop>(
     ran!(
         lines,
         reported,
-        |out, err| dis_command(alloc, &mut Meter::new(file), shared_words, out, err)
+        |out, err| dis_command(alloc, &mut Meter::new(file), shared_words, false, out, err)
     )
 }
 
@@ -112,6 +112,51 @@ fn lists_the_code(rt: HostRuntime) -> Result<(), Fail> {
     run_image(rt.alloc(), &EBREAK, 1024).comes_to(0, LINES.as_bytes(), "")?;
     for (text, lines) in &LISTED {
         run_text(rt.alloc(), text, 1024)?.comes_to(0, lines.as_bytes(), "")?;
+    }
+    Ok(())
+}
+
+/// Words, and what follows the words on their lines with comments. `lr.w` has no rs2, so the word with rs2 1 is none.
+/// They are encoded by hand from the listing of Zalrsc in the RISC-V manual: funct5 00010 and 00011, aq, rl, rs2, rs1,
+/// 010, rd, 0101111.
+static COMMENTED: [(u32, &str); 10] = [
+    (0x1006_252F, "- # lr.w"), // lr.w a0, (a2)
+    (0x1606_252F, "- # lr.w"), // lr.w.aqrl a0, (a2)
+    (0x1406_A5AF, "- # lr.w"), // lr.w.aq a1, (a3)
+    (0x18B6_252F, "- # sc.w"), // sc.w a0, a1, (a2)
+    (0x1EB6_252F, "- # sc.w"), // sc.w.aqrl a0, a1, (a2)
+    (0x1AC5_A5AF, "- # sc.w"), // sc.w.rl a1, a2, (a1)
+    (0x1016_252F, "-"),
+    (0x1006_352F, "-"), // lr.d a0, (a2)
+    (0x18B6_352F, "-"), // sc.d a0, a1, (a2)
+    (0x00B6_252F, "amoadd.w x10, x11, (x12)"),
+];
+
+/// With comments, missing instructions have their names; without, they have none.
+#[test]
+fn names_missing_instructions(rt: HostRuntime) -> Result<(), Fail> {
+    let alloc = rt.alloc();
+    for (word, behind) in &COMMENTED {
+        let text = format!(in alloc; ".word {word}\n")?;
+        let image = image_of(alloc, text.as_str())?;
+        for comments in [true, false] {
+            let shown = match behind.split_once(" #") {
+                Some((plain, _)) if !comments => plain,
+                _ => behind,
+            };
+            let lines = format!(in alloc; "00010000 {word:08x} {shown}\n")?;
+            ran!(Vec::new(alloc), Vec::new(alloc), |out, err| {
+                dis_command(
+                    alloc,
+                    &mut Meter::new(image.as_slice()),
+                    1024,
+                    comments,
+                    out,
+                    err,
+                )
+            })
+            .comes_to(0, lines.as_bytes(), "")?;
+        }
     }
     Ok(())
 }

@@ -6,10 +6,11 @@ use link::Meter;
 use run_command::run_command;
 use std::alloc::Global;
 use std::test::Fail;
-use test_support::{ADD_AT_X12, FOUR_ADDS, assert_same, image_of, trace_of};
+use test_support::{ADD_AT_X12, EBREAK, FOUR_ADDS, assert_same, image_of, trace_of};
 
-/// The first line of the counts, without the number of rounds.
-const COUNTS: &str = "steps 27 turns 8 up 6 serve 1 down 3 poke 9 rounds ";
+/// The line of the size, and the first line of the counts, without the number of rounds.
+const COUNTS: &str = "machine k 2 c 4 b 4 r 1
+steps 27 turns 8 up 6 serve 1 down 3 poke 9 rounds ";
 
 /// The other lines. All requests that meet combine, so no queue holds more than one request or reply.
 const PARTS: &str = "
@@ -50,6 +51,26 @@ fn four_adds(rt: HostRuntime) -> Result<(), Fail> {
         assert_same!(rt; ran.err.len(), 0);
         assert_same!(rt; ran.status, 0);
     }
+    Ok(())
+}
+
+/// The trace of no steps on a machine of two processors, with queues of 7 messages and wait buffers of 5 records, whose
+/// queued requests can be combined three times.
+const NO_STEPS: [u8; 16] = [0x55, 0x4C, 0x54, 0x52, 2, 1, 7, 5, 3, 0, 0, 0, 0, 0, 0, 0];
+
+#[test]
+fn names_the_size(rt: HostRuntime) -> Result<(), Fail> {
+    let ran = run(
+        rt.alloc(),
+        Asked::Stats,
+        NO_STEPS.as_slice(),
+        Ok(EBREAK.as_slice()),
+        1,
+    );
+    let text = str::from_utf8(ran.out.as_slice())?;
+    let first = "machine k 1 c 7 b 5 r 3\nsteps 0 turns 0 up 0 serve 0 down 0 poke 0 rounds 0\n";
+    assert!(rt; text.starts_with(first), "{text}");
+    assert_same!(rt; ran.status, 0);
     Ok(())
 }
 
@@ -108,7 +129,8 @@ fn all_meet_at_one_word(rt: HostRuntime) -> Result<(), Fail> {
     for (b, first) in [
         (
             0,
-            "steps 17648 turns 6448 up 4800 serve 1600 down 4800 poke 0 rounds 1716
+            "machine k 3 c 4 b 0 r 1
+steps 17648 turns 6448 up 4800 serve 1600 down 4800 poke 0 rounds 1716
 stage 0 up 1600 combined 0 down 1600 split 0 requests 2 records 0 replies 1
 stage 1 up 1600 combined 0 down 1600 split 0 requests 3 records 0 replies 1
 stage 2 up 1600 combined 0 down 1600 split 0 requests 4 records 0 replies 1
@@ -118,7 +140,8 @@ module 1 serves 0
         ),
         (
             4,
-            "steps 10848 turns 6448 up 2800 serve 200 down 1400 poke 0 rounds 1606
+            "machine k 3 c 4 b 4 r 1
+steps 10848 turns 6448 up 2800 serve 200 down 1400 poke 0 rounds 1606
 stage 0 up 800 combined 800 down 0 split 800 requests 1 records 1 replies 1
 stage 1 up 400 combined 400 down 0 split 400 requests 1 records 1 replies 1
 stage 2 up 200 combined 200 down 0 split 200 requests 1 records 1 replies 1
@@ -141,7 +164,7 @@ module 1 serves 0
             text.ends_with("processor 7 turns 806 retired 605\n"),
             "{text}"
         );
-        assert_same!(rt; text.lines().count(), 20);
+        assert_same!(rt; text.lines().count(), 21);
         assert_same!(rt; ran.status, 0);
     }
     Ok(())

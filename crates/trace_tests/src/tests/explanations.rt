@@ -15,10 +15,10 @@ struct Ran {
     err: Vec<u8>,
 }
 
-fn run(alloc: Global, word: Option<&str>) -> Ran {
+fn run(alloc: Global, words: &[&str]) -> Ran {
     let mut out = Meter::new(Vec::new(alloc));
     let mut err = Vec::new(alloc);
-    let status = explain_command(alloc, &all_topics(), word, &mut out, &mut err);
+    let status = explain_command(alloc, &all_topics(), words, &mut out, &mut err);
     Ran {
         status,
         out: out.device,
@@ -91,12 +91,12 @@ fn words_of(alloc: Global, name: &str) -> Result<[String; 2], AllocError> {
     Ok(words)
 }
 
-/// Each name is explained in both cases, by a text that begins with the name and a colon.
+/// Each name is explained in upper and lower case, by a text that begins with the name and a colon.
 #[test]
 fn explains_each_name(rt: HostRuntime) -> Result<(), Fail> {
     for name in &NAMES {
         for word in &words_of(rt.alloc(), name)? {
-            let ran = run(rt.alloc(), Some(word.as_str()));
+            let ran = run(rt.alloc(), &[word.as_str()]);
             let beginning = format!(in rt.alloc(); "{name}: ")?;
             assert!(rt; ran.out.starts_with(beginning.as_bytes()), "{word}");
             assert!(rt; ran.out.ends_with(b"\n"), "{word}");
@@ -110,7 +110,7 @@ fn explains_each_name(rt: HostRuntime) -> Result<(), Fail> {
 /// The lines of the list that have a colon begin with the names, in their order; empty lines and headings have none.
 #[test]
 fn lists_each_name(rt: HostRuntime) -> Result<(), Fail> {
-    let ran = run(rt.alloc(), None);
+    let ran = run(rt.alloc(), &[]);
     assert_same!(rt; ran.status, 0);
     assert_same!(rt; ran.err.len(), 0);
     let text = str::from_utf8(ran.out.as_slice())?;
@@ -149,35 +149,102 @@ fn assert_laid_out(rt: &impl Abort, topics: &[Topic]) {
     }
 }
 
-/// The answer to a word that names nothing.
-fn refusal_of(alloc: Global, word: &str) -> Result<String, AllocError> {
-    format!(in alloc; "error: unrecognized code '{word}'\n\n`ultra explain` lists what there is.\n")
+/// What `ultra` prints, and the name of the topic that explains it.
+static PRINTED: [(&[&str], &str); 22] = [
+    (&["fault", "4"], "4"),
+    (&["fault 4"], "4"),
+    (&["FAULT 1"], "1"),
+    (&["A3", "line", "2"], "A3"),
+    (&["A3 line 2"], "A3"),
+    (&["A3", "line 2"], "A3"),
+    (&["a3 LINE 007"], "A3"),
+    (&["ultra:", "A3", "line", "2"], "A3"),
+    (&["ultra: A3 line 2"], "A3"),
+    (&["V1 line 16385"], "V1"),
+    (&["X7 step 0"], "X7"),
+    (&["ultra: X7", "step", "4194303"], "X7"),
+    (&["ultra: I10"], "I10"),
+    (&["ULTRA:", "i1"], "I1"),
+    (&["ultra: link"], "link"),
+    (&["ultra:", "Start"], "Start"),
+    (&["ultra: L2"], "L2"),
+    (&["K1"], "K1"),
+    (&["8"], "8"),
+    (&["E06"], "E06"),
+    (&["memory-map"], "memory-map"),
+    (&["Memory"], "memory"),
+];
+
+/// What is printed is explained by the text of the name alone.
+#[test]
+fn explains_what_is_printed(rt: HostRuntime) {
+    let alloc = rt.alloc();
+    for (words, name) in &PRINTED {
+        let ran = run(alloc, words);
+        let wanted = run(alloc, &[*name]);
+        assert_same!(rt; ran.out.as_slice(), wanted.out.as_slice(), name);
+        assert_same!(rt; ran.err.len(), 0, name);
+        assert_same!(rt; ran.status, 0, name);
+    }
 }
 
-/// Words that are close to names, but name nothing.
+/// The answer to a text that asks for nothing.
+fn refusal_of(alloc: Global, text: &str) -> Result<String, AllocError> {
+    format!(in alloc; "error: unrecognized code '{text}'\n\n`ultra explain` lists what there is.\n")
+}
+
+/// Texts that are close to names or to what is printed, but ask for nothing.
+static UNKNOWN: [&str; 34] = [
+    "",
+    " ",
+    "A",
+    "A33",
+    "A3 ",
+    " A3",
+    "A3 2",
+    "A3 line",
+    "A3 line ",
+    "A3 line x",
+    "A3 line 2 ",
+    "A3 line -2",
+    "A3 line 2 column 4",
+    "A3  line 2",
+    "A3line 2",
+    "A3 steps 2",
+    "line 2",
+    "ultra:",
+    "ultra: ",
+    "ultra:A3",
+    "ultra: ultra: A3",
+    "ultra: 4",
+    "ultra: fault 4",
+    "ultra: E01",
+    "ultra: calls",
+    "link line 2",
+    "fault",
+    "fault ",
+    "fault 04",
+    "fault 9",
+    "fault A3",
+    "memory map",
+    "calls step 1",
+    "\u{391}1",
+];
+
 #[test]
-fn refuses_an_unknown_word(rt: HostRuntime) -> Result<(), Fail> {
-    for word in [
-        "",
-        "A",
-        "A33",
-        "A3 ",
-        "A3 line 2",
-        "ultra: A3",
-        "0",
-        "9",
-        "04",
-        "fault",
-        "memory map",
-        "\u{391}1",
-    ] {
-        assert!(rt; all_topics().named(word).is_none(), "{word}");
-        let ran = run(rt.alloc(), Some(word));
-        let asked = refusal_of(rt.alloc(), word)?;
+fn refuses_what_is_unknown(rt: HostRuntime) -> Result<(), Fail> {
+    for text in &UNKNOWN {
+        assert!(rt; all_topics().topic_asked(text).is_none(), "{text}");
+        let ran = run(rt.alloc(), &[*text]);
+        let asked = refusal_of(rt.alloc(), text)?;
         assert_same!(rt; ran.err.as_slice(), asked.as_bytes());
-        assert_same!(rt; ran.out.len(), 0, word);
-        assert_same!(rt; ran.status, 2, word);
+        assert_same!(rt; ran.out.len(), 0, text);
+        assert_same!(rt; ran.status, 2, text);
     }
+    let ran = run(rt.alloc(), &["A3", "lime", "2"]);
+    let asked = refusal_of(rt.alloc(), "A3 lime 2")?;
+    assert_same!(rt; ran.err.as_slice(), asked.as_bytes());
+    assert_same!(rt; ran.status, 2);
     Ok(())
 }
 
@@ -186,19 +253,19 @@ fn refuses_an_unknown_word(rt: HostRuntime) -> Result<(), Fail> {
 #[test]
 fn tells_that_it_cannot_print(rt: HostRuntime) {
     let alloc = rt.alloc();
-    for word in [None, Some("A3")] {
-        let whole = run(alloc, word);
+    for words in [&[] as &[&str], &["A3"]] {
+        let whole = run(alloc, words);
         for room in [0, 1, 7] {
             let mut out = Meter::new(Sink::new(Vec::new(alloc), room + 1));
             let mut err = Vec::new(alloc);
-            assert_same!(rt; explain_command(alloc, &all_topics(), word, &mut out, &mut err), 3);
+            assert_same!(rt; explain_command(alloc, &all_topics(), words, &mut out, &mut err), 3);
             assert_same!(rt; out.device.bytes.len(), room);
             assert!(rt; whole.out.starts_with(out.device.bytes.as_slice()));
             assert_same!(rt; err.as_slice(), b"ultra: link\n".as_slice());
         }
     }
     let mut out = Meter::new(Full);
-    assert_same!(rt; explain_command(alloc, &all_topics(), Some("none"), &mut out, &mut Full), 2);
+    assert_same!(rt; explain_command(alloc, &all_topics(), &["none"], &mut out, &mut Full), 2);
     assert!(rt; !out.failed());
 }
 
@@ -207,10 +274,10 @@ fn tells_that_it_cannot_print(rt: HostRuntime) {
 #[test]
 fn is_short_of_memory(rt: HostRuntime) -> Result<(), Fail> {
     let alloc = rt.alloc();
-    for word in [None, Some("a3")] {
+    for words in [&[] as &[&str], &["a3", "line", "1"]] {
         let mut out = Meter::new(Sink::new(Vec::with_capacity(alloc, 8192)?, 0));
         let mut err = Vec::with_capacity(alloc, 64)?;
-        match explain_command(alloc, &all_topics(), word, &mut out, &mut err) {
+        match explain_command(alloc, &all_topics(), words, &mut out, &mut err) {
             0 => assert!(rt; 0 < out.device.bytes.len()),
             status => {
                 assert_same!(rt; status, 4);

@@ -66,6 +66,7 @@ complete -c ultra -n '__ultra_wants_more check 1' -F
 complete -c ultra -n '__ultra_has_command asm' -l help -d 'Print help'
 complete -c ultra -n '__ultra_wants_more asm 2' -F
 
+complete -c ultra -n '__ultra_has_command dis' -l comments -d 'Write the name of an instruction that the machine does not have behind its word, as `# lr.w`'
 complete -c ultra -n '__ultra_has_command dis' -l words -x -d 'Shared words of four bytes that the machine has, 1 to 262144 [default: 1024]'
 complete -c ultra -n '__ultra_has_command dis' -l help -d 'Print help'
 complete -c ultra -n '__ultra_wants_more dis 1 --words' -F

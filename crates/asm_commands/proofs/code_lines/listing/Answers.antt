@@ -10,5 +10,5 @@ returns c =
       within = c.word_count-index-end.ensures.few;
       after = c.word_count-index-end.ensures.after;
       last = c.word_count-index-end.ensures.last;
-      lines = c.loop-index.invariant ∙ ap (lines_of c.args.code.now) all;
+      lines = c.loop-index.invariant ∙ ap (lines_of c.args.comments c.args.code.now) all;
     }

@@ -1,4 +1,4 @@
-use Rattle.std.proofs.Common.{◌≡◌, List, [], refl, sym, ◌∙◌, ap, subst}
+use Rattle.std.proofs.Common.{◌≡◌, List, [], ◌++◌, refl, sym, ◌∙◌, ap, subst}
 use Rattle.flat_machine.specs.declared.config.Config.{Config}
 use Rattle.machine_steps.specs.messages.Network.{IsEmptyNet, empty_net}
 use Rattle.omega_network.specs.Networks.{net_of}
@@ -13,6 +13,7 @@ use Rattle.run_counts.specs.Lines.{lines_of}
 use Rattle.run_counts.specs.Rounds.{IsFewest}
 use Rattle.machine_steps.specs.Answers.{answers_of}
 use Rattle.trace_commands.specs.Longest.{AreLongest}
+use Rattle.trace_commands.specs.Stats.{size_line}
 use Rattle.trace_commands.proofs.stats.StatsTraceReport.text.Goals as goal
 
 pub returns-clause-fault : goal.returns-clause-fault
@@ -42,8 +43,10 @@ returns-clause-fault c =
             (c.in_ok-counts.ensures.longest nothing);
         rounds = c.rounds_of-rounds.result;
         fewest = subst (λ (steps : List Step). IsFewest steps c.rounds_of-rounds.result) c.as_slice-2.ensures.value c.rounds_of-rounds.ensures;
-        lines = c.in_ok-text.ensures ∙ ap (λ (d : Config). lines_of d.k c.in_ok-counts.counts c.in_ok-counts.longest c.rounds_of-rounds.result)
-            (c.config-k.ensures.config ∙ run.config ∙ opens.config);
+        lines = c.in_ok-text.ensures ∙ ap (λ lines. size_line c.args.config ++ lines)
+            (c.as_str.ensures.value ∙ c.in_ok-counted.ensures
+            ∙ ap (λ (d : Config). lines_of d.k c.in_ok-counts.counts c.in_ok-counts.longest c.rounds_of-rounds.result)
+            (c.config-k.ensures.config ∙ run.config ∙ opens.config));
         exit = c.exit_status.ensures;
       };
     }
