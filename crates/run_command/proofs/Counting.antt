@@ -1,8 +1,9 @@
 -- A machine that counts its steps, and what its processors show in them.
 use Rattle.std.proofs.Common.{◌≡◌, ℕ, zero, suc, ◌+◌, ◌*◌, ◌^◌, ◌<◌, ◌≤◌, true, false, List, [], ◌∷◌, ◌++◌, length, Option, Some, None}
 use Rattle.std.proofs.Common.{refl, sym, ap, ◌∙◌, subst, arith}
-use Rattle.std.specs.Prelude.{Err, IfOk, Ok, Result, replicate}
+use Rattle.std.specs.Prelude.{Err, IfOk, Ok, Result, replicate, if◌then◌else◌}
 use Rattle.std.specs.Result.{result_ok}
+use Rattle.std.proofs.lemmas.Bool.{true≢false}
 use Rattle.std.proofs.lemmas.List.{length-append}
 use Rattle.flat_machine.specs.declared.config.Config.{Config}
 use Rattle.flat_machine.specs.declared.event.Event.{Event}
@@ -97,5 +98,15 @@ module _ (old : CountedModel) (m : MachineLists) (tally : Option TallyState) (s 
   }
 
 -- A step that does something is one more.
-pub one_more : (steps : List Step) (s : Step) (o : Outcome) (count : ℕ) → (o ≡ Stalled → ⊥) → length steps ≡ count → length (entered steps s o) ≡ count + 1
-one_more steps s o count moves is = ap length (entered_moving steps s o moves) ∙ length-append steps (s ∷ []) ∙ ap (λ n. n + 1) is
+pub one_more : (steps : List Step) (s : Step) (o : Outcome) (count : ℕ) → is_stalled o ≡ false → length steps ≡ count →
+    length (entered steps s o) ≡ count + 1
+one_more steps s o count moves is =
+    ap length (entered_moving steps s o (λ e. true≢false (sym (ap is_stalled e) ∙ moves))) ∙ length-append steps (s ∷ []) ∙ ap (λ n. n + 1) is
+
+-- A step that stalls is none.
+pub no_more : (steps : List Step) (s : Step) (o : Outcome) (count : ℕ) → is_stalled o ≡ true → length steps ≡ count → length (entered steps s o) ≡ count
+no_more steps s o count stalls is = ap (λ b. length (if b then steps else steps ++ s ∷ [])) stalls ∙ is
+
+-- An outcome that is not stalled is not `Stalled`.
+pub moving_is : (o : Outcome) → is_stalled o ≡ false → o ≡ Stalled → ⊥
+moving_is o moves e = true≢false (sym (ap is_stalled e) ∙ moves)

@@ -1,5 +1,6 @@
 use Rattle.std.proofs.Common.{refl}
 use Rattle.schedules.specs.Sweeps.{opened}
+use Rattle.run_command.specs.SweepRuns.{most_unlogged}
 use Rattle.run_command.proofs.Unlogged.{counted_run, is_swept}
 use Rattle.run_command.proofs.unlogged.run_to_end.Goals as goal
 
