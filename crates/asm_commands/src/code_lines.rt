@@ -69,9 +69,17 @@ fn push_line(
     text.push(' ')?;
     push_word(alloc, text, word)?;
     text.push(' ')?;
-    push_instruction(text, word)?;
-    text.push_str(comment_if(comments, word))?;
+    push_text(text, word, comments)?;
     text.push('\n')
+}
+
+/// Appends the text of a word, and the comment on it, if comments are wanted.
+fn push_text(text: &mut String, word: u32, comments: bool) -> Result<(), AllocError>
+    ensures { OnOk result (string_bytes text.new
+        ≡ string_bytes text.old ++ text_of_word word ++ comment_if comments word) }
+{
+    push_instruction(text, word)?;
+    text.push_str(comment_if(comments, word))
 }
 
 /// The comment on a word, if comments are wanted.
