@@ -4,4 +4,4 @@ pub mod Consoles
 pub mod Logging
 pub mod Sizes
 pub mod Counting
-pub mod Unlogged
+pub mod WithoutLog

@@ -1,4 +1,5 @@
-use Rattle.std.proofs.Common.{◌≡◌, ◌≤◌, sym, subst}
+use Rattle.std.proofs.Common.{◌≡◌, ◌≤◌, ◌++◌, sym, subst}
+use Rattle.machine_steps.specs.Draining.{drain_steps}
 use Rattle.machine_steps.specs.Machines.{MachineLists}
 use Rattle.trace_commands.specs.InMemory.{IsReplayInMemory}
 use Rattle.run_command.specs.CountedMachines.{CountedModel, IsCountedLog}
@@ -16,5 +17,8 @@ returns c = record {
   idle = c.drain_tallied-tally.ensures.idle;
   counted = λ log is.
       let here = subst (λ (x : CountedModel). IsCountedLog x log) (sym c.self.view_is) is in
-      subst (λ (m : MachineLists). IsReplayInMemory log.opening log.steps m c.self.inside.tally) here.machine here.counted;
+      subst
+      (λ (m : MachineLists). IsReplayInMemory log.opening (log.steps ++ drain_steps m) c.drain_tallied-tally.new.machine c.drain_tallied-tally.result)
+      (sym here.machine) (c.drain_tallied-tally.ensures.counted log.opening log.steps
+      (subst (λ (m : MachineLists). IsReplayInMemory log.opening log.steps m c.self.inside.tally) here.machine here.counted));
 }

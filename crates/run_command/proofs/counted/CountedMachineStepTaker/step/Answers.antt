@@ -1,10 +1,12 @@
-use Rattle.std.proofs.Common.{◌+◌, sym, ap, ◌∙◌, subst}
-use Rattle.run_command.specs.CountedMachines.{CountedModel, HasNoted, IsCountedLog}
-use Rattle.run_command.proofs.Counting.{after, has_taken, is_after, moving_is, no_more, noted_on, one_fits, one_more}
+use Rattle.std.proofs.Common.{◌+◌, ◌<◌, sym, ◌∙◌, subst}
+use Rattle.run_command.specs.CountedMachines.{CountedModel, IsCountedLog}
+use Rattle.run_command.proofs.Counting.{after, has_taken, is_after, no_more, one_fits, one_more}
 use Rattle.run_command.proofs.counted.CountedMachineStepTaker.step.Goals as goal
 
 pub step_tallied-outcome-requires : goal.step_tallied-outcome-requires
-step_tallied-outcome-requires c = one_fits c.self.inside.tally c.self.inside.count c.self.invariant c.requires.room
+step_tallied-outcome-requires c =
+    one_fits c.self.inside.tally c.self.inside.count c.self.invariant
+    (subst (λ (x : CountedModel). x.count < 4000000000) (sym c.self.view_is) c.requires.room)
 
 pub returns-then-not-is_stalled-clause-taken : goal.returns-then-not-is_stalled-clause-taken
 returns-then-not-is_stalled-clause-taken c before is =

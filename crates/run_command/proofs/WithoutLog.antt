@@ -30,7 +30,7 @@ HasFollowedCounted limit opening end counted = (after : Log) × IsCountedLog cou
 
 module _ (most limit : ℕ) (opening : MachineLists) (end : SweepEnd) (counted : CountedModel) (m : MachineLists) (tally : Option TallyState)
     (same : limit ≡ most) (f : HasFollowedCounted limit opening end counted) (d : IsDrainedLog counted m tally) where
-  steps : List Step
+  abbrev steps : List Step
   steps = f.0.steps ++ drain_steps f.0.machine
 
   in_memory : IsReplayInMemory opening steps m tally
@@ -64,9 +64,9 @@ module _ (c : Config) (budget : ℕ) (file : Input) (image : ImageContents) (mea
   abbrev most : ℕ
   most = most_unlogged budget
 
-  run_within : (end : SweepEnd) (steps : List Step) (new : MachineLists) → IsReplay m steps new → IsSwept most (opened m) end (log_of m steps new) →
-      IsRunWithin most (sweep_run c budget file) end image (log_of m steps new)
-  run_within end steps new replay swept = record { meant = meant; whole = record { opens = opens; replay = replay; swept = swept } }
+  run_within : (end : SweepEnd) (taken : List Step) (new : MachineLists) → IsReplay m taken new → IsSwept most (opened m) end (log_of m taken new) →
+      IsRunWithin most (sweep_run c budget file) end image (log_of m taken new)
+  run_within end taken new replay swept = record { meant = meant; whole = record { opens = opens; replay = replay; swept = swept } }
 
   -- The report of a counted run is that of a run of the image.
   pub is_reported : (new : MachineLists) (tally : TallyState) (text : List ℕ) (status : ℕ) (r : IsCountedRun most m new tally) →
