@@ -17,7 +17,7 @@ loop-number-preserved c =
     let word : ℕ → ℕ = word_at c.args.machine.now.config.k c.args.machine.now.modules in
     let is : c.in-Some.word ≡ word c.loop-number.number =
     picked (nat_lt c.loop-number.number c.args.machine.now.config.shared_words) c.in-Some.word (word c.loop-number.number) c.in-Some.ensures in
-    c.in_ok-push-in-Some.ensures
+    c.in_ok-push-in-Some.ensures.pushed
     ∙ (ap (λ xs. xs ++ c.in-Some.word ∷ []) c.loop-number.invariant
     ∙ (ap (λ x. map word (range_with_len 0 c.loop-number.number) ++ x ∷ []) is
     ∙ sym (map-range_with_len_more word 0 c.loop-number.number c.loop-number.number (omega arith))))
