@@ -17,7 +17,7 @@ use Rattle.trace_commands.specs.Reports.{IsExitOf}
 use Rattle.trace_commands.specs.Explained.{IsDrainedWithSteps}
 
 -- `machine k K c C b B r R`
-abbrev pub size_line : Config → List ℕ
+unfoldable pub size_line : Config → List ℕ
 size_line config = codes "machine k " ++ decimal config.k ++ codes " c " ++ decimal config.c ++ codes " b "
     ++ decimal config.b ++ codes " r " ++ decimal config.r ++ codes "\n"
 

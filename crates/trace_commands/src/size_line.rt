@@ -1,6 +1,6 @@
 //! The line of a machine's size.
 
-ghost use Rattle.std.specs.Prelude.{◌≡◌, ◌++◌, codes, IfOk, string_bytes};
+ghost use Rattle.std.specs.Prelude.{◌≡◌, ◌++◌, codes, IfOk, OnOk, string_bytes};
 ghost use Rattle.std.specs.Fmt.{decimal};
 ghost use Rattle.trace_commands.specs.Stats.{size_line};
 
@@ -12,9 +12,18 @@ use std::fmt::Write;
 pub(crate) fn below_size(alloc: Global, config: Config, lines: &str) -> Result<String, AllocError>
     ensures { IfOk result (λ text. string_bytes text ≡ size_line config ++ lines.now) }
 {
-    let Config { k, c, b, r, .. } = config;
     let mut text = String::new(alloc);
-    write!(text, "machine k {k} c {c} b {b} r {r}\n")?;
+    push_size(&mut text, config)?;
     text.push_str(lines)?;
     Ok(text)
+}
+
+/// Appends the line of a machine's size.
+#[tactic(auto, unfolding(crate::specs::Stats::size_line))]
+fn push_size(text: &mut String, config: Config) -> Result<(), AllocError>
+    ensures { OnOk result (string_bytes text.new ≡ string_bytes text.old ++ size_line config) }
+{
+    let Config { k, c, b, r, .. } = config;
+    write!(text, "machine k {k} c {c}")?;
+    write!(text, " b {b} r {r}\n")
 }
