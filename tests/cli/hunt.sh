@@ -1,7 +1,8 @@
 # shellcheck shell=bash
 # `ultra hunt`: random runs of the algorithms, right and wrong.
 
-# hunts NAME: runs an image 200 times on two processors, and leaves the different results in $room/hunt.
+# hunts NAME: runs an image 200 times on two processors, and leaves the different results in $room/hunt. The status is
+# that of the command.
 hunts() {
     ./ultra hunt --k 1 --runs 200 --budget 20000 --trace "$room/$1-" "$room/$1.elf" >"$room/hunt"
 }
@@ -21,19 +22,34 @@ for it in barrier readers_writers ticket_lock; do
     check "random runs of $it come to one result" finds_one_result "$it"
 done
 
-# In some runs of a wrong barrier both processors wait for ever. Others end as runs of the right barrier do.
+# In some runs of a wrong barrier both processors wait for ever, so the status is 5. Others end as runs of the right
+# barrier do.
 finds_endless_waits() {
-    hunts "$1" || return 1
-    grep -A 2 '^runs [0-9]* first [0-9]* budget$' "$room/hunt" | grep -A 1 -x 'processor 0 run console -' | grep -x 'processor 1 run console -' &&
-        grep -A 4 ' over$' "$room/hunt" | tail -n 2 | diff - <(final_words "wrong/$1" 1)
+    local ended=0
+    hunts "$1" || ended=$?
+    [ "$ended" -eq 5 ] &&
+        grep -A 2 '^runs [0-9]* first [0-9]* budget$' "$room/hunt" | grep -A 1 -x 'processor 0 run console -' | grep -x 'processor 1 run console -' &&
+        names_the_unfinished_runs "$1" && grep -A 4 ' over$' "$room/hunt" | tail -n 2 | diff - <(final_words "wrong/$1" 1)
+}
+
+# The last line names as many runs as came to results with `budget`, the first run to each of these among them. A hunt
+# of the last of the named runs names it alone, and has status 5.
+names_the_unfinished_runs() {
+    local number ended=0
+    tail -n 1 "$room/hunt" | grep -Ex 'unfinished( [0-9]+)+' | tr ' ' '\n' | sed 1d >"$room/unfinished"
+    diff <(sed -n 's/^runs \([0-9]*\) .* budget$/\1/p' "$room/hunt" | awk '{ sum += $1 } END { print sum }') <(sort -u "$room/unfinished" | wc -l) &&
+        diff /dev/null <(sed -n 's/^runs .* first \([0-9]*\) budget$/\1/p' "$room/hunt" | grep -vxFf "$room/unfinished") || return 1
+    number=$(tail -n 1 "$room/unfinished")
+    ./ultra hunt --k 1 --runs 1 --start "$number" --budget 20000 "$room/$1.elf" >"$room/again" || ended=$?
+    [ "$ended" -eq 5 ] && grep -x "unfinished $number" "$room/again"
 }
 
 # The number of the first run of each result gives the result again, and its trace replays to the same words.
 finds_again() {
     local runs number rest
     while read -r runs number rest; do
-        ./ultra hunt --k 1 --runs 1 --start "$number" --budget 20000 "$room/$1.elf" >"$room/again"
-        diff <(sed -n "/^runs $runs first $number /,/^runs /p" "$room/hunt" | sed "1s/runs $runs /runs 1 /; 2,\${/^runs /d}") "$room/again" || return 1
+        ./ultra hunt --k 1 --runs 1 --start "$number" --budget 20000 "$room/$1.elf" | sed '/^unfinished /d' >"$room/again"
+        diff <(sed -n "/^runs $runs first $number /,/^runs /p" "$room/hunt" | sed "1s/runs $runs /runs 1 /; 2,\${/^runs /d; /^unfinished /d}") "$room/again" || return 1
         diff <(grep '^word ' "$room/again") <(./ultra replay "$room/$1-$number.trace" "$room/$1.elf" | grep '^word ') || return 1
     done < <(sed -n 's/^runs \([0-9]*\) first \([0-9]*\) .*/\1 \2/p' "$room/hunt")
 }
@@ -56,12 +72,12 @@ then_check 'each result of random runs of readers_writers_one_look is found agai
 # If one file for a trace exists, even as a dangling link, no trace is written. With --overwrite each is written, as a
 # whole.
 keeps_a_trace_that_exists() {
-    local last sizes='--k 1 --runs 40 --budget 20000' elf=$room/barrier_reset_late.elf
+    local last ended=0 sizes='--k 1 --runs 40 --budget 20000' elf=$room/barrier_reset_late.elf
     rm -rf "$room/first" "$room/second" && mkdir "$room/first" "$room/second" || return 1
     # shellcheck disable=SC2086
-    ./ultra hunt $sizes --trace "$room/first/" "$elf" >"$room/hunt" || return 1
+    ./ultra hunt $sizes --trace "$room/first/" "$elf" >"$room/hunt" || ended=$?
     last=$(sed -n 's/^runs [0-9]* first \([0-9]*\) .*/\1/p' "$room/hunt" | tail -n 1)
-    [ "$last" -gt 1 ] && [ -s "$room/first/1.trace" ] && ln -s nowhere "$room/second/$last.trace" || return 1
+    [ "$ended" -eq 5 ] && [ "$last" -gt 1 ] && [ -s "$room/first/1.trace" ] && ln -s nowhere "$room/second/$last.trace" || return 1
     # shellcheck disable=SC2086
     ends 2 "error: $room/second/$last.trace exists: use --overwrite" ./ultra hunt $sizes --trace "$room/second/" "$elf" &&
         diff <(echo "$last.trace") <(ls "$room/second") && rm "$room/second/$last.trace" && printf '%5000s' '' >"$room/second/$last.trace" &&

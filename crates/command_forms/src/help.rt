@@ -231,6 +231,9 @@ many runs gave it, and the number of the first. `ultra hunt FILE --runs 1 --star
 come `processor P STATUS console HEX` for each processor, and `word I VVVVVVVV` for each shared word that
 is not zero, as `ultra run` prints them. A result that is not found may still exist.
 
+A run is unfinished if it has used up its budget while a processor runs, which may wait for ever. If there
+are such runs, a last line `unfinished S S ..` has their numbers.
+
 With --trace nothing is written before all runs are over. If a file that would be written exists then, no
 trace is written and no result is printed, unless --overwrite is given. Meanwhile a line on a terminal
 shows how many runs are over and how many results are found, unless --quiet is given.
@@ -238,4 +241,4 @@ shows how many runs are over and how many results are found, unless --quiet is g
 Faults are reported on standard error as by `ultra run`, and then no result is printed.
 
 Exit status: 0 done, 1 a fault stopped a processor in a run, 2 a refused image or command line, 3 a
-file or standard output failed, 4 out of memory.";
+file or standard output failed, 4 out of memory, 5 no fault stopped a processor, but a run is unfinished.";

@@ -1,11 +1,11 @@
 -- The results found, run by run.
-use Rattle.std.proofs.Common.{◌≡◌, ℕ, zero, suc, ◌+◌, List, [], ◌∷◌, ◌++◌, length, Some, refl, sym, ap, ◌∙◌, subst, arith}
+use Rattle.std.proofs.Common.{◌≡◌, ℕ, zero, suc, ◌+◌, List, [], ◌∷◌, ◌++◌, length, Some, refl, sym, ap, ◌∙◌, subst, append_assoc, arith}
 use Rattle.std.specs.Prelude.{slice_get}
-use Rattle.std.proofs.lemmas.List.{length-append}
+use Rattle.std.proofs.lemmas.List.{append-nil, length-append}
 use Rattle.flat_machine.specs.declared.config.Config.{Config}
 use Rattle.elf_image.specs.Images.{ImageContents}
-use Rattle.hunt_command.specs.Findings.{FindingState, FindingsState, noted}
-use Rattle.hunt_command.specs.Hunts.{AreFound, IsResultOf, ResultState, found_from, greater, greatest_from, number_at}
+use Rattle.hunt_command.specs.Findings.{FindingState, FindingsState, if_unfinished, noted}
+use Rattle.hunt_command.specs.Hunts.{AreFound, IsResultOf, ResultState, found_from, greater, greatest_from, number_at, unfinished_from}
 
 found_more : (start place : ℕ) (fs : List FindingState) (rs : List ResultState) (r : ResultState) →
     found_from start place fs (rs ++ r ∷ []) ≡ noted (found_from start place fs rs) r.text (number_at start (place + length rs))
@@ -14,6 +14,19 @@ found_more start place fs (x ∷ rs) r =
     found_more start (place + 1) (noted fs x.text (number_at start place)) rs r
     ∙ ap (λ n. noted (found_from start (place + 1) (noted fs x.text (number_at start place)) rs) r.text (number_at start n))
     (let same : place + 1 + length rs ≡ place + suc (length rs) = omega arith in same)
+
+unfinished_more : (start place : ℕ) (rs : List ResultState) (r : ResultState) →
+    unfinished_from start place (rs ++ r ∷ [])
+    ≡ unfinished_from start place rs ++ if_unfinished r.end (number_at start (place + length rs))
+unfinished_more start place [] r =
+    append-nil (if_unfinished r.end (number_at start place))
+    ∙ ap (λ n. if_unfinished r.end (number_at start n)) (let same : place ≡ place + 0 = omega arith in same)
+unfinished_more start place (x ∷ rs) r =
+    ap (λ ns. if_unfinished x.end (number_at start place) ++ ns) (unfinished_more start (place + 1) rs r)
+    ∙ (sym (append_assoc (if_unfinished x.end (number_at start place)) (unfinished_from start (place + 1) rs)
+    (if_unfinished r.end (number_at start (place + 1 + length rs))))
+    ∙ ap (λ n. unfinished_from start place (x ∷ rs) ++ if_unfinished r.end (number_at start n))
+    (let same : place + 1 + length rs ≡ place + suc (length rs) = omega arith in same))
 
 greatest_more : (status : ℕ) (rs : List ResultState) (r : ResultState) → greatest_from status (rs ++ r ∷ []) ≡ greater r.status (greatest_from status rs)
 greatest_more status [] r = refl
@@ -36,21 +49,22 @@ results_more c image most start place (y ∷ rs) r each one (suc i) x there =
     step : (j : ℕ) → place + 1 + j ≡ place + suc j
     step j = omega arith
 
--- In no runs, no result is found, and the exit status is 0.
-pub none_found : (c : Config) (image : ImageContents) (most start : ℕ) → AreFound c image most start 0 [] 0
+-- In no runs, no result is found, no run is unfinished, and the greatest exit status is 0.
+pub none_found : (c : Config) (image : ImageContents) (most start : ℕ) → AreFound c image most start 0 [] [] 0
 none_found c image most start = record {
   results = [];
   all = refl;
   each = λ place r there. absurd (cc);
   are = refl;
+  those = refl;
   exit = refl;
 }
 
--- After one more run, its result is noted, and the exit status is the greater of its own and that before.
-pub one_found : (c : Config) (image : ImageContents) (most start place : ℕ) (fs : List FindingState) (status number : ℕ) (r : ResultState) →
-    AreFound c image most start place fs status → number ≡ number_at start place → IsResultOf c image most number r →
-    AreFound c image most start (place + 1) (noted fs r.text number) (greater r.status status)
-one_found c image most start place fs status number r f is one = record {
+-- After one more run, its result and its end are noted, and the greatest exit status is the greater of its own and that before.
+pub one_found : (c : Config) (image : ImageContents) (most start place : ℕ) (fs : List FindingState) (unfinished : List ℕ) (greatest number : ℕ)
+    (r : ResultState) → AreFound c image most start place fs unfinished greatest → number ≡ number_at start place → IsResultOf c image most number r →
+    AreFound c image most start (place + 1) (noted fs r.text number) (unfinished ++ if_unfinished r.end number) (greater r.status greatest)
+one_found c image most start place fs unfinished greatest number r f is one = record {
   results = f.results ++ r ∷ [];
   all = length-append f.results (r ∷ []) ∙ ap (λ n. n + 1) f.all;
   each = λ i x there. subst (λ n. IsResultOf c image most (number_at start n) x) (let same : 0 + i ≡ i = omega arith in same)
@@ -59,18 +73,27 @@ one_found c image most start place fs status number r f is one = record {
       (subst (λ n. IsResultOf c image most n r) (is ∙ here) one) i x there);
   are = ap (λ (xs : List FindingState). noted xs r.text number) f.are ∙ ap (noted (found_from start 0 [] f.results) r.text) (is ∙ here)
       ∙ sym (found_more start 0 [] f.results r);
+  those = ap (λ ns. ns ++ if_unfinished r.end number) f.those
+      ∙ (ap (λ n. unfinished_from start 0 f.results ++ if_unfinished r.end n) (is ∙ here) ∙ sym (unfinished_more start 0 f.results r));
   exit = ap (greater r.status) f.exit ∙ sym (greatest_more 0 f.results r);
 }
   where
     here : number_at start place ≡ number_at start (0 + length f.results)
     here = ap (number_at start) (let all = f.all in let same : place ≡ 0 + length f.results = omega (arith, all) in same)
 
--- The same, for findings that have noted the result.
-pub one_observed : (c : Config) (image : ImageContents) (most start place number : ℕ) (old new : FindingsState) (status status' of_run : ℕ) (text : List ℕ) →
-    AreFound c image most start place old.found status → number ≡ number_at start place →
-    IsResultOf c image most number (record { text = text; status = of_run }) →
-    new ≡ record { found = noted old.found text number; noted = old.noted + 1 } → status' ≡ greater of_run status →
-    AreFound c image most start (place + 1) new.found status'
-one_observed c image most start place number old new status status' of_run text f is one next more =
-    subst (λ (x : FindingsState × ℕ). AreFound c image most start (place + 1) x.0.found x.1) (λ i. (sym next i, sym more i))
-    (one_found c image most start place old.found status number (record { text = text; status = of_run }) f is one)
+-- The same, for findings that have noted first the result and then the end.
+pub one_observed : (c : Config) (image : ImageContents) (most start place number : ℕ) (old middle new : FindingsState) (greatest greatest' : ℕ)
+    (r : ResultState) → AreFound c image most start place old.found old.unfinished greatest → number ≡ number_at start place →
+    IsResultOf c image most number r → middle ≡ record old { found = noted old.found r.text number; noted = old.noted + 1 } →
+    new ≡ record middle { unfinished = middle.unfinished ++ if_unfinished r.end number } → greatest' ≡ greater r.status greatest →
+    AreFound c image most start (place + 1) new.found new.unfinished greatest'
+one_observed c image most start place number old middle new greatest greatest' r f is one next ended more =
+    subst (λ (x : FindingsState × ℕ). AreFound c image most start (place + 1) x.0.found x.0.unfinished x.1) (λ i. (sym both i, sym more i))
+    (one_found c image most start place old.found old.unfinished greatest number r f is one)
+  where
+    both : new ≡ record {
+      found = noted old.found r.text number;
+      noted = old.noted + 1;
+      unfinished = old.unfinished ++ if_unfinished r.end number;
+    }
+    both = ended ∙ ap (λ (m : FindingsState). record m { unfinished = m.unfinished ++ if_unfinished r.end number }) next

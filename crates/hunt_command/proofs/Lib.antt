@@ -8,3 +8,4 @@ pub mod Asking
 pub mod Counting
 pub mod Recorded
 pub mod OneRun
+pub mod Numbers

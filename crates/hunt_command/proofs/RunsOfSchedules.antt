@@ -45,7 +45,8 @@ module _ (c : Config) (most number : ℕ) (image : ImageContents) (m : MachineLi
 -- The result to which the drain leads after the steps of a schedule is the result of the run.
 pub result_of_drain : (c : Config) (image : ImageContents) (most number : ℕ) (m : MachineLists) (old log : Log) (end : SweepEnd) (text : List ℕ) (status : ℕ) →
     IsOpening c image m → old ≡ opened m → WasAsked (schedule old.machine.config.k number most) (length old.steps + most) old end log →
-    IsDrainedTo log.opening log.steps log.machine end text status → IsResultOf c image most number (record { text = text; status = status })
+    IsDrainedTo log.opening log.steps log.machine end text status →
+    IsResultOf c image most number (record { text = text; end = end; status = status })
 result_of_drain c image most number m old log end text status opens starts asked d =
     let is : log.opening ≡ m = asked.opening ∙ ap (λ (l : Log). l.opening) starts in
     let at_first : IsOpening c image log.opening = subst (IsOpening c image) (sym is) opens in
@@ -53,7 +54,6 @@ result_of_drain c image most number m old log end text status opens starts asked
     let ran : HasRunAtRandom number most old end new =
     record { middle = log; asked = asked; opening = asked.opening; steps = refl; idle = d.idle } in
     record {
-      end = end;
       log = new;
       ran = record {
         opens = at_first;

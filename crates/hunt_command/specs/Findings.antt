@@ -1,8 +1,11 @@
--- The different results of runs, and how many runs had each.
+-- The different results of runs, how many runs had each, and which runs are unfinished.
 use Rattle.std.specs.Prelude.{ℕ, ◌+◌, ◌≤◌, All, List, [], ◌∷◌, ◌++◌, Option, Some, None, bytes_eq, codes, map}
 use Rattle.std.specs.Prelude.{slice_get, slice_set}
 use Rattle.std.specs.List.{position_or_len}
 use Rattle.std.specs.Fmt.{decimal}
+use Rattle.schedules.specs.declared.sweeping.SweepEnd.{SweepEnd}
+use Rattle.schedules.specs.declared.sweeping.SweepEnd.TheVariants.{Over, Budget}
+use Rattle.command_io.specs.Digits.{line_feed}
 
 -- A result: its text, how many runs had it, and the number of the first of them.
 pub record FindingState : Type 0 where
@@ -10,10 +13,12 @@ pub record FindingState : Type 0 where
   pub runs : ℕ
   pub first : ℕ
 
--- The different results found, and how many results were noted.
+-- The different results found, how many results were noted, and the numbers of the runs that are unfinished: their
+-- budgets were used up while a processor ran.
 pub record FindingsState : Type 0 where
   pub found : List FindingState
   pub noted : ℕ
+  pub unfinished : List ℕ
 
 -- the results in the entries of a map
 abbrev pub found_in : {K V : Type 0} → (text : K → List ℕ) → (runs first : V → ℕ) → List (K × V) → List FindingState
@@ -53,3 +58,24 @@ finding_lines f = codes "runs " ++ decimal f.runs ++ codes " first " ++ decimal 
 abbrev pub findings_lines : List FindingState → List ℕ
 findings_lines [] = []
 findings_lines (f ∷ fs) = finding_lines f ++ findings_lines fs
+
+-- ---- unfinished runs
+
+-- the number of a run if it is unfinished
+abbrev pub if_unfinished : SweepEnd → (number : ℕ) → List ℕ
+if_unfinished Over number = []
+if_unfinished Budget number = number ∷ []
+
+-- ` S` for each number
+abbrev pub numbers_text : List ℕ → List ℕ
+numbers_text [] = []
+numbers_text (n ∷ ns) = codes " " ++ decimal n ++ numbers_text ns
+
+-- `unfinished S S ..`, or no line if all runs were over
+abbrev pub unfinished_line : (unfinished : List ℕ) → List ℕ
+unfinished_line [] = []
+unfinished_line (n ∷ ns) = codes "unfinished" ++ numbers_text (n ∷ ns) ++ line_feed
+
+-- the lines of all results found, and that of the unfinished runs
+abbrev pub hunt_lines : List FindingState → (unfinished : List ℕ) → List ℕ
+hunt_lines found unfinished = findings_lines found ++ unfinished_line unfinished

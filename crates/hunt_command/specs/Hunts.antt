@@ -1,6 +1,6 @@
 -- What a hunt prints: from the bytes of an image's file to the different results of its runs.
-use Rattle.std.specs.Prelude.{◌≡◌, ◌⊎◌, ℕ, ◌+◌, ◌%◌, ◌^◌, nat_lt, Bool, if◌then◌else◌, List, [], ◌∷◌, ◌++◌}
-use Rattle.std.specs.Prelude.{Option, Some, length, slice_get}
+use Rattle.std.specs.Prelude.{◌≡◌, ◌⊎◌, ℕ, zero, suc, ◌+◌, ◌%◌, ◌^◌, ◌≤◌, nat_lt, Bool, if◌then◌else◌, List, []}
+use Rattle.std.specs.Prelude.{◌∷◌, ◌++◌, Option, Some, length, slice_get}
 use Rattle.flat_machine.specs.declared.config.Config.{Config}
 use Rattle.flat_machine.specs.Limits.{IsWithinLimits}
 use Rattle.elf_image.specs.declared.error.ImageError.TheVariants as of_image
@@ -26,29 +26,29 @@ use Rattle.trace_commands.specs.CountedReplays.{IsReplayCounted}
 use Rattle.hunt_command.specs.declared.command.Hunt.{Hunt}
 use Rattle.hunt_command.specs.declared.refused.Refused.{Refused}
 use Rattle.hunt_command.specs.declared.refused.Refused.TheVariants as refused
-use Rattle.hunt_command.specs.Findings.{FindingState, findings_lines, firsts, noted}
+use Rattle.hunt_command.specs.Findings.{FindingState, firsts, hunt_lines, if_unfinished, noted}
 use Rattle.hunt_command.specs.Lines.{result_of}
 use Rattle.hunt_command.specs.Traces.{AreNotSaved, AreSaved, WhereAsked}
 
 -- ---- one run
 
--- The result of a run: its text, and the exit status of the machine.
+-- The result of a run: its text, how the run ended, and the exit status of the machine.
 pub record ResultState : Type 0 where
   pub text : List ℕ
+  pub end : SweepEnd
   pub status : ℕ
 
 -- This is the result of the run with this number, of at most this many steps and turns, on a machine that opens on the
 -- image.
 pub record IsResultOf (c : Config) (image : ImageContents) (most number : ℕ) (r : ResultState) : Type 0 where
-  pub end : SweepEnd
   pub log : Log
-  pub ran : IsRandomRun c image number most end log
+  pub ran : IsRandomRun c image number most r.end log
   pub opening : MachineLists
   pub opens : IsOpening c image opening
   pub machine : MachineLists
   pub tally : TallyState
   pub replay_counted : IsReplayCounted opening log.steps machine tally
-  pub is : r.text ≡ result_of end machine tally.shown
+  pub is : r.text ≡ result_of r.end machine tally.shown
   pub exit : IsExitOf machine r.status
 
 -- The machine has taken these steps, and its drain leads to this result.
@@ -82,6 +82,12 @@ abbrev pub found_from : (start place : ℕ) → List FindingState → List Resul
 found_from start place fs [] = fs
 found_from start place fs (r ∷ rs) = found_from start (place + 1) (noted fs r.text (number_at start place)) rs
 
+-- the numbers of the runs with these results that are unfinished, the first of them the run at this place
+abbrev pub unfinished_from : (start place : ℕ) → List ResultState → List ℕ
+unfinished_from start place [] = []
+unfinished_from start place (r ∷ rs) =
+    if_unfinished r.end (number_at start place) ++ unfinished_from start (place + 1) rs
+
 -- the greater of two exit statuses
 abbrev pub greater : (one other : ℕ) → ℕ
 greater one other = if nat_lt one other then other else one
@@ -91,15 +97,23 @@ abbrev pub greatest_from : ℕ → List ResultState → ℕ
 greatest_from status [] = status
 greatest_from status (r ∷ rs) = greatest_from (greater r.status status) rs
 
--- These are the results found in this many runs, starting with this number, and this is the greatest of their exit
--- statuses.
+-- These are the results found in this many runs, starting with this number, these are the numbers of the runs that are
+-- unfinished, and this is the greatest exit status of a machine: 1 if a fault has stopped a processor in some run.
 pub record AreFound (c : Config) (image : ImageContents) (most start runs : ℕ) (found : List FindingState)
-    (status : ℕ) : Type 0 where
+    (unfinished : List ℕ) (greatest : ℕ) : Type 0 where
   pub results : List ResultState
   pub all : length results ≡ runs
   pub each : AreResults c image most start results
   pub are : found ≡ found_from start 0 [] results
-  pub exit : status ≡ greatest_from 0 results
+  pub those : unfinished ≡ unfinished_from start 0 results
+  pub exit : greatest ≡ greatest_from 0 results
+
+-- the exit status of a hunt, given the greatest exit status of a machine: 1 if a fault has stopped a processor in some
+-- run; else 5 if some run is unfinished; else 0
+abbrev pub hunt_status : (greatest : ℕ) → (unfinished : List ℕ) → ℕ
+hunt_status zero [] = 0
+hunt_status zero (n ∷ ns) = 5
+hunt_status (suc faulted) unfinished = 1
 
 -- ---- a hunt
 
@@ -136,10 +150,12 @@ pub record HuntTraces (T W : Type 0) : Type 1 where
 abbrev pub hunt_traces : {T W : Type 0} → TraceStore T W → (old new : Option T) → HuntTraces T W
 hunt_traces store old new = record { store = store; old = old; new = new }
 
--- These are the results found by the hunt on the image in the file, and this is the greatest exit status of its runs.
-pub record HasFound (h : AskedHunt) (image : ImageContents) (found : List FindingState) (status : ℕ) : Type 0 where
+-- These are the results found by the hunt on the image in the file, these are the numbers of its unfinished runs, and
+-- this is the greatest exit status of a machine.
+pub record HasFound (h : AskedHunt) (image : ImageContents) (found : List FindingState) (unfinished : List ℕ)
+    (greatest : ℕ) : Type 0 where
   pub meant : IsImageOf h.config.shared_words h.file.bytes image
-  pub are : AreFound h.config image (most_of h.hunt.budget) h.hunt.start h.hunt.runs found status
+  pub are : AreFound h.config image (most_of h.hunt.budget) h.hunt.start h.hunt.runs found unfinished greatest
 
 -- If traces are asked for, those of the first runs with each result are written, and no others.
 abbrev pub HasSaved : {T W : Type 0} → AskedHunt → HuntTraces T W → ImageContents → List FindingState → Type 0
@@ -152,9 +168,12 @@ HasSaved h t image found =
 pub record IsHunt {T W : Type 0} (h : AskedHunt) (t : HuntTraces T W) (status : ℕ) (text : List ℕ) : Type 0 where
   pub image : ImageContents
   pub found : List FindingState
-  pub has_found : HasFound h image found status
+  pub unfinished : List ℕ
+  pub greatest : ℕ
+  pub has_found : HasFound h image found unfinished greatest
   pub saved : HasSaved h t image found
-  pub lines : text ≡ findings_lines found
+  pub lines : text ≡ hunt_lines found unfinished
+  pub exit : status ≡ hunt_status greatest unfinished
 
 -- This is the text of the hunt, with some exit status.
 abbrev pub IsSomeHunt : {T W : Type 0} → AskedHunt → HuntTraces T W → (text : List ℕ) → Type 0
@@ -164,8 +183,9 @@ IsSomeHunt h t text = (status : ℕ) × IsHunt h t status text
 pub record HasNotSaved {T W : Type 0} (h : AskedHunt) (t : HuntTraces T W) (r : Refused) : Type 0 where
   pub image : ImageContents
   pub found : List FindingState
-  pub status : ℕ
-  pub has_found : HasFound h image found status
+  pub unfinished : List ℕ
+  pub greatest : ℕ
+  pub has_found : HasFound h image found unfinished greatest
   pub unsaved : AreNotSaved t.store.finds t.store.opens t.store.closes t.store.has_failed t.store.contents h.config
       image (most_of h.hunt.budget) (firsts found) t.old t.new r
 
@@ -190,6 +210,14 @@ pub record HuntFails {T W : Type 0} (h : AskedHunt) (t : HuntTraces T W) (out : 
   pub unprinted : IsOfLink (refused.Fault fault.Link) out.has_failed r
 
 -- ---- the exit status
+
+-- The exit status says that the results are printed.
+abbrev pub IsPrinted : (status : ℕ) → Type 0
+IsPrinted status = (status ≤ 1) ⊎ (5 ≤ status)
+
+-- The exit status says that they are not.
+abbrev pub IsUnprinted : (status : ℕ) → Type 0
+IsUnprinted status = (2 ≤ status) × (status ≤ 4)
 
 -- the exit status for a refusal
 abbrev pub status_of : Refused → ℕ

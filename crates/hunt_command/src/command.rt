@@ -7,20 +7,24 @@ ghost use Rattle.schedules.specs.Sweeps.{most_of};
 ghost use Rattle.command_io.specs.Files.{IsFaultOfSize};
 ghost use Rattle.command_io.specs.Links.{Input, input, output};
 ghost use Rattle.command_io.specs.Printing.{Prints, ReportsRefusal};
-ghost use Rattle.hunt_command.specs.Hunts.{AreFound, IsHunt, HuntFails, IsRefusalReported, IsRefused, asked_hunt};
-ghost use Rattle.hunt_command.specs.Hunts.{hunt_traces, status_of, trace_store};
+ghost use Rattle.hunt_command.specs.Hunts.{AreFound, IsHunt, HuntFails, IsPrinted, IsRefusalReported, IsRefused};
+ghost use Rattle.hunt_command.specs.Hunts.{IsUnprinted, asked_hunt, hunt_status, hunt_traces, status_of, trace_store};
 
 use crate::findings::{Findings, findings_text};
 use crate::observer::HuntObserver;
 use crate::refused::Refused;
 use crate::runs::findings_of;
 use crate::saving::{Traces, save_all};
-use command_io::{Fault, REFUSED, image_of, print, report_fault};
+use command_io::{DONE, Fault, REFUSED, STOPPED_BY_FAULT, image_of, print, report_fault};
 use elf_image::{Image, ImageError};
 use flat_machine::Config;
 use link::{LinkRead, LinkWrite};
 use std::alloc::Global;
 use std::io::Write;
+
+/// The exit status of a hunt that has printed all, if no fault has stopped a processor, and some run used up its budget
+/// while a processor ran.
+pub const UNFINISHED: u8 = 5;
 
 /// Which runs a hunt takes.
 #[derive(Clone, Copy, Debug, PartialEq, Eq, Drop)]
@@ -37,9 +41,10 @@ pub struct Hunt {
 /// result of the runs once. The observer sees the progress of the hunt. If traces are asked for, that of the first run
 /// to each result is written first. If one of these traces exists already, none is written and nothing is printed.
 ///
-/// Returns the exit status: 0 if all is printed, 1 if all is printed and a fault has stopped a processor in a run, else
-/// that of the refusal reported on standard error. Refusals are checked in this order: of the image, of the machine's
-/// size, of a trace that exists, of one that cannot be written, of standard output.
+/// Returns the exit status. If all is printed, it is 1 if a fault has stopped a processor in some run; else 5 if some run
+/// is unfinished, which means that its budget was used up while a processor ran; else 0. If not, it is that of the
+/// refusal reported on standard error. Refusals are checked in this order: of the image, of the machine's size, of a
+/// trace that exists, of one that cannot be written, of standard output.
 pub fn hunt_command<R: LinkRead, T: Traces, G: HuntObserver, W: LinkWrite, E: Write>(
     alloc: Global,
     file: &mut R,
@@ -52,19 +57,19 @@ pub fn hunt_command<R: LinkRead, T: Traces, G: HuntObserver, W: LinkWrite, E: Wr
 ) -> u8
     requires reads { R.has_failed file.old ≡ false }
     requires prints { W.has_failed out.old ≡ false }
-    ensures printed { result ≤ 1 →
+    ensures printed { IsPrinted result →
         Prints (IsHunt (asked_hunt config hunt (input R.remaining R.has_failed file.old file.new))
         (hunt_traces (trace_store T.finds T.opens T.closes T.Writer.has_failed T.Writer.contents) traces.old traces.new)
         result) (W.contents out.old) (W.contents out.new) }
-    ensures fault { 2 ≤ result → ReportsRefusal status_of
+    ensures fault { IsUnprinted result → ReportsRefusal status_of
         (HuntFails (asked_hunt config hunt (input R.remaining R.has_failed file.old file.new))
         (hunt_traces (trace_store T.finds T.opens T.closes T.Writer.has_failed T.Writer.contents) traces.old traces.new)
         (output W.contents W.has_failed out.old out.new))
         (IsRefusalReported (E.contents err.old) (E.contents err.new)) result }
     ensures failed { W.has_failed out.new ≡ true → result ≡ 3 }
     ensures unread { R.has_failed file.new ≡ true → result ≡ 3 }
-    ensures silent { 2 ≤ result → W.has_failed out.new ≡ false → out.new ≡ out.old }
-    ensures quiet { result ≤ 1 → err.new ≡ err.old }
+    ensures silent { IsUnprinted result → W.has_failed out.new ≡ false → out.new ≡ out.old }
+    ensures quiet { IsPrinted result → err.new ≡ err.old }
 {
     match execute(alloc, file, config, hunt, traces, observer, out) {
         Ok(status) => status,
@@ -75,7 +80,7 @@ pub fn hunt_command<R: LinkRead, T: Traces, G: HuntObserver, W: LinkWrite, E: Wr
 /// Reports why nothing is printed, and returns the exit status.
 fn tell_refused<T: Traces, E: Write>(refused: Refused, traces: &Option<T>, err: &mut E) -> u8
     ensures fault { result ≡ status_of refused }
-    ensures high { 2 ≤ result }
+    ensures unprinted { IsUnprinted result }
     ensures reported { IsRefusalReported (E.contents err.old) (E.contents err.new) refused }
 {
     match (refused, traces) {
@@ -106,7 +111,7 @@ fn execute<R: LinkRead, T: Traces, G: HuntObserver, W: LinkWrite>(
         Prints (IsHunt (asked_hunt config hunt (input R.remaining R.has_failed file.old file.new))
         (hunt_traces (trace_store T.finds T.opens T.closes T.Writer.has_failed T.Writer.contents) traces.old traces.new)
         status) (W.contents out.old) (W.contents out.new)) }
-    ensures low { IfOk result (λ status. status ≤ 1) }
+    ensures done { IfOk result IsPrinted }
     ensures fault { IfErr result
         (IsRefused (asked_hunt config hunt (input R.remaining R.has_failed file.old file.new))
         (hunt_traces (trace_store T.finds T.opens T.closes T.Writer.has_failed T.Writer.contents) traces.old traces.new)
@@ -136,7 +141,7 @@ fn hunt_image<T: Traces, G: HuntObserver, W: LinkWrite>(
         → Prints (IsHunt (asked_hunt config hunt file)
         (hunt_traces (trace_store T.finds T.opens T.closes T.Writer.has_failed T.Writer.contents) traces.old traces.new)
         status) (W.contents out.old) (W.contents out.new)) }
-    ensures low { IfOk result (λ status. status ≤ 1) }
+    ensures done { IfOk result IsPrinted }
     ensures size { (IsWithinLimits config → ⊥) → IsErrOf result (Refused.Fault Fault.Size) }
     ensures fault { IfErr result (λ refused. (file : Input) → IsImageOf config.shared_words file.bytes image.now
         → IsRefused (asked_hunt config hunt file)
@@ -144,14 +149,28 @@ fn hunt_image<T: Traces, G: HuntObserver, W: LinkWrite>(
         (output W.contents W.has_failed out.old out.new) refused) }
     ensures silent { OnErr result (W.has_failed out.new ≡ false → out.new ≡ out.old) }
 {
-    let (findings, status) = run_hunt(alloc, image, config, hunt, observer)?;
+    let (findings, greatest) = run_hunt(alloc, image, config, hunt, observer)?;
     let text = findings_text(alloc, &findings)?;
     save_all(alloc, image, config, hunt.budget, &findings, traces)?;
     print(out, text.as_str())?;
-    Ok(status)
+    Ok(hunt_status(greatest, findings.unfinished()))
 }
 
-/// The results of the runs of a hunt, and the greatest of their exit statuses.
+/// The exit status of a hunt, given the greatest exit status of a machine and the numbers of the unfinished runs.
+fn hunt_status(greatest: u8, unfinished: &[u32]) -> u8
+    ensures status { result ≡ hunt_status greatest unfinished.now }
+    ensures done { IsPrinted result }
+{
+    if greatest != DONE {
+        STOPPED_BY_FAULT
+    } else if unfinished.is_empty() {
+        DONE
+    } else {
+        UNFINISHED
+    }
+}
+
+/// The results of the runs of a hunt, and the greatest exit status of a machine.
 fn run_hunt<G: HuntObserver>(
     alloc: Global,
     image: &Image,
@@ -161,7 +180,7 @@ fn run_hunt<G: HuntObserver>(
 ) -> Result<(Findings, u8), Fault>
     requires words { image.now.shared_words ≡ config.shared_words }
     ensures found { IfOk result (λ done. AreFound config image.now
-        (most_of hunt.budget) hunt.start hunt.runs done.0.found done.1) }
+        (most_of hunt.budget) hunt.start hunt.runs done.0.found done.0.unfinished done.1) }
     ensures low { IfOk result (λ done. done.1 ≤ 1) }
     ensures limits { OnOk result (IsWithinLimits config) }
     ensures size { (IsWithinLimits config → ⊥) → IsErrOf result Fault.Size }

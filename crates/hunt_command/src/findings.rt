@@ -1,11 +1,15 @@
-//! The different results of runs, and how many runs had each.
+//! The different results of runs, how many runs had each, and which runs are unfinished.
 
-ghost use Rattle.std.specs.Prelude.{◌≡◌, ◌+◌, ◌++◌, ◌<◌, ◌^◌, [], Some, IfOk, OnOk, length, slice_get, string_bytes};
+ghost use Rattle.std.specs.Prelude.{◌≡◌, ◌+◌, ◌++◌, ◌<◌, ◌^◌, [], Some, IfOk, OnOk, codes, length, slice_get};
+ghost use Rattle.std.specs.Prelude.{string_bytes};
+ghost use Rattle.std.specs.Fmt.{decimal};
 ghost use Rattle.indexmap.specs.IndexMap.{index_map_len};
 ghost use Rattle.indexmap.specs.Layout.{set_value_at};
-ghost use Rattle.hunt_command.specs.Findings.{finding_lines, findings_lines, firsts, noted};
+ghost use Rattle.hunt_command.specs.Findings.{finding_lines, findings_lines, firsts, hunt_lines, if_unfinished};
+ghost use Rattle.hunt_command.specs.Findings.{noted, numbers_text, unfinished_line};
 
 use indexmap::IndexMap;
+use schedules::SweepEnd;
 use std::alloc::{AllocError, Global};
 use std::fmt::Write;
 use std::marker::Model;
@@ -17,12 +21,14 @@ struct Counted {
     first: u32,
 }
 
-/// Different results, ordered by their first runs. Contracts see the results found, and how many results were noted.
+/// Different results, ordered by their first runs, and the runs that used up their budgets while a processor ran.
+/// Contracts see the results found, how many results were noted, and the numbers of the unfinished runs.
 #[derive(Drop)]
 pub struct Findings {
     /// The counts, by the text of each result.
     found: IndexMap<String, Counted>,
     noted: u32,
+    unfinished: Vec<u32>,
 }
 
 impl Model for Findings {
@@ -34,22 +40,25 @@ impl Model for Findings {
     ghost view = { λ f. record {
       found = found_in (λ text. string_bytes text) (λ counted. counted.runs) (λ counted. counted.first) f.found.entries;
       noted = f.noted;
+      unfinished = f.unfinished.items;
     } };
 
     ghost invariant = { λ f. AreFew (record {
       found = found_in (λ text. string_bytes text) (λ counted. counted.runs) (λ counted. counted.first) f.found.entries;
       noted = f.noted;
+      unfinished = f.unfinished.items;
     }) };
 }
 
 impl Findings {
     /// Findings with no result noted.
     pub fn new(alloc: Global) -> Self
-        ensures { result ≡ record { found = []; noted = 0 } }
+        ensures { result ≡ record { found = []; noted = 0; unfinished = [] } }
     {
         Findings {
             found: IndexMap::new(alloc),
             noted: 0,
+            unfinished: Vec::new(alloc),
         }
     }
 
@@ -78,8 +87,10 @@ impl Findings {
     /// [`AllocError`] if there is no memory for it.
     pub fn add(&mut self, text: String, number: u32) -> Result<(), AllocError>
         requires { self.old.noted + 1 < 2 ^ 32 }
-        ensures { OnOk result (self.new
-            ≡ record { found = noted self.old.found (string_bytes text) number; noted = self.old.noted + 1 }) }
+        ensures { OnOk result (self.new ≡ record self.old {
+          found = noted self.old.found (string_bytes text) number;
+          noted = self.old.noted + 1;
+        }) }
     {
         self.noted += 1;
         let Some(place) = self.found.get_index_of(&text) else {
@@ -98,6 +109,29 @@ impl Findings {
             first: before.first,
         };
         put_at(&mut self.found, place, counted);
+        Ok(())
+    }
+
+    /// The numbers of the unfinished runs, in the order in which they were noted.
+    pub fn unfinished(&self) -> &[u32]
+        ensures { result.now ≡ self.now.unfinished }
+    {
+        self.unfinished.as_slice()
+    }
+
+    /// Notes how the run with this number ended.
+    ///
+    /// # Errors
+    ///
+    /// [`AllocError`] if there is no memory for it.
+    pub fn note_end(&mut self, end: SweepEnd, number: u32) -> Result<(), AllocError>
+        ensures { OnOk result (self.new
+            ≡ record self.old { unfinished = self.old.unfinished ++ if_unfinished end number }) }
+    {
+        match end {
+            SweepEnd::Over => {}
+            SweepEnd::Budget => self.unfinished.push(number)?,
+        }
         Ok(())
     }
 }
@@ -122,20 +156,58 @@ fn push_result(text: &mut String, found: &str, counted: &Counted) -> Result<(), 
     text.push_str(found)
 }
 
-/// The lines of all results found.
+/// The lines of all results found, and that of the unfinished runs.
 ///
 /// # Errors
 ///
 /// [`AllocError`] if there is no memory for them.
 pub fn findings_text(alloc: Global, findings: &Findings) -> Result<String, AllocError>
-    ensures { IfOk result (λ text. string_bytes text ≡ findings_lines findings.now.found) }
+    ensures { IfOk result (λ text. string_bytes text ≡ hunt_lines findings.now.found findings.now.unfinished) }
 {
     let mut text = String::new(alloc);
+    push_results(&mut text, findings)?;
+    push_unfinished(&mut text, findings.unfinished())?;
+    Ok(text)
+}
+
+/// Appends the lines of all results found.
+fn push_results(text: &mut String, findings: &Findings) -> Result<(), AllocError>
+    ensures { OnOk result (string_bytes text.new ≡ string_bytes text.old ++ findings_lines findings.now.found) }
+{
     for place in 0..findings.count() {
         let Some((found, counted)) = findings.found.get_index(place) else {
             unreachable!()
         };
-        push_result(&mut text, found.as_str(), counted)?;
+        push_result(text, found.as_str(), counted)?;
     }
-    Ok(text)
+    Ok(())
+}
+
+/// Appends the line of the unfinished runs, if there are any.
+fn push_unfinished(text: &mut String, unfinished: &[u32]) -> Result<(), AllocError>
+    ensures { OnOk result (string_bytes text.new ≡ string_bytes text.old ++ unfinished_line unfinished.now) }
+{
+    if unfinished.is_empty() {
+        return Ok(());
+    }
+    text.push_str("unfinished")?;
+    push_numbers(text, unfinished)?;
+    text.push('\n')
+}
+
+/// Appends each number, after a blank.
+fn push_numbers(text: &mut String, numbers: &[u32]) -> Result<(), AllocError>
+    ensures { OnOk result (string_bytes text.new ≡ string_bytes text.old ++ numbers_text numbers.now) }
+{
+    for number in numbers.iter() {
+        push_number(text, *number)?;
+    }
+    Ok(())
+}
+
+/// Appends a number after a blank.
+fn push_number(text: &mut String, number: u32) -> Result<(), AllocError>
+    ensures { OnOk result (string_bytes text.new ≡ string_bytes text.old ++ codes " " ++ decimal number) }
+{
+    write!(text, " {number}")
 }

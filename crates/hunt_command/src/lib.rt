@@ -6,7 +6,8 @@
 //! the same run ([`random_runs_have_one_log`]).
 //!
 //! The result of a run is a text ([`result_text`]). Runs with the same text are counted together ([`Findings`]), and
-//! each text is printed once. If traces are asked for, that of the first run with each result is written where
+//! each text is printed once. A run that used up its budget while a processor ran is unfinished: a last line names such
+//! runs, and the exit status says that there are some. If traces are asked for, that of the first run with each result is written where
 //! [`Traces`] says, unless one of them exists already. A [`HuntObserver`] sees the progress.
 #![tactic(auto)]
 
@@ -21,7 +22,7 @@ mod runs;
 mod saving;
 mod schedule;
 
-pub use command::{Hunt, hunt_command};
+pub use command::{Hunt, UNFINISHED, hunt_command};
 pub use findings::{Findings, findings_text};
 pub use lines::result_text;
 pub use observer::{HuntObserver, HuntProgress, NoHuntProgress};

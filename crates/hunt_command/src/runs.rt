@@ -47,19 +47,27 @@ pub(crate) fn run_of(
     Ok((log, end))
 }
 
-/// The result of the run with this number: its text and its exit status. A tally notes what the processors show as they
-/// take the steps.
+/// The result of a run.
+#[derive(Drop)]
+struct RunResult {
+    text: String,
+    end: SweepEnd,
+    /// The exit status of the machine.
+    status: u8,
+}
+
+/// The result of the run with this number. A tally notes what the processors show as they take the steps.
 fn result_of(
     alloc: Global,
     image: &Image,
     config: Config,
     budget: u32,
     number: u32,
-) -> Result<(String, u8), Fault>
+) -> Result<RunResult, Fault>
     requires words { image.now.shared_words ≡ config.shared_words }
     ensures result { IfOk result (λ done. IsResultOf config image.now (most_of budget) number
-        (record { text = string_bytes done.0; status = done.1 })) }
-    ensures low { IfOk result (λ done. done.1 ≤ 1) }
+        (record { text = string_bytes done.text; end = done.end; status = done.status })) }
+    ensures low { IfOk result (λ done. done.status ≤ 1) }
     ensures refused { IfErr result (IsFaultOfSize config) }
 {
     let machine = machine_of_copy(alloc, image, config)?;
@@ -68,10 +76,11 @@ fn result_of(
     let end = observed_run(&mut log, number, budget, &mut tally)?;
     laws::log_is_well_formed(&log);
     let (machine, _, _) = log.into_parts();
-    drained_result(alloc, machine, end, tally)
+    let (text, status) = drained_result(alloc, machine, end, tally)?;
+    Ok(RunResult { text, end, status })
 }
 
-/// The result of a run that ended in this way, after its machine is drained.
+/// The text and the exit status of a run that ended in this way, after its machine is drained.
 // A separate function, so that neither has many values to drop at each return.
 fn drained_result(
     alloc: Global,
@@ -102,8 +111,8 @@ fn greater(one: u8, other: u8) -> u8
     if one < other { other } else { one }
 }
 
-/// The results of this many runs, starting with this number, and the greatest of their exit statuses. The observer sees
-/// the progress.
+/// The results of this many runs, starting with this number, and the greatest exit status of a machine. The observer
+/// sees the progress.
 ///
 /// # Errors
 ///
@@ -118,18 +127,20 @@ pub(crate) fn findings_of<G: HuntObserver>(
     observer: &mut G,
 ) -> Result<(Findings, u8), Fault>
     requires words { image.now.shared_words ≡ config.shared_words }
-    ensures found { IfOk result (λ done. AreFound config image.now (most_of budget) start runs done.0.found done.1) }
+    ensures found { IfOk result (λ done.
+        AreFound config image.now (most_of budget) start runs done.0.found done.0.unfinished done.1) }
     ensures low { IfOk result (λ done. done.1 ≤ 1) }
     ensures refused { IfErr result (IsFaultOfSize config) }
 {
     let mut findings = Findings::new(alloc);
-    let mut status = 0;
+    let mut greatest = 0;
     for place in 0..runs {
         let number = start.wrapping_add(place);
-        let (text, of_run) = result_of(alloc, image, config, budget, number)?;
+        let RunResult { text, end, status } = result_of(alloc, image, config, budget, number)?;
         findings.add(text, number)?;
-        status = greater(of_run, status);
+        findings.note_end(end, number)?;
+        greatest = greater(status, greatest);
         observer.progress(place + 1, findings.count());
     }
-    Ok((findings, status))
+    Ok((findings, greatest))
 }

@@ -6,7 +6,7 @@ ghost use Rattle.std.specs.Prelude.{⊤};
 mod devices;
 
 use flat_machine::Config;
-use hunt_command::{Hunt, HuntObserver, Traces, hunt_command};
+use hunt_command::{Hunt, HuntObserver, Traces, UNFINISHED, hunt_command};
 use link::Meter;
 use std::alloc::{AllocError, AllocGlobal, Global};
 use std::io::Write;
@@ -162,8 +162,8 @@ fn one_result(rt: HostRuntime) -> Result<(), Fail> {
         (
             "lui x5, 0x80000\nsw x5, 4(x5)\nloop: jal x0, loop",
             0,
-            "runs 3 first 0 budget\nprocessor 0 run console -\nword 1 80000000\n",
-            0,
+            "runs 3 first 0 budget\nprocessor 0 run console -\nword 1 80000000\nunfinished 0 1 2\n",
+            UNFINISHED,
         ),
     ] {
         let image = image_of(alloc, text)?;
@@ -177,6 +177,35 @@ fn one_result(rt: HostRuntime) -> Result<(), Fail> {
         if text == "ecall" {
             assert_same!(rt; trace.as_slice(), HALTS.as_slice());
         }
+    }
+    Ok(())
+}
+
+/// Both of two processors swap 1 into word 0. The one that gets 0 halts, and the other does as this text says.
+const SECOND: &str = "lui x5, 0x80000\naddi x6, x0, 1\namoswap.w x7, x6, (x5)\nbeq x7, x0, first\n";
+
+/// A run in which a processor waits for ever is unfinished, unless a fault has stopped another. The exit status is
+/// [`UNFINISHED`] if some run is unfinished and no fault has stopped a processor in any run.
+#[test]
+fn unfinished_runs(rt: HostRuntime) -> Result<(), Fail> {
+    let alloc = rt.alloc();
+    // Whoever is second waits for ever, so every run is unfinished; or stops by a fault, so every run is over.
+    for (rest, last, status) in [
+        (
+            "wait: jal x0, wait\nfirst: ecall",
+            "unfinished 8 9\n",
+            UNFINISHED,
+        ),
+        ("ebreak\nfirst: jal x0, first", "", 1),
+    ] {
+        let text = format!(in alloc; "{SECOND}{rest}")?;
+        let image = image_of(alloc, text.as_str())?;
+        let ran = hunted(image.as_slice(), size(1), 8, 2, keeping(alloc));
+        let printed = str::from_utf8(ran.out.as_slice())?;
+        assert!(rt; printed.ends_with(last), "{printed}");
+        assert_same!(rt; printed.contains("unfinished"), !last.is_empty());
+        assert_same!(rt; ran.status, status);
+        assert_same!(rt; ran.err.len(), 0);
     }
     Ok(())
 }

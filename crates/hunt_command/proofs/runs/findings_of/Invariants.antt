@@ -5,7 +5,7 @@ use Rattle.hunt_command.proofs.runs.findings_of.Given as goal
 
 abbrev pub invariant-loop-place : goal.invariant-loop-place
 invariant-loop-place g l = record {
-  found : AreFound l.config l.image (most_of l.budget) l.start l.place l.findings.found l.status;
+  found : AreFound l.config l.image (most_of l.budget) l.start l.place l.findings.found l.findings.unfinished l.greatest;
   noted : l.findings.noted ≡ l.place;
-  low : l.status ≤ 1;
+  low : l.greatest ≤ 1;
 }

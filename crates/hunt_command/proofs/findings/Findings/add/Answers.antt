@@ -24,7 +24,8 @@ returns-in_default c =
     (sym c.in_default.ensures.index) more
     ∙ ap (λ (s : FindingsState). noted s.found (string_bytes c.args.text) c.args.number) c.self.view_is in
     let count = ap (λ (s : FindingsState). s.noted) c.self.view_is in
-    λ j. record { found = found j; noted = count j + 1 }
+    let ended = ap (λ (s : FindingsState). s.unfinished) c.self.view_is in
+    λ j. record { found = found j; noted = count j + 1; unfinished = ended j }
 
 pub overflow_add-counted : goal.overflow_add-counted
 overflow_add-counted c =
@@ -52,4 +53,5 @@ returns c =
     c.in-Some-get_index.before.now _ c.args.number (sym c.in-Some.ensures.index) (sym c.in-Some-get_index.ensures.entry) refl c.put_at.ensures
     ∙ ap (λ (s : FindingsState). noted s.found (string_bytes c.args.text) c.args.number) c.self.view_is in
     let count = ap (λ (s : FindingsState). s.noted) c.self.view_is in
-    λ j. record { found = found j; noted = count j + 1 }
+    let ended = ap (λ (s : FindingsState). s.unfinished) c.self.view_is in
+    λ j. record { found = found j; noted = count j + 1; unfinished = ended j }

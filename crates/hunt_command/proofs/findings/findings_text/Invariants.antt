@@ -1,7 +1,0 @@
-use Rattle.std.proofs.Common.{◌≡◌, take}
-use Rattle.std.specs.Prelude.{string_bytes}
-use Rattle.hunt_command.specs.Findings.{findings_lines}
-use Rattle.hunt_command.proofs.findings.findings_text.Given as goal
-
-abbrev pub invariant-loop-place : goal.invariant-loop-place
-invariant-loop-place l = string_bytes l.text ≡ findings_lines (take l.place l.findings.found)
