@@ -144,6 +144,7 @@ module _ (c : Config) (image : ImageContents) (results : List FinalResult) (step
   stuck_witness number is stuck = record {
     opening = taken.opening;
     opens = taken.opens;
-    leads = subst (λ n. LeadTo taken.opening results n steps) (sym is) (record { machine = m; replay = taken.replay_counted.replay; no_pokes = own; stuck = stuck });
+    leads = subst (λ n. LeadTo taken.opening results n steps) (sym is)
+        (record { machine = m; replay = taken.replay_counted.replay; no_pokes = own; stuck = stuck });
     trace = trace;
   }

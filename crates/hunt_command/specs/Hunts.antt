@@ -212,12 +212,12 @@ pub record HuntFails {T W : Type 0} (h : AskedHunt) (t : HuntTraces T W) (out : 
 -- ---- the exit status
 
 -- The exit status says that the results are printed.
-abbrev pub IsPrinted : (status : ℕ) → Type 0
-IsPrinted status = (status ≤ 1) ⊎ (5 ≤ status)
+abbrev pub IsReportStatus : (status : ℕ) → Type 0
+IsReportStatus status = (status ≤ 1) ⊎ (5 ≤ status)
 
 -- The exit status says that they are not.
-abbrev pub IsUnprinted : (status : ℕ) → Type 0
-IsUnprinted status = (2 ≤ status) × (status ≤ 4)
+abbrev pub IsRefusalStatus : (status : ℕ) → Type 0
+IsRefusalStatus status = (2 ≤ status) × (status ≤ 4)
 
 -- the exit status for a refusal
 abbrev pub status_of : Refused → ℕ

@@ -7,8 +7,9 @@ ghost use Rattle.schedules.specs.Sweeps.{most_of};
 ghost use Rattle.command_io.specs.Files.{IsFaultOfSize};
 ghost use Rattle.command_io.specs.Links.{Input, input, output};
 ghost use Rattle.command_io.specs.Printing.{Prints, ReportsRefusal};
-ghost use Rattle.hunt_command.specs.Hunts.{AreFound, IsHunt, HuntFails, IsPrinted, IsRefusalReported, IsRefused};
-ghost use Rattle.hunt_command.specs.Hunts.{IsUnprinted, asked_hunt, hunt_status, hunt_traces, status_of, trace_store};
+ghost use Rattle.hunt_command.specs.Hunts.{AreFound, IsHunt, HuntFails, IsReportStatus, IsRefusalReported, IsRefused};
+ghost use Rattle.hunt_command.specs.Hunts.{IsRefusalStatus, asked_hunt, hunt_status, hunt_traces, status_of};
+ghost use Rattle.hunt_command.specs.Hunts.{trace_store};
 
 use crate::findings::{Findings, findings_text};
 use crate::observer::HuntObserver;
@@ -41,10 +42,10 @@ pub struct Hunt {
 /// result of the runs once. The observer sees the progress of the hunt. If traces are asked for, that of the first run
 /// to each result is written first. If one of these traces exists already, none is written and nothing is printed.
 ///
-/// Returns the exit status. If all is printed, it is 1 if a fault has stopped a processor in some run; else 5 if some run
-/// is unfinished, which means that its budget was used up while a processor ran; else 0. If not, it is that of the
-/// refusal reported on standard error. Refusals are checked in this order: of the image, of the machine's size, of a
-/// trace that exists, of one that cannot be written, of standard output.
+/// Returns the exit status. If all is printed, it is 1 if a fault has stopped a processor in some run; else 5 if some
+/// run is unfinished, which means that its budget was used up while a processor ran; else 0. If not all is printed, it
+/// is that of the refusal reported on standard error. Refusals are checked in this order: of the image, of the
+/// machine's size, of a trace that exists, of one that cannot be written, of standard output.
 pub fn hunt_command<R: LinkRead, T: Traces, G: HuntObserver, W: LinkWrite, E: Write>(
     alloc: Global,
     file: &mut R,
@@ -57,19 +58,19 @@ pub fn hunt_command<R: LinkRead, T: Traces, G: HuntObserver, W: LinkWrite, E: Wr
 ) -> u8
     requires reads { R.has_failed file.old ≡ false }
     requires prints { W.has_failed out.old ≡ false }
-    ensures printed { IsPrinted result →
+    ensures printed { IsReportStatus result →
         Prints (IsHunt (asked_hunt config hunt (input R.remaining R.has_failed file.old file.new))
         (hunt_traces (trace_store T.finds T.opens T.closes T.Writer.has_failed T.Writer.contents) traces.old traces.new)
         result) (W.contents out.old) (W.contents out.new) }
-    ensures fault { IsUnprinted result → ReportsRefusal status_of
+    ensures fault { IsRefusalStatus result → ReportsRefusal status_of
         (HuntFails (asked_hunt config hunt (input R.remaining R.has_failed file.old file.new))
         (hunt_traces (trace_store T.finds T.opens T.closes T.Writer.has_failed T.Writer.contents) traces.old traces.new)
         (output W.contents W.has_failed out.old out.new))
         (IsRefusalReported (E.contents err.old) (E.contents err.new)) result }
     ensures failed { W.has_failed out.new ≡ true → result ≡ 3 }
     ensures unread { R.has_failed file.new ≡ true → result ≡ 3 }
-    ensures silent { IsUnprinted result → W.has_failed out.new ≡ false → out.new ≡ out.old }
-    ensures quiet { IsPrinted result → err.new ≡ err.old }
+    ensures silent { IsRefusalStatus result → W.has_failed out.new ≡ false → out.new ≡ out.old }
+    ensures quiet { IsReportStatus result → err.new ≡ err.old }
 {
     match execute(alloc, file, config, hunt, traces, observer, out) {
         Ok(status) => status,
@@ -80,7 +81,7 @@ pub fn hunt_command<R: LinkRead, T: Traces, G: HuntObserver, W: LinkWrite, E: Wr
 /// Reports why nothing is printed, and returns the exit status.
 fn tell_refused<T: Traces, E: Write>(refused: Refused, traces: &Option<T>, err: &mut E) -> u8
     ensures fault { result ≡ status_of refused }
-    ensures unprinted { IsUnprinted result }
+    ensures unprinted { IsRefusalStatus result }
     ensures reported { IsRefusalReported (E.contents err.old) (E.contents err.new) refused }
 {
     match (refused, traces) {
@@ -111,7 +112,7 @@ fn execute<R: LinkRead, T: Traces, G: HuntObserver, W: LinkWrite>(
         Prints (IsHunt (asked_hunt config hunt (input R.remaining R.has_failed file.old file.new))
         (hunt_traces (trace_store T.finds T.opens T.closes T.Writer.has_failed T.Writer.contents) traces.old traces.new)
         status) (W.contents out.old) (W.contents out.new)) }
-    ensures done { IfOk result IsPrinted }
+    ensures done { IfOk result IsReportStatus }
     ensures fault { IfErr result
         (IsRefused (asked_hunt config hunt (input R.remaining R.has_failed file.old file.new))
         (hunt_traces (trace_store T.finds T.opens T.closes T.Writer.has_failed T.Writer.contents) traces.old traces.new)
@@ -141,7 +142,7 @@ fn hunt_image<T: Traces, G: HuntObserver, W: LinkWrite>(
         → Prints (IsHunt (asked_hunt config hunt file)
         (hunt_traces (trace_store T.finds T.opens T.closes T.Writer.has_failed T.Writer.contents) traces.old traces.new)
         status) (W.contents out.old) (W.contents out.new)) }
-    ensures done { IfOk result IsPrinted }
+    ensures done { IfOk result IsReportStatus }
     ensures size { (IsWithinLimits config → ⊥) → IsErrOf result (Refused.Fault Fault.Size) }
     ensures fault { IfErr result (λ refused. (file : Input) → IsImageOf config.shared_words file.bytes image.now
         → IsRefused (asked_hunt config hunt file)
@@ -159,7 +160,7 @@ fn hunt_image<T: Traces, G: HuntObserver, W: LinkWrite>(
 /// The exit status of a hunt, given the greatest exit status of a machine and the numbers of the unfinished runs.
 fn hunt_status(greatest: u8, unfinished: &[u32]) -> u8
     ensures status { result ≡ hunt_status greatest unfinished.now }
-    ensures done { IsPrinted result }
+    ensures done { IsReportStatus result }
 {
     if greatest != DONE {
         STOPPED_BY_FAULT

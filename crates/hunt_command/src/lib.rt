@@ -7,8 +7,8 @@
 //!
 //! The result of a run is a text ([`result_text`]). Runs with the same text are counted together ([`Findings`]), and
 //! each text is printed once. A run that used up its budget while a processor ran is unfinished: a last line names such
-//! runs, and the exit status says that there are some. If traces are asked for, that of the first run with each result is written where
-//! [`Traces`] says, unless one of them exists already. A [`HuntObserver`] sees the progress.
+//! runs, and the exit status says that there are some. If traces are asked for, that of the first run with each result
+//! is written where [`Traces`] says, unless one of them exists already. A [`HuntObserver`] sees the progress.
 #![tactic(auto)]
 
 mod command;

@@ -15,6 +15,7 @@ loop-place-preserved g c =
     record {
       found = one_observed _ _ _ _ _ _ _ _ _ _ _ _ i.found (search rules) c.in_ok-text.ensures.result c.in_ok-add.ensures c.in_ok-note_end.ensures
           (search rules);
-      noted = ap (λ (f : FindingsState). f.noted) c.in_ok-note_end.ensures ∙ (ap (λ (f : FindingsState). f.noted) c.in_ok-add.ensures ∙ ap (λ n. n + 1) i.noted);
+      noted = ap (λ (f : FindingsState). f.noted) c.in_ok-note_end.ensures
+          ∙ (ap (λ (f : FindingsState). f.noted) c.in_ok-add.ensures ∙ ap (λ n. n + 1) i.noted);
       low = search rules;
     }
