@@ -7,7 +7,7 @@
 // closed in the middle.
 //
 // The program has to end by itself within 20 seconds of its own time and 60 on the clock, in bounded memory, with a status from 0 to
-// 5. If the status is 0, 1 or 5, it prints nothing on standard error. Otherwise it prints one fault with a code there, and no output. If sizes
+// 6. If the status is 0, 1, 5 or 6, it prints nothing on standard error. Otherwise it prints one fault with a code there, and no output. If sizes
 // are not explored, `explore --every` prints a line for each size, and a fault for each that is not. Each line of a debugger has one
 // reply, up to the first `quit` and while the connection holds, and every reply is of a documented form.
 //
@@ -33,7 +33,7 @@
 #include <time.h>
 #include <unistd.h>
 
-enum { MOST_BYTES = 1 << 15, MOST_FILES = 256, STATUSES = 6 };
+enum { MOST_BYTES = 1 << 15, MOST_FILES = 256, STATUSES = 7 };
 
 // What a command takes after its options.
 enum takes { A_FILE, A_FILE_AND_NOWHERE, A_TRACE_AND_AN_IMAGE, AN_IMAGE_OF_EVERY_SIZE, LINES };
@@ -380,7 +380,7 @@ static const char *wrong(const struct ended *ended, const struct command *comman
         return "the status";
     if (ended->kilobytes > command->kilobytes)
         return "the memory that it takes";
-    if (ended->status <= 1 || ended->status == 5)
+    if (ended->status <= 1 || ended->status >= 5)
         return count ? "what it prints on standard error" : NULL;
     if (command->takes == AN_IMAGE_OF_EVERY_SIZE && printed.st_size)
         return are_sizes(out, said) ? NULL : "the sizes that it reports";

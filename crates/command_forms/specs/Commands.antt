@@ -166,8 +166,8 @@ explore_command =
 unfoldable pub hunt_command : App
 hunt_command =
     with_number start (with_number runs (with_number steps (with_sizes
-    (with_rule (with_rule (with_rule (with_file (new_app (codes "hunt"))) (option (codes "trace")))
-    (flag (codes "overwrite")))
+    (with_rule (with_rule (with_rule (with_rule (with_file (new_app (codes "hunt"))) (option (codes "trace")))
+    (flag (codes "overwrite"))) (flag (codes "expect-one")))
     (flag (codes "quiet"))))))
 
 -- the program, which has a version and requires a subcommand

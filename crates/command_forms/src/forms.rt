@@ -184,6 +184,10 @@ const HUNT: CommandForm = CommandForm {
             help: "Overwrite traces that exist; without it the hunt is refused if one does",
         },
         Argument::Flag {
+            name: "expect-one",
+            help: "Expect all runs to come to one result; if they do not, the exit status says so",
+        },
+        Argument::Flag {
             name: "quiet",
             help: "Show no progress line on a terminal",
         },

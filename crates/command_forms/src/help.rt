@@ -234,6 +234,8 @@ is not zero, as `ultra run` prints them. A result that is not found may still ex
 A run is unfinished if it has used up its budget while a processor runs, which may wait for ever. If there
 are such runs, a last line `unfinished S S ..` has their numbers.
 
+With --expect-one the exit status is 6 if the runs came to more than one result, unless it is 1 or 5.
+
 With --trace nothing is written before all runs are over. If a file that would be written exists then, no
 trace is written and no result is printed, unless --overwrite is given. Meanwhile a line on a terminal
 shows how many runs are over and how many results are found, unless --quiet is given.
@@ -241,4 +243,5 @@ shows how many runs are over and how many results are found, unless --quiet is g
 Faults are reported on standard error as by `ultra run`, and then no result is printed.
 
 Exit status: 0 done, 1 a fault stopped a processor in a run, 2 a refused image or command line, 3 a
-file or standard output failed, 4 out of memory, 5 no fault stopped a processor, but a run is unfinished.";
+file or standard output failed, 4 out of memory, 5 no fault stopped a processor, but a run is unfinished,
+6 neither, but with --expect-one there is more than one result.";

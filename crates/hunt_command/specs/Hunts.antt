@@ -1,6 +1,6 @@
 -- What a hunt prints: from the bytes of an image's file to the different results of its runs.
 use Rattle.std.specs.Prelude.{◌≡◌, ◌⊎◌, ℕ, zero, suc, ◌+◌, ◌%◌, ◌^◌, ◌≤◌, nat_lt, Bool, if◌then◌else◌, List, []}
-use Rattle.std.specs.Prelude.{◌∷◌, ◌++◌, Option, Some, length, slice_get}
+use Rattle.std.specs.Prelude.{◌∷◌, ◌++◌, true, false, Option, Some, length, slice_get}
 use Rattle.flat_machine.specs.declared.config.Config.{Config}
 use Rattle.flat_machine.specs.Limits.{IsWithinLimits}
 use Rattle.elf_image.specs.declared.error.ImageError.TheVariants as of_image
@@ -108,12 +108,17 @@ pub record AreFound (c : Config) (image : ImageContents) (most start runs : ℕ)
   pub those : unfinished ≡ unfinished_from start 0 results
   pub exit : greatest ≡ greatest_from 0 results
 
+-- Whether one result is expected, and more than one was found.
+abbrev pub is_unexpected : (expect_one : Bool) → List FindingState → Bool
+is_unexpected expect_one found = if expect_one then nat_lt 1 (length found) else false
+
 -- the exit status of a hunt, given the greatest exit status of a machine: 1 if a fault has stopped a processor in some
--- run; else 5 if some run is unfinished; else 0
-abbrev pub hunt_status : (greatest : ℕ) → (unfinished : List ℕ) → ℕ
-hunt_status zero [] = 0
-hunt_status zero (n ∷ ns) = 5
-hunt_status (suc faulted) unfinished = 1
+-- run; else 5 if some run is unfinished; else 6 if the results are not as expected; else 0
+abbrev pub hunt_status : (greatest : ℕ) → (unfinished : List ℕ) → (unexpected : Bool) → ℕ
+hunt_status zero [] false = 0
+hunt_status zero [] true = 6
+hunt_status zero (n ∷ ns) unexpected = 5
+hunt_status (suc faulted) unfinished unexpected = 1
 
 -- ---- a hunt
 
@@ -173,7 +178,7 @@ pub record IsHunt {T W : Type 0} (h : AskedHunt) (t : HuntTraces T W) (status : 
   pub has_found : HasFound h image found unfinished greatest
   pub saved : HasSaved h t image found
   pub lines : text ≡ hunt_lines found unfinished
-  pub exit : status ≡ hunt_status greatest unfinished
+  pub exit : status ≡ hunt_status greatest unfinished (is_unexpected h.hunt.expect_one found)
 
 -- This is the text of the hunt, with some exit status.
 abbrev pub IsSomeHunt : {T W : Type 0} → AskedHunt → HuntTraces T W → (text : List ℕ) → Type 0
@@ -211,13 +216,13 @@ pub record HuntFails {T W : Type 0} (h : AskedHunt) (t : HuntTraces T W) (out : 
 
 -- ---- the exit status
 
--- The exit status says that the results are printed.
-abbrev pub IsReportStatus : (status : ℕ) → Type 0
-IsReportStatus status = (status ≤ 1) ⊎ (5 ≤ status)
+-- The exit status is one of a hunt whose results are printed.
+abbrev pub IsOfResults : (status : ℕ) → Type 0
+IsOfResults status = (status ≤ 1) ⊎ (5 ≤ status)
 
--- The exit status says that they are not.
-abbrev pub IsRefusalStatus : (status : ℕ) → Type 0
-IsRefusalStatus status = (2 ≤ status) × (status ≤ 4)
+-- The exit status is one of a hunt that is refused.
+abbrev pub IsOfRefusal : (status : ℕ) → Type 0
+IsOfRefusal status = (2 ≤ status) × (status ≤ 4)
 
 -- the exit status for a refusal
 abbrev pub status_of : Refused → ℕ

@@ -7,8 +7,8 @@ ghost use Rattle.schedules.specs.Sweeps.{most_of};
 ghost use Rattle.command_io.specs.Files.{IsFaultOfSize};
 ghost use Rattle.command_io.specs.Links.{Input, input, output};
 ghost use Rattle.command_io.specs.Printing.{Prints, ReportsRefusal};
-ghost use Rattle.hunt_command.specs.Hunts.{AreFound, IsHunt, HuntFails, IsReportStatus, IsRefusalReported, IsRefused};
-ghost use Rattle.hunt_command.specs.Hunts.{IsRefusalStatus, asked_hunt, hunt_status, hunt_traces, status_of};
+ghost use Rattle.hunt_command.specs.Hunts.{AreFound, IsHunt, HuntFails, IsOfResults, IsRefusalReported, IsRefused};
+ghost use Rattle.hunt_command.specs.Hunts.{IsOfRefusal, asked_hunt, hunt_status, hunt_traces, is_unexpected, status_of};
 ghost use Rattle.hunt_command.specs.Hunts.{trace_store};
 
 use crate::findings::{Findings, findings_text};
@@ -27,7 +27,11 @@ use std::io::Write;
 /// while a processor ran.
 pub const UNFINISHED: u8 = 5;
 
-/// Which runs a hunt takes.
+/// The exit status of a hunt that has printed all, if one result is expected and more than one was found, no fault has
+/// stopped a processor, and no run is unfinished.
+pub const UNEXPECTED: u8 = 6;
+
+/// Which runs a hunt takes, and what is expected of them.
 #[derive(Clone, Copy, Debug, PartialEq, Eq, Drop)]
 pub struct Hunt {
     /// The maximum number of steps of a run, and of turns that it asks for.
@@ -36,6 +40,8 @@ pub struct Hunt {
     pub runs: u32,
     /// The number of the first run. Each later run has the next number, and 0 comes after the greatest.
     pub start: u32,
+    /// Whether all runs are expected to come to one result.
+    pub expect_one: bool,
 }
 
 /// Reads an image, runs it on machines of this size by random schedules, one for each number, and prints each different
@@ -43,9 +49,10 @@ pub struct Hunt {
 /// to each result is written first. If one of these traces exists already, none is written and nothing is printed.
 ///
 /// Returns the exit status. If all is printed, it is 1 if a fault has stopped a processor in some run; else 5 if some
-/// run is unfinished, which means that its budget was used up while a processor ran; else 0. If not all is printed, it
-/// is that of the refusal reported on standard error. Refusals are checked in this order: of the image, of the
-/// machine's size, of a trace that exists, of one that cannot be written, of standard output.
+/// run is unfinished, which means that its budget was used up while a processor ran; else 6 if one result is expected
+/// and more than one was found; else 0. If not, it is that of the refusal reported on standard error. Refusals are
+/// checked in this order: of the image, of the machine's size, of a trace that exists, of one that cannot be written,
+/// of standard output.
 pub fn hunt_command<R: LinkRead, T: Traces, G: HuntObserver, W: LinkWrite, E: Write>(
     alloc: Global,
     file: &mut R,
@@ -58,19 +65,19 @@ pub fn hunt_command<R: LinkRead, T: Traces, G: HuntObserver, W: LinkWrite, E: Wr
 ) -> u8
     requires reads { R.has_failed file.old ≡ false }
     requires prints { W.has_failed out.old ≡ false }
-    ensures printed { IsReportStatus result →
+    ensures printed { IsOfResults result →
         Prints (IsHunt (asked_hunt config hunt (input R.remaining R.has_failed file.old file.new))
         (hunt_traces (trace_store T.finds T.opens T.closes T.Writer.has_failed T.Writer.contents) traces.old traces.new)
         result) (W.contents out.old) (W.contents out.new) }
-    ensures fault { IsRefusalStatus result → ReportsRefusal status_of
+    ensures fault { IsOfRefusal result → ReportsRefusal status_of
         (HuntFails (asked_hunt config hunt (input R.remaining R.has_failed file.old file.new))
         (hunt_traces (trace_store T.finds T.opens T.closes T.Writer.has_failed T.Writer.contents) traces.old traces.new)
         (output W.contents W.has_failed out.old out.new))
         (IsRefusalReported (E.contents err.old) (E.contents err.new)) result }
     ensures failed { W.has_failed out.new ≡ true → result ≡ 3 }
     ensures unread { R.has_failed file.new ≡ true → result ≡ 3 }
-    ensures silent { IsRefusalStatus result → W.has_failed out.new ≡ false → out.new ≡ out.old }
-    ensures quiet { IsReportStatus result → err.new ≡ err.old }
+    ensures silent { IsOfRefusal result → W.has_failed out.new ≡ false → out.new ≡ out.old }
+    ensures quiet { IsOfResults result → err.new ≡ err.old }
 {
     match execute(alloc, file, config, hunt, traces, observer, out) {
         Ok(status) => status,
@@ -81,7 +88,7 @@ pub fn hunt_command<R: LinkRead, T: Traces, G: HuntObserver, W: LinkWrite, E: Wr
 /// Reports why nothing is printed, and returns the exit status.
 fn tell_refused<T: Traces, E: Write>(refused: Refused, traces: &Option<T>, err: &mut E) -> u8
     ensures fault { result ≡ status_of refused }
-    ensures unprinted { IsRefusalStatus result }
+    ensures refusal { IsOfRefusal result }
     ensures reported { IsRefusalReported (E.contents err.old) (E.contents err.new) refused }
 {
     match (refused, traces) {
@@ -112,7 +119,7 @@ fn execute<R: LinkRead, T: Traces, G: HuntObserver, W: LinkWrite>(
         Prints (IsHunt (asked_hunt config hunt (input R.remaining R.has_failed file.old file.new))
         (hunt_traces (trace_store T.finds T.opens T.closes T.Writer.has_failed T.Writer.contents) traces.old traces.new)
         status) (W.contents out.old) (W.contents out.new)) }
-    ensures done { IfOk result IsReportStatus }
+    ensures results { IfOk result IsOfResults }
     ensures fault { IfErr result
         (IsRefused (asked_hunt config hunt (input R.remaining R.has_failed file.old file.new))
         (hunt_traces (trace_store T.finds T.opens T.closes T.Writer.has_failed T.Writer.contents) traces.old traces.new)
@@ -142,7 +149,7 @@ fn hunt_image<T: Traces, G: HuntObserver, W: LinkWrite>(
         → Prints (IsHunt (asked_hunt config hunt file)
         (hunt_traces (trace_store T.finds T.opens T.closes T.Writer.has_failed T.Writer.contents) traces.old traces.new)
         status) (W.contents out.old) (W.contents out.new)) }
-    ensures done { IfOk result IsReportStatus }
+    ensures results { IfOk result IsOfResults }
     ensures size { (IsWithinLimits config → ⊥) → IsErrOf result (Refused.Fault Fault.Size) }
     ensures fault { IfErr result (λ refused. (file : Input) → IsImageOf config.shared_words file.bytes image.now
         → IsRefused (asked_hunt config hunt file)
@@ -154,20 +161,31 @@ fn hunt_image<T: Traces, G: HuntObserver, W: LinkWrite>(
     let text = findings_text(alloc, &findings)?;
     save_all(alloc, image, config, hunt.budget, &findings, traces)?;
     print(out, text.as_str())?;
-    Ok(hunt_status(greatest, findings.unfinished()))
+    let unexpected = is_unexpected(hunt.expect_one, &findings);
+    Ok(hunt_status(greatest, findings.unfinished(), unexpected))
 }
 
-/// The exit status of a hunt, given the greatest exit status of a machine and the numbers of the unfinished runs.
-fn hunt_status(greatest: u8, unfinished: &[u32]) -> u8
-    ensures status { result ≡ hunt_status greatest unfinished.now }
-    ensures done { IsReportStatus result }
+/// Whether one result is expected, and more than one was found.
+fn is_unexpected(expect_one: bool, findings: &Findings) -> bool
+    ensures { result ≡ is_unexpected expect_one findings.now.found }
+{
+    expect_one && 1 < findings.count()
+}
+
+/// The exit status of a hunt, given the greatest exit status of a machine, the numbers of the unfinished runs, and
+/// whether the results are not as expected.
+fn hunt_status(greatest: u8, unfinished: &[u32], unexpected: bool) -> u8
+    ensures status { result ≡ hunt_status greatest unfinished.now unexpected }
+    ensures results { IsOfResults result }
 {
     if greatest != DONE {
         STOPPED_BY_FAULT
-    } else if unfinished.is_empty() {
-        DONE
-    } else {
+    } else if !unfinished.is_empty() {
         UNFINISHED
+    } else if unexpected {
+        UNEXPECTED
+    } else {
+        DONE
     }
 }
 

@@ -22,7 +22,7 @@ mod runs;
 mod saving;
 mod schedule;
 
-pub use command::{Hunt, UNFINISHED, hunt_command};
+pub use command::{Hunt, UNEXPECTED, UNFINISHED, hunt_command};
 pub use findings::{Findings, findings_text};
 pub use lines::result_text;
 pub use observer::{HuntObserver, HuntProgress, NoHuntProgress};

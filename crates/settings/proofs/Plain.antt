@@ -333,7 +333,8 @@ run_given file words named = give _ words (codes "run") (run_rows file) (rw name
 
 hunt_rows : (file : Text) → List Row
 hunt_rows file =
-    row (codes "FILE") file CommandLine ∷ row (codes "overwrite") (codes "false") DefaultValue ∷ row (codes "quiet") (codes "false") DefaultValue ∷ []
+    row (codes "FILE") file CommandLine ∷ row (codes "overwrite") (codes "false") DefaultValue ∷ row (codes "expect-one") (codes "false") DefaultValue
+    ∷ row (codes "quiet") (codes "false") DefaultValue ∷ []
 
 hunt_met : (program file : Text) → IsNoOption file → Meets (program ∷ codes "hunt" ∷ file ∷ []) (codes "hunt") (hunt_rows file)
 unfolding row hunt_rows clap_on_literals commands
@@ -343,14 +344,15 @@ hunt_are : (file : Text) (words : List Text) → HasFile (codes "hunt") file wor
     IsPlain s words
 unfolding name_of row hunt_rows
 hunt_are file words named (asked.Hunt h) said =
-    let sizes = said.1.4 in
-    let budget = said.1.5 in
-    let runs = said.1.6 in
-    let start = said.1.7 in (
+    let sizes = said.1.5 in
+    let budget = said.1.6 in
+    let runs = said.1.7 in
+    let start = said.1.8 in (
       file_read file h.file.now words named said.1.0,
       no_text h.trace said.1.1,
       unset h.overwrite said.1.2.0,
-      unset h.quiet said.1.3.0,
+      unset h.expect_one said.1.3.0,
+      unset h.quiet said.1.4.0,
       (sizes.0.0, sizes.1.0, sizes.2.0, sizes.3.0, sizes.4.0),
       budget.0,
       runs.0,

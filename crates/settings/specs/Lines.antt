@@ -97,7 +97,8 @@ GivesExplore rows x = IsPath (codes "FILE") rows x.file.now
 abbrev pub GivesHunt : List Row → Hunt → Type 0
 GivesHunt rows h = IsPath (codes "FILE") rows h.file.now
     × IsOption (codes "trace") rows (option_map (λ prefix. prefix.now) h.trace)
-    × IsFlag (codes "overwrite") rows h.overwrite × IsFlag (codes "quiet") rows h.quiet × AreSizes rows h.sizes
+    × IsFlag (codes "overwrite") rows h.overwrite × IsFlag (codes "expect-one") rows h.expect_one
+    × IsFlag (codes "quiet") rows h.quiet × AreSizes rows h.sizes
     × IsNumber steps rows h.budget × IsNumber runs rows h.runs × IsNumber start rows h.start
 
 -- The subcommand has this name, and its rows have the property.

@@ -172,6 +172,8 @@ pub struct Hunt<'a> {
     pub trace: Option<&'a str>,
     /// Whether the traces may overwrite existing files.
     pub overwrite: bool,
+    /// Whether all runs are expected to come to one result.
+    pub expect_one: bool,
     /// Whether to leave out reports of the hunt's progress.
     pub quiet: bool,
     /// The sizes of the machine.

@@ -292,6 +292,7 @@ fn hunt<'a>(matches: &ArgMatches<'a>) -> Hunt<'a>
         file: path(matches, "FILE"),
         trace: option(matches, "trace"),
         overwrite: flag(matches, "overwrite"),
+        expect_one: flag(matches, "expect-one"),
         quiet: flag(matches, "quiet"),
         sizes: sizes(matches),
         budget: number(matches, RUN_STEPS),

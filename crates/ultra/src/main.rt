@@ -408,6 +408,7 @@ fn hunt_file<'a, R: Files + Clock + Eprint + AllocGlobal, W: LinkWrite, E: Write
         budget: hunt.budget,
         runs: hunt.runs,
         start: hunt.start,
+        expect_one: hunt.expect_one,
     };
     let alloc = rt.alloc();
     let mut traces = match hunt.trace {

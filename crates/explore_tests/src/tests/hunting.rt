@@ -6,7 +6,7 @@ ghost use Rattle.std.specs.Prelude.{⊤};
 mod devices;
 
 use flat_machine::Config;
-use hunt_command::{Hunt, HuntObserver, Traces, UNFINISHED, hunt_command};
+use hunt_command::{Hunt, HuntObserver, Traces, UNEXPECTED, UNFINISHED, hunt_command};
 use link::Meter;
 use std::alloc::{AllocError, AllocGlobal, Global};
 use std::io::Write;
@@ -100,11 +100,24 @@ struct Ran {
 
 /// Hunts on this image, with a budget of 1,000 a run, and keeps the traces.
 fn hunted(image: &[u8], config: Config, start: u32, runs: u32, kept: Kept) -> Ran {
+    hunted_for(image, config, start, runs, kept, false)
+}
+
+/// Hunts in the same way. It is said whether one result is expected.
+fn hunted_for(
+    image: &[u8],
+    config: Config,
+    start: u32,
+    runs: u32,
+    kept: Kept,
+    expect_one: bool,
+) -> Ran {
     let alloc = kept.alloc;
     let hunt = Hunt {
         budget: 1000,
         runs,
         start,
+        expect_one,
     };
     let mut heard = Heard {
         runs: 0,
@@ -238,6 +251,28 @@ fn lost_add(rt: HostRuntime) -> Result<(), Fail> {
     } = ran.heard;
     assert_same!(rt; (runs, results, over), (24, 2, 1));
     cut_traces(&rt, image.as_slice(), &ran)
+}
+
+/// If one result is expected, more than one has a status of its own, but that of a fault or of an unfinished run comes
+/// before it.
+#[test]
+fn expected_results(rt: HostRuntime) -> Result<(), Fail> {
+    let alloc = rt.alloc();
+    let faults = format!(in alloc; "{SECOND}ebreak\nfirst: jal x0, first")?;
+    let waits = format!(in alloc; "{SECOND}wait: jal x0, wait\nfirst: ecall")?;
+    for (text, results, status) in [
+        ("ecall", 1, 0),
+        (ADDS, 2, UNEXPECTED),
+        (faults.as_str(), 2, 1),
+        (waits.as_str(), 2, UNFINISHED),
+    ] {
+        let image = image_of(alloc, text)?;
+        let ran = hunted_for(image.as_slice(), size(1), 1, 24, keeping(alloc), true);
+        assert_same!(rt; ran.heard.results, results);
+        assert_same!(rt; ran.status, status);
+        assert_same!(rt; ran.err.len(), 0);
+    }
+    Ok(())
 }
 
 /// The first two of some traces, each with the number of its run.

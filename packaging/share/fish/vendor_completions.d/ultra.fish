@@ -87,6 +87,7 @@ complete -c ultra -n '__ultra_wants_more run 1 --trace --k --c --b --r --words -
 
 complete -c ultra -n '__ultra_has_command hunt' -l trace -r -F -d 'Write a trace for each result, for `ultra replay`, to PREFIX followed by the run\'s number and `.trace`'
 complete -c ultra -n '__ultra_has_command hunt' -l overwrite -d 'Overwrite traces that exist; without it the hunt is refused if one does'
+complete -c ultra -n '__ultra_has_command hunt' -l expect-one -d 'Expect all runs to come to one result; if they do not, the exit status says so'
 complete -c ultra -n '__ultra_has_command hunt' -l quiet -d 'Show no progress line on a terminal'
 complete -c ultra -n '__ultra_has_command hunt' -l k -x -a '0 1 2 3 4 5 6' -d 'Stages of the network, 0 to 6; the machine has 2^k processors and 2^k memory modules [default: 2]'
 complete -c ultra -n '__ultra_has_command hunt' -l c -x -a '2 3 4 5 6 7 8 9 10 11 12 13 14 15 16' -d 'Messages that a queue of a switch holds, 2 to 16 [default: 4]'

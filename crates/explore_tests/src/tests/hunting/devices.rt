@@ -13,6 +13,7 @@ const HUNT: Hunt = Hunt {
     budget: 10,
     runs: 2,
     start: 1,
+    expect_one: false,
 };
 
 #[test]

@@ -1,10 +1,10 @@
-use Rattle.std.proofs.Common.{◌≡◌, ◌∙◌, None, false, inl, refl, ap, subst}
+use Rattle.std.proofs.Common.{◌≡◌, ◌∙◌, None, false, inl, refl, subst}
 use Rattle.std.specs.Prelude.{string_bytes}
 use Rattle.std.specs.Io.KnownBytes.{Appends}
 use Rattle.std.proofs.lemmas.Result.{err_from_is_err_and}
 use Rattle.link.specs.Transfer.{AppendsPart}
 use Rattle.command_io.specs.Links.{output}
-use Rattle.hunt_command.specs.Hunts.{asked_hunt, hunt_status, hunt_traces, trace_store}
+use Rattle.hunt_command.specs.Hunts.{asked_hunt, hunt_status, hunt_traces, is_unexpected, trace_store}
 use Rattle.elf_image.specs.declared.error.ImageError.TheVariants as image_error
 use Rattle.command_io.specs.declared.fault.Fault.TheVariants as fault
 use Rattle.schedules.specs.Sweeps.{most_of}
@@ -65,7 +65,8 @@ returns-in_err-print-clause-fault g c =
     (λ file of. record {
       text = string_bytes c.in_ok-text.text;
       meant = (
-        hunt_status c.in_ok-findings.greatest c.in_ok-findings.findings.unfinished,
+        hunt_status c.in_ok-findings.greatest c.in_ok-findings.findings.unfinished
+            (is_unexpected c.args.hunt.expect_one c.in_ok-findings.findings.found),
         record {
           image = c.args.image.now;
           found = c.in_ok-findings.findings.found;
@@ -92,7 +93,8 @@ returns-clause-printed g c = λ file of.
         has_found = record { meant = of; are = c.in_ok-findings.ensures.found };
         saved = c.in_ok-save_all.ensures.saved;
         lines = c.in_ok-text.ensures;
-        exit = c.hunt_status.ensures.status ∙ ap (hunt_status c.in_ok-findings.greatest) c.unfinished.ensures;
+        exit = c.hunt_status.ensures.status
+            ∙ (λ j. hunt_status c.in_ok-findings.greatest (c.unfinished.ensures j) (c.is_unexpected-unexpected.ensures j));
       };
       printed = subst (λ bytes. Appends (g.W.Write.contents c.args.out.now) (g.W.Write.contents c.print.new.out) bytes) c.as_str.ensures.value
           c.in_ok-print.ensures.printed;
