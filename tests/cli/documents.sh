@@ -62,7 +62,7 @@ completes_what_is_listed() {
     local command
     diff <(./ultra help | sed -n '/^Commands:$/,/^$/s/^  \([a-z]*\) .*/\1/p' | LC_ALL=C sort) <(bash_offers 'ultra ') || return 1
     for command in $(./ultra help | sed -n '/^Commands:$/,/^$/s/^  \([a-z]*\) .*/\1/p' | grep -vx help); do
-        diff <(./ultra help "$command" | sed -n '/^Options:$/,/^$/s/^ *\(-h, \)\{0,1\}\(--[a-z]*\).*/\2/p' | LC_ALL=C sort) \
+        diff <(./ultra help "$command" | sed -n '/^Options:$/,/^$/s/^ *\(-h, \)\{0,1\}\(--[a-z-]*\).*/\2/p' | LC_ALL=C sort) \
             <(bash_offers "ultra $command -") || { echo "$command"; return 1; }
     done
     diff <(./ultra explain | sed -n 's/^\([A-Za-z0-9-]*\): .*/\1/p' | LC_ALL=C sort) <(bash_offers 'ultra explain ')
