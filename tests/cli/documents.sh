@@ -57,6 +57,14 @@ draws_what_is_shown() {
 }
 check 'examples/hot_spot.svg is the picture that docs/TUTORIAL.md draws' draws_what_is_shown
 
+# The commands of README.md, without their proofs being skipped, find 19 results from 2 to 20.
+finds_the_results_of_the_readme() {
+    sed -n 's/^    \.\/ultra --quick/.\/ultra/p' README.md | sed "s| ten_adds\.elf| $room/ten_adds.elf|" >"$room/readme.sh"
+    [ "$(wc -l <"$room/readme.sh")" = 3 ] && bash -e -o pipefail "$room/readme.sh" >"$room/out" &&
+        diff <(grep '^word 0' "$room/out" | head -n 19) <(printf 'word 0 %08x\n' {2..20})
+}
+check 'the commands of README.md find the results that it names' finds_the_results_of_the_readme
+
 # The completions have the commands, the options and the topics that the program lists.
 completes_what_is_listed() {
     local command
