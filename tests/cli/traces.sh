@@ -109,6 +109,38 @@ reports_the_longest_queues() {
 }
 check 'the longest queues of the statistics are those of the story' reports_the_longest_queues
 
+# chooses_lines TRACE FILE K: `order` and `story` print the lines of each processor, of words 0 and 9 and of ranges that
+# awk and tests/tools/chosen.py choose among all lines.
+chooses_lines() {
+    local each range
+    ./ultra order "$1" "$2" >"$room/whole.order" && ./ultra story "$1" "$2" >"$room/whole.story" || return 1
+    for each in 'word 0' 'word 9' $(seq -f 'processor_%g' 0 $((2 ** $3 - 1))); do
+        # shellcheck disable=SC2086
+        set -- "$1" "$2" "$3" ${each/_/ }
+        diff <(awk -v what="$4" -v n="$5" 'what == "processor" ? $2 == n : index($0 " ", " word " n " ")' "$room/whole.order") \
+            <(./ultra order "--$4" "$5" "$1" "$2") &&
+            diff <(tests/tools/chosen.py "$room/whole.story" "$room/whole.order" "$3" "$4" "$5") <(./ultra story "--$4" "$5" "$1" "$2") || return 1
+    done
+    for range in '0 0' '7 30' '30 7' '100 4294967295'; do
+        set -- "$1" "$2" "$3" "${range% *}" "${range#* }"
+        diff <(awk -v a="$4" -v b="$5" '$1 >= a && $1 <= b' "$room/whole.order") <(./ultra order --from "$4" --to "$5" "$1" "$2") &&
+            diff <(awk -v a="$4" -v b="$5" '$1 >= a && $1 <= b' "$room/whole.story") <(./ultra story --from "$4" --to "$5" "$1" "$2") &&
+            diff <(tests/tools/chosen.py "$room/whole.story" "$room/whole.order" "$3" processor 1 | awk -v a="$4" -v b="$5" '$1 >= a && $1 <= b') \
+                <(./ultra story --to "$5" --processor 1 --from "$4" "$1" "$2") || return 1
+    done
+}
+
+# Random runs of the queue, in which messages of several words meet, and a sweep of the hot spot, which combines all.
+chooses_lines_of_runs() {
+    ./ultra asm examples/algorithms/queue.s "$room/queue.elf" && rm -f "$room"/chosen* &&
+        ./ultra hunt --k 2 --start 1 --runs 1 --trace "$room/chosen2-" "$room/queue.elf" >"$room/out" &&
+        ./ultra hunt --k 3 --start 2 --r 3 --runs 1 --trace "$room/chosen3-" "$room/queue.elf" >"$room/out" &&
+        chooses_lines "$room"/chosen2-* "$room/queue.elf" 2 && chooses_lines "$room"/chosen3-* "$room/queue.elf" 3 &&
+        ./ultra run --sweep --k 3 --r 2 --trace "$room/chosen.trace" "$room/hot_spot.elf" >"$room/out" &&
+        chooses_lines "$room/chosen.trace" "$room/hot_spot.elf" 3
+}
+check 'order and story print the lines that are chosen' chooses_lines_of_runs
+
 # ---- pictures
 
 # draws_each_step STAGES: the pictures of a short run after each of its steps are XML, and show what its story says.

@@ -68,9 +68,17 @@ start = record { bounds = record { name = codes "start"; low = 0; high = 4294967
 abbrev pub processor : Bounds
 processor = record { name = codes "processor"; low = 0; high = 63 }
 
--- the shared word of which lines are printed
+-- the shared word about which lines are printed
 abbrev pub shared_word : Bounds
 shared_word = record { name = codes "word"; low = 0; high = 262143 }
+
+-- the number of the first line that is printed
+abbrev pub first_line : Bounds
+first_line = record { name = codes "from"; low = 0; high = 4294967295 }
+
+-- the number of the last
+abbrev pub last_line : Bounds
+last_line = record { name = codes "to"; low = 0; high = 4294967295 }
 
 -- the result with which a witness ends
 abbrev pub witness : Bounds
@@ -138,7 +146,6 @@ replaying name = with_number shared_words (with_file (with_rule (new_app name) (
 -- the name of a command that takes these and no option of its own
 abbrev pub trace_name : TraceCommand → Text
 trace_name trace.Replay = codes "replay"
-trace_name trace.Story = codes "story"
 trace_name trace.Stats = codes "stats"
 
 unfoldable pub trace_command : TraceCommand → App
@@ -147,8 +154,17 @@ trace_command command = replaying (trace_name command)
 unfoldable pub explain_command : App
 explain_command = with_rule (new_app (codes "explain")) (words (codes "CODE"))
 
+-- the same with a choice of numbered lines
+abbrev pub choosing : Text → App
+choosing name =
+    with_rule (with_rule (with_rule (with_rule (replaying name) (number processor)) (number shared_word))
+    (number first_line)) (number last_line)
+
 unfoldable pub order_command : App
-order_command = with_rule (with_rule (replaying (codes "order")) (number processor)) (number shared_word)
+order_command = choosing (codes "order")
+
+unfoldable pub story_command : App
+story_command = choosing (codes "story")
 
 unfoldable pub debug_command : App
 debug_command = with_number port (with_number steps (with_sizes
@@ -190,7 +206,7 @@ ultra_command = with_subcommands (
     ∷ explore_command.top
     ∷ (trace_command trace.Replay).top
     ∷ order_command.top
-    ∷ (trace_command trace.Story).top
+    ∷ story_command.top
     ∷ (trace_command trace.Stats).top
     ∷ picture_command.top
     ∷ debug_command.top

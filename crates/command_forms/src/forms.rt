@@ -4,16 +4,17 @@ ghost use Rattle.std.specs.Prelude.{◌≡◌, ◌≢◌, IfSome, None};
 ghost use Rattle.command_forms.specs.Forms.{app_of_form, with_forms};
 ghost use Rattle.command_forms.specs.Commands.{asm_command, check_command, debug_command, dis_command};
 ghost use Rattle.command_forms.specs.Commands.{explain_command, explore_command, hunt_command, order_command};
-ghost use Rattle.command_forms.specs.Commands.{picture_command, program, run_command, trace_command, trace_name};
-ghost use Rattle.command_forms.specs.Commands.{ultra_command, words_command};
+ghost use Rattle.command_forms.specs.Commands.{picture_command, program, run_command, story_command, trace_command};
+ghost use Rattle.command_forms.specs.Commands.{trace_name, ultra_command, words_command};
 
 use crate::help::{
     ASM_ENDS, CHECK_ENDS, DEBUG_ENDS, DIS_ENDS, EXPLAIN_ENDS, EXPLORE_ENDS, HUNT_ENDS, ORDER_ENDS,
     PICTURE_ENDS, REPLAY_ENDS, RUN_ENDS, STATS_ENDS, STORY_ENDS, WORDS_ENDS,
 };
 use crate::ranges::{
-    BUDGET, COMBINATIONS, ChoiceOption, FIRST_START, NumberOption, PORT, PROCESSOR, QUEUE, RECORDS,
-    RUN_STEPS, RUNS, SHARED_WORD, SHARED_WORDS, STAGES, START, STATES, STEP, STEPS, WITNESS,
+    BUDGET, COMBINATIONS, ChoiceOption, FIRST_LINE, FIRST_START, LAST_LINE, NumberOption, PORT,
+    PROCESSOR, QUEUE, RECORDS, RUN_STEPS, RUNS, SHARED_WORD, SHARED_WORDS, STAGES, START, STATES,
+    STEP, STEPS, WITNESS,
 };
 
 /// A command of the program.
@@ -61,7 +62,6 @@ pub(crate) enum Argument {
 #[derive(Clone, Copy, Debug, PartialEq, Eq, Drop)]
 pub enum TraceCommand {
     Replay,
-    Story,
     Stats,
 }
 
@@ -91,6 +91,17 @@ const TRACED_IMAGE: Argument = Argument::Path {
 
 /// The arguments of a command that replays a trace.
 const REPLAYED: &[Argument] = &[TRACE, TRACED_IMAGE, Argument::Number(SHARED_WORDS)];
+
+/// Those of a command that prints numbered lines for a trace.
+const LINES: &[Argument] = &[
+    TRACE,
+    TRACED_IMAGE,
+    Argument::Number(SHARED_WORDS),
+    Argument::Choice(PROCESSOR),
+    Argument::Choice(SHARED_WORD),
+    Argument::Choice(FIRST_LINE),
+    Argument::Choice(LAST_LINE),
+];
 
 const WORDS: CommandForm = CommandForm {
     name: "words",
@@ -246,20 +257,14 @@ const REPLAY: CommandForm = CommandForm {
 const ORDER: CommandForm = CommandForm {
     name: "order",
     about: "Print the serial order of whole instructions that explains the run of a trace",
-    arguments: &[
-        TRACE,
-        TRACED_IMAGE,
-        Argument::Number(SHARED_WORDS),
-        Argument::Choice(PROCESSOR),
-        Argument::Choice(SHARED_WORD),
-    ],
+    arguments: LINES,
     ends: ORDER_ENDS,
 };
 
 const STORY: CommandForm = CommandForm {
     name: "story",
     about: "Print what the machine did in each step of a trace",
-    arguments: REPLAYED,
+    arguments: LINES,
     ends: STORY_ENDS,
 };
 
@@ -371,6 +376,13 @@ fn order() -> CommandForm
     ORDER
 }
 
+#[tactic(auto, unfolding(crate::specs::Commands::story_command))]
+fn story() -> CommandForm
+    ensures { app_of_form result ≡ story_command }
+{
+    STORY
+}
+
 #[tactic(auto, unfolding(crate::specs::Commands::picture_command))]
 fn picture() -> CommandForm
     ensures { app_of_form result ≡ picture_command }
@@ -400,7 +412,6 @@ impl TraceCommand {
     {
         match name {
             "replay" => Some(TraceCommand::Replay),
-            "story" => Some(TraceCommand::Story),
             "stats" => Some(TraceCommand::Stats),
             _ => None,
         }
@@ -413,7 +424,6 @@ impl TraceCommand {
     {
         match self {
             TraceCommand::Replay => REPLAY,
-            TraceCommand::Story => STORY,
             TraceCommand::Stats => STATS,
         }
     }
@@ -434,7 +444,7 @@ pub(crate) fn commands() -> [CommandForm; 14]
         explore(),
         TraceCommand::Replay.form(),
         order(),
-        TraceCommand::Story.form(),
+        story(),
         TraceCommand::Stats.form(),
         picture(),
         debug(),

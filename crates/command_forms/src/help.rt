@@ -106,7 +106,8 @@ A line is `N P ADDRESS INSTRUCTION`: its number from 0, the processor, the instr
 text. After it there may be ` = V`, the value that its register got, ` console HH`, the byte for the
 console, and ` word I BEFORE AFTER`, the shared word that it acted on. If the processor stops, the line
 ends with `halt HH` or `fault N`. A write from outside is `N P poke PLACE VALUE`, with `-` for P if it
-is to shared memory. Lines keep their numbers if --processor or --word leaves others out.
+is to shared memory. Lines keep their numbers if options leave others out. If there is no line from --from
+to --to, nothing is printed.
 
 Faults are reported on standard error as by `ultra replay`, and then nothing is printed.
 
@@ -152,6 +153,10 @@ pub(crate) const STORY_ENDS: &str = "\
 Takes the steps as `ultra replay` does, and prints a line for each that says what the machine did: a
 request was issued, moved from switch to switch or was combined with another, a module served a word, a
 reply moved back, an instruction retired, a processor stopped, or a write came from outside.
+
+With --processor these are the turns and writes of the processor, and the steps of the message that stands
+for it, alone or combined with others. With --word they are the steps of references to the word, and writes
+to it. Lines keep their numbers if options leave others out.
 
 Faults are reported on standard error as by `ultra replay`, and then nothing is printed.
 

@@ -165,10 +165,26 @@ pub const STEP: ChoiceOption = ChoiceOption {
     help: "Draw the machine after this many steps, 0 to 4294967295 [default: after all]",
 };
 
-/// The shared word of which lines are printed.
+/// The shared word about which lines are printed.
 pub const SHARED_WORD: ChoiceOption = ChoiceOption {
     name: "word",
     low: 0,
     high: 262_143,
-    help: "Print the lines that act on this shared word alone, 0 to 262143",
+    help: "Print the lines about this shared word alone, 0 to 262143",
+};
+
+/// The number of the first line that is printed.
+pub const FIRST_LINE: ChoiceOption = ChoiceOption {
+    name: "from",
+    low: 0,
+    high: u32::MAX,
+    help: "Print no line before the line of this number, 0 to 4294967295",
+};
+
+/// The number of the last line that is printed.
+pub const LAST_LINE: ChoiceOption = ChoiceOption {
+    name: "to",
+    low: 0,
+    high: u32::MAX,
+    help: "Print no line after the line of this number, 0 to 4294967295",
 };

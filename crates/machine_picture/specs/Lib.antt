@@ -1,4 +1,5 @@
 pub mod Groups
 pub mod Places
 pub mod Views
+pub mod Subjects
 pub mod Drawings

@@ -92,7 +92,7 @@ fn shared_word(machine: &Machine, number: u32) -> SharedWord
 
 /// The shared word that the next turn of a processor acts on, if any.
 #[tactic(auto, unfolding(flat_machine::specs::Turns::fetched))]
-fn next_word(machine: &Machine, processor: u8) -> Option<u32>
+pub(crate) fn next_word(machine: &Machine, processor: u8) -> Option<u32>
     ensures { result ≡ next_word machine.now processor }
 {
     match machine.core(processor) {

@@ -15,11 +15,11 @@ use Rattle.command_forms.specs.Commands.{Bounds, asm_command, budget, check_comm
 use Rattle.command_forms.specs.Commands.{dis_command, explain_command, explore_command, hunt_command, order_command}
 use Rattle.command_forms.specs.Commands.{port, processor, queue, records, picture_command, run_command, runs}
 use Rattle.command_forms.specs.Commands.{shared_word, shared_words, stages, start, states, step, steps}
-use Rattle.command_forms.specs.Commands.{trace_command, trace_name, ultra_command, witness, words_command}
+use Rattle.command_forms.specs.Commands.{first_line, last_line, story_command, trace_command, trace_name, ultra_command, witness, words_command}
 use Rattle.command_forms.specs.declared.forms.TraceCommand.{TraceCommand}
 use Rattle.command_forms.specs.declared.forms.TraceCommand.TheVariants as trace
 use Rattle.command_forms.proofs.Lemmas.{commands}
-use Rattle.settings.specs.Given.{HasAsm, HasDebug, HasDis, HasExplore, HasHunt, HasOrder, HasPath, HasPicture}
+use Rattle.settings.specs.Given.{HasAsm, HasDebug, HasDis, HasExplore, HasHunt, HasLines, HasPath, HasPicture}
 use Rattle.settings.specs.Given.{HasReplay, HasRun, HasSizes, IsComplete, IsOneOf, IsTraceName, IsWhole, command_names}
 use Rattle.settings.proofs.NoHelp.{IsNoHelp, StopsAtNoHelp, walk_stops}
 use Rattle.settings.proofs.Numbers.{is_apart_or_number, number_there}
@@ -73,10 +73,11 @@ Has name rows =
     (Where (bytes_eq name (codes "hunt")) (HasHunt rows)
     (Where (bytes_eq name (codes "explore")) (HasExplore rows)
     (Where (is_trace_name name) (HasReplay rows)
-    (Where (bytes_eq name (codes "order")) (HasOrder rows)
+    (Where (bytes_eq name (codes "order")) (HasLines rows)
+    (Where (bytes_eq name (codes "story")) (HasLines rows)
     (Where (bytes_eq name (codes "picture")) (HasPicture rows)
     (Where (bytes_eq name (codes "debug")) (HasDebug rows)
-    ⊤))))))))))
+    ⊤)))))))))))
 
 is_one_of : (name : Text) (names : List Text) → list_any (λ x. bytes_eq name x) names ≡ true → IsOneOf name names
 is_one_of name [] e = absurd (true≢false (sym e))
@@ -90,13 +91,11 @@ is_one_of name (x ∷ xs) e = go (bytes_eq name x) refl (is_one_of name xs) e
 -- A command on a trace has what it requires.
 has_replay : (c : TraceCommand) (rows : List Row) → Has (trace_name c) rows → HasReplay rows
 has_replay trace.Replay rows has = has
-has_replay trace.Story rows has = has
 has_replay trace.Stats rows has = has
 
 -- What a command on a trace requires is what the subcommand with its name requires.
 replay_has : (c : TraceCommand) (rows : List Row) → HasReplay rows → Has (trace_name c) rows
 replay_has trace.Replay rows has = has
-replay_has trace.Story rows has = has
 replay_has trace.Stats rows has = has
 
 whole_if : (name : Text) (rows : List Row) → IsTraceName name ⊎ IsOneOf name command_names → Has name rows → IsWhole name rows
@@ -111,6 +110,7 @@ whole_if name rows known has = record {
   explore = λ is. subst (λ n. Has n rows) is has;
   trace = λ c is. has_replay c rows (subst (λ n. Has n rows) is has);
   order = λ is. subst (λ n. Has n rows) is has;
+  story = λ is. subst (λ n. Has n rows) is has;
   picture = λ is. subst (λ n. Has n rows) is has;
   debug = λ is. subst (λ n. Has n rows) is has;
 }
@@ -192,13 +192,28 @@ explain_provided : IsProvided (built_leaf explain_command.top)
 unfolding commands
 explain_provided words e = whole (codes "explain") _ refl tt
 
+lines_there : (s : Shape) (words : List Text) → list_all gives_value s.rules ≡ true → WantsFiles s → Takes s shared_words.bounds
+    → Takes s processor → Takes s shared_word → Takes s first_line → Takes s last_line
+    → level_fault s [] nothing_held words false [] ≡ [] → HasLines (rows_after s.rules [] words)
+lines_there s words all wants n p w from to e = (
+  replay_there s words all wants n e,
+  number_there s processor words p e,
+  number_there s shared_word words w e,
+  number_there s first_line words from e,
+  number_there s last_line words to e,
+)
+
 order_provided : IsProvided (built_leaf order_command.top)
 unfolding commands
-order_provided words e = whole (codes "order") _ refl (
-  replay_there (built_leaf order_command.top) words refl (λ rows. both_required (is_given (codes "TRACE") rows) (is_given (codes "FILE") rows)) refl e,
-  number_there (built_leaf order_command.top) processor words refl e,
-  number_there (built_leaf order_command.top) shared_word words refl e,
-)
+order_provided words e = whole (codes "order") _ refl
+    (lines_there (built_leaf order_command.top) words refl (λ rows. both_required (is_given (codes "TRACE") rows) (is_given (codes "FILE") rows))
+    refl refl refl refl refl e)
+
+story_provided : IsProvided (built_leaf story_command.top)
+unfolding commands
+story_provided words e = whole (codes "story") _ refl
+    (lines_there (built_leaf story_command.top) words refl (λ rows. both_required (is_given (codes "TRACE") rows) (is_given (codes "FILE") rows))
+    refl refl refl refl refl e)
 
 debug_provided : IsProvided (built_leaf debug_command.top)
 unfolding commands
@@ -278,7 +293,7 @@ enters (Some p) unhelped e has =
     let provided : AreProvidedFrom p.0 12 = ((λ is. debug_provided), provided) in
     let provided : AreProvidedFrom p.0 11 = ((λ is. picture_provided), provided) in
     let provided : AreProvidedFrom p.0 10 = ((λ is. trace_provided trace.Stats), provided) in
-    let provided : AreProvidedFrom p.0 9 = ((λ is. trace_provided trace.Story), provided) in
+    let provided : AreProvidedFrom p.0 9 = ((λ is. story_provided), provided) in
     let provided : AreProvidedFrom p.0 8 = ((λ is. order_provided), provided) in
     let provided : AreProvidedFrom p.0 7 = ((λ is. trace_provided trace.Replay), provided) in
     let provided : AreProvidedFrom p.0 6 = ((λ is. explore_provided), provided) in

@@ -20,7 +20,7 @@ use Rattle.clap.proofs.OnLiterals.{clap_on_literals}
 use Rattle.settings.specs.declared.choice.Explain.{Explain}
 use Rattle.settings.specs.declared.choice.Replay.{Replay}
 use Rattle.settings.specs.Lines.{IsAsked, IsChosen, GivesAsm, GivesCheck, GivesDis, GivesExplain, GivesExplore}
-use Rattle.settings.specs.Lines.{GivesHunt, GivesOrder, GivesPicture, GivesReplay, GivesRun, GivesSession, GivesWords}
+use Rattle.settings.specs.Lines.{GivesHunt, GivesLines, GivesPicture, GivesReplay, GivesRun, GivesSession, GivesWords}
 use Rattle.settings.specs.Lines.{Named}
 use Rattle.command_forms.specs.Commands.{trace_name, ultra_command}
 use Rattle.command_forms.specs.declared.forms.TraceCommand.{TraceCommand}
@@ -62,6 +62,7 @@ name_of (asked.Hunt h) = codes "hunt"
 name_of (asked.Explore x) = codes "explore"
 name_of (asked.Trace c r) = trace_name c
 name_of (asked.Order o) = codes "order"
+name_of (asked.Story o) = codes "story"
 name_of (asked.Picture p) = codes "picture"
 name_of (asked.Debug d) = codes "debug"
 name_of (asked.Explain e) = codes "explain"
@@ -76,7 +77,8 @@ AreOf rows (asked.Run r) = GivesRun rows r
 AreOf rows (asked.Hunt h) = GivesHunt rows h
 AreOf rows (asked.Explore x) = GivesExplore rows x
 AreOf rows (asked.Trace c r) = GivesReplay rows r
-AreOf rows (asked.Order o) = GivesOrder rows o
+AreOf rows (asked.Order o) = GivesLines rows o
+AreOf rows (asked.Story o) = GivesLines rows o
 AreOf rows (asked.Picture p) = GivesPicture rows p
 AreOf rows (asked.Debug d) = GivesSession rows d
 AreOf rows (asked.Explain e) = GivesExplain rows e
@@ -102,7 +104,8 @@ chosen_as stop name rows (asked.Run r) is chosen = named_as stop name (codes "ru
 chosen_as stop name rows (asked.Hunt h) is chosen = named_as stop name (codes "hunt") rows (λ them. GivesHunt them h) is chosen
 chosen_as stop name rows (asked.Explore x) is chosen = named_as stop name (codes "explore") rows (λ them. GivesExplore them x) is chosen
 chosen_as stop name rows (asked.Trace c r) is chosen = named_as stop name (trace_name c) rows (λ them. GivesReplay them r) is chosen
-chosen_as stop name rows (asked.Order o) is chosen = named_as stop name (codes "order") rows (λ them. GivesOrder them o) is chosen
+chosen_as stop name rows (asked.Order o) is chosen = named_as stop name (codes "order") rows (λ them. GivesLines them o) is chosen
+chosen_as stop name rows (asked.Story o) is chosen = named_as stop name (codes "story") rows (λ them. GivesLines them o) is chosen
 chosen_as stop name rows (asked.Picture p) is chosen = named_as stop name (codes "picture") rows (λ them. GivesPicture them p) is chosen
 chosen_as stop name rows (asked.Debug d) is chosen = named_as stop name (codes "debug") rows (λ them. GivesSession them d) is chosen
 chosen_as stop name rows (asked.Explain e) is chosen = named_as stop name (codes "explain") rows (λ them. GivesExplain them e) is chosen
@@ -207,16 +210,18 @@ file_are OfDebug file words named other said = apart (name_of other) (codes "deb
 file_given : (c : FileCommand) (file : Text) (words : List Text) → HasFile (file_command c) file words → GivePlain words
 file_given c file words named = give _ words (file_command c) (file_rows file) (rw named.1 (file_met c named.0 file named.2)) (file_are c file words named)
 
--- ---- the commands with a trace and an image: those of `TraceCommand`, `order TRACE FILE` and `picture TRACE FILE`
+-- ---- the commands with a trace and an image: those of `TraceCommand`, and `order`, `story` and `picture TRACE FILE`
 
 data OnTrace : Type 0 where
   Alone : TraceCommand → OnTrace
   OfOrder : OnTrace
+  OfStory : OnTrace
   OfPicture : OnTrace
 
 abbrev name_on_trace : OnTrace → Text
 name_on_trace (Alone c) = trace_name c
 name_on_trace OfOrder = codes "order"
+name_on_trace OfStory = codes "story"
 name_on_trace OfPicture = codes "picture"
 
 trace_met : (c : OnTrace) (program one file : Text) → IsNoOption one → IsNoOption file →
@@ -224,11 +229,11 @@ trace_met : (c : OnTrace) (program one file : Text) → IsNoOption one → IsNoO
 unfolding row trace_rows clap_on_literals commands
 trace_met (Alone trace.Replay) program one file h k =
     rw (no_hyphens one h, no_hyphen one h, no_hyphen one h, no_hyphens file k, no_hyphen file k, no_hyphen file k) (refl, refl)
-trace_met (Alone trace.Story) program one file h k =
-    rw (no_hyphens one h, no_hyphen one h, no_hyphen one h, no_hyphens file k, no_hyphen file k, no_hyphen file k) (refl, refl)
 trace_met (Alone trace.Stats) program one file h k =
     rw (no_hyphens one h, no_hyphen one h, no_hyphen one h, no_hyphens file k, no_hyphen file k, no_hyphen file k) (refl, refl)
 trace_met OfOrder program one file h k =
+    rw (no_hyphens one h, no_hyphen one h, no_hyphen one h, no_hyphens file k, no_hyphen file k, no_hyphen file k) (refl, refl)
+trace_met OfStory program one file h k =
     rw (no_hyphens one h, no_hyphen one h, no_hyphen one h, no_hyphens file k, no_hyphen file k, no_hyphen file k) (refl, refl)
 trace_met OfPicture program one file h k =
     rw (no_hyphens one h, no_hyphen one h, no_hyphen one h, no_hyphens file k, no_hyphen file k, no_hyphen file k) (refl, refl)
@@ -239,9 +244,12 @@ unfolding name_of row trace_rows
 trace_are (Alone c) one file words named (asked.Trace d r) said =
     subst (λ name. HasTrace name r words) (sym said.0) (replay_is one file r words named said.1)
 trace_are (Alone c) one file words named other said = no_trace c (name_of other) refl (sym said.0)
-trace_are OfOrder one file words named (asked.Order o) said = (replay_is one file o.replay words named said.1.0, said.1.1, said.1.2)
+trace_are OfOrder one file words named (asked.Order o) said = (replay_is one file o.replay words named said.1.0, said.1.1, said.1.2, said.1.3, said.1.4)
 trace_are OfOrder one file words named (asked.Trace d r) said = no_trace d (codes "order") refl said.0
 trace_are OfOrder one file words named other said = apart (name_of other) (codes "order") refl said.0
+trace_are OfStory one file words named (asked.Story o) said = (replay_is one file o.replay words named said.1.0, said.1.1, said.1.2, said.1.3, said.1.4)
+trace_are OfStory one file words named (asked.Trace d r) said = no_trace d (codes "story") refl said.0
+trace_are OfStory one file words named other said = apart (name_of other) (codes "story") refl said.0
 trace_are OfPicture one file words named (asked.Picture p) said = (replay_is one file p.replay words named said.1.0, said.1.1)
 trace_are OfPicture one file words named (asked.Trace d r) said = no_trace d (codes "picture") refl said.0
 trace_are OfPicture one file words named other said = apart (name_of other) (codes "picture") refl said.0
@@ -460,6 +468,7 @@ plain_given (asked.Hunt h) words said = hunt_given h.file.now words said.0
 plain_given (asked.Explore x) words said = explore_given x.file.now words said.0
 plain_given (asked.Trace c r) words said = trace_given (Alone c) r.trace.now r.file.now words said.0
 plain_given (asked.Order o) words said = trace_given OfOrder o.replay.trace.now o.replay.file.now words said.0.0
+plain_given (asked.Story o) words said = trace_given OfStory o.replay.trace.now o.replay.file.now words said.0.0
 plain_given (asked.Picture p) words said = trace_given OfPicture p.replay.trace.now p.replay.file.now words said.0.0
 plain_given (asked.Debug d) words said = file_given OfDebug d.file.now words said.0
 plain_given (asked.Explain e) words said = explain_given (texts_of e.words.items) words said

@@ -9,7 +9,7 @@ use Rattle.command_forms.specs.declared.forms.TraceCommand.TheVariants as trace
 
 -- these commands
 abbrev pub trace_commands : List TraceCommand
-trace_commands = trace.Replay ∷ trace.Story ∷ trace.Stats ∷ []
+trace_commands = trace.Replay ∷ trace.Stats ∷ []
 
 -- whether a name is that of one of these commands
 abbrev pub is_trace_name : Text → Bool
@@ -18,7 +18,6 @@ is_trace_name name = list_any (λ c. bytes_eq (trace_name c) name) trace_command
 -- The name of each of these commands passes the test.
 pub has_trace_name : (c : TraceCommand) → is_trace_name (trace_name c) ≡ true
 has_trace_name trace.Replay = refl
-has_trace_name trace.Story = refl
 has_trace_name trace.Stats = refl
 
 -- A name that fails the test is the name of none of these commands.

@@ -1,9 +1,9 @@
 -- What clap finds in words without a fault: everything that a command requires.
 use Rattle.std.specs.Prelude.{◌≡◌, ◌⊎◌, pos, true, List, [], ◌∷◌, codes, Option, is_some, option_map, IfSome, IsSomeAnd}
 use Rattle.clap.specs.Words.{IsSignedIn, Row, Text, first_of, one_of, without_minus}
-use Rattle.command_forms.specs.Commands.{Bounds, budget, combinations, port, processor, queue, records, runs}
-use Rattle.command_forms.specs.Commands.{shared_word, shared_words, stages, start, states, step, steps, trace_name}
-use Rattle.command_forms.specs.Commands.{witness}
+use Rattle.command_forms.specs.Commands.{Bounds, budget, combinations, first_line, last_line, port, processor}
+use Rattle.command_forms.specs.Commands.{queue, records, runs, shared_word, shared_words, stages, start, states}
+use Rattle.command_forms.specs.Commands.{step, steps, trace_name, witness}
 use Rattle.command_forms.specs.declared.forms.TraceCommand.{TraceCommand}
 
 abbrev pub HasPath : Text → List Row → Type 0
@@ -32,8 +32,9 @@ HasRun rows = HasPath (codes "FILE") rows × HasSizes rows × HasNumber budget.b
 abbrev pub HasReplay : List Row → Type 0
 HasReplay rows = HasPath (codes "TRACE") rows × HasPath (codes "FILE") rows × HasNumber shared_words.bounds rows
 
-abbrev pub HasOrder : List Row → Type 0
-HasOrder rows = HasReplay rows × HasNumber processor rows × HasNumber shared_word rows
+abbrev pub HasLines : List Row → Type 0
+HasLines rows = HasReplay rows × HasNumber processor rows × HasNumber shared_word rows × HasNumber first_line rows
+    × HasNumber last_line rows
 
 abbrev pub HasPicture : List Row → Type 0
 HasPicture rows = HasReplay rows × HasNumber step rows
@@ -53,7 +54,7 @@ HasHunt rows =
 abbrev pub command_names : List Text
 command_names =
     codes "words" ∷ codes "check" ∷ codes "asm" ∷ codes "dis" ∷ codes "run" ∷ codes "hunt" ∷ codes "explore"
-    ∷ codes "order" ∷ codes "picture" ∷ codes "debug" ∷ codes "explain" ∷ []
+    ∷ codes "order" ∷ codes "story" ∷ codes "picture" ∷ codes "debug" ∷ codes "explain" ∷ []
 
 -- The name is that of a subcommand of `TraceCommand`.
 abbrev pub IsTraceName : Text → Type 0
@@ -74,7 +75,8 @@ pub record IsWhole (name : Text) (rows : List Row) : Type 0 where
   pub hunt : name ≡ codes "hunt" → HasHunt rows
   pub explore : name ≡ codes "explore" → HasExplore rows
   pub trace : (command : TraceCommand) → name ≡ trace_name command → HasReplay rows
-  pub order : name ≡ codes "order" → HasOrder rows
+  pub order : name ≡ codes "order" → HasLines rows
+  pub story : name ≡ codes "story" → HasLines rows
   pub picture : name ≡ codes "picture" → HasPicture rows
   pub debug : name ≡ codes "debug" → HasDebug rows
 

@@ -14,14 +14,14 @@ use Rattle.settings.specs.declared.choice.Run.{Run}
 use Rattle.settings.specs.declared.choice.Hunt.{Hunt}
 use Rattle.settings.specs.declared.choice.Explore.{Explore}
 use Rattle.settings.specs.declared.choice.Replay.{Replay}
-use Rattle.settings.specs.declared.choice.Order.{Order}
+use Rattle.settings.specs.declared.choice.Lines.{Lines}
 use Rattle.settings.specs.declared.choice.Picture.{Picture}
 use Rattle.settings.specs.declared.choice.Session.{Session}
 use Rattle.settings.specs.declared.choice.Explain.{Explain}
 use Rattle.settings.specs.declared.choice.Sizes.{Sizes}
 use Rattle.command_forms.specs.Commands.{Bounds, Ranged, stages, queue, records, combinations, shared_words}
 use Rattle.command_forms.specs.Commands.{budget, steps, port, states, runs, start, processor, shared_word}
-use Rattle.command_forms.specs.Commands.{witness, step, trace_name, ultra_command}
+use Rattle.command_forms.specs.Commands.{witness, step, first_line, last_line, trace_name, ultra_command}
 
 abbrev pub IsPath : Text → List Row → Text → Type 0
 IsPath id rows file = first_of id rows ≡ Some file
@@ -77,8 +77,9 @@ GivesReplay rows r = IsPath (codes "TRACE") rows r.trace.now × IsPath (codes "F
 abbrev pub GivesExplain : List Row → Explain → Type 0
 GivesExplain rows e = texts_of e.words.items ≡ unwrap_or (all_of (codes "CODE") rows) []
 
-abbrev pub GivesOrder : List Row → Order → Type 0
-GivesOrder rows o = GivesReplay rows o.replay × IsChoice processor rows o.processor × IsChoice shared_word rows o.word
+abbrev pub GivesLines : List Row → Lines → Type 0
+GivesLines rows o = GivesReplay rows o.replay × IsChoice processor rows o.processor × IsChoice shared_word rows o.word
+    × IsChoice first_line rows o.from × IsChoice last_line rows o.to
 
 abbrev pub GivesPicture : List Row → Picture → Type 0
 GivesPicture rows p = GivesReplay rows p.replay × IsChoice step rows p.step
@@ -115,7 +116,8 @@ IsChosen stop (asked.Run r) = Named stop (codes "run") (λ rows. GivesRun rows r
 IsChosen stop (asked.Hunt h) = Named stop (codes "hunt") (λ rows. GivesHunt rows h)
 IsChosen stop (asked.Explore x) = Named stop (codes "explore") (λ rows. GivesExplore rows x)
 IsChosen stop (asked.Trace c r) = Named stop (trace_name c) (λ rows. GivesReplay rows r)
-IsChosen stop (asked.Order o) = Named stop (codes "order") (λ rows. GivesOrder rows o)
+IsChosen stop (asked.Order o) = Named stop (codes "order") (λ rows. GivesLines rows o)
+IsChosen stop (asked.Story o) = Named stop (codes "story") (λ rows. GivesLines rows o)
 IsChosen stop (asked.Picture p) = Named stop (codes "picture") (λ rows. GivesPicture rows p)
 IsChosen stop (asked.Debug d) = Named stop (codes "debug") (λ rows. GivesSession rows d)
 IsChosen stop (asked.Explain e) = Named stop (codes "explain") (λ rows. GivesExplain rows e)

@@ -6,6 +6,7 @@ use Rattle.clap.specs.Words.{Text}
 use Rattle.command_forms.specs.Commands.{trace_name}
 use Rattle.settings.specs.declared.choice.Settings.{Settings}
 use Rattle.settings.specs.declared.choice.Settings.TheVariants as asked
+use Rattle.settings.specs.declared.choice.Lines.{Lines}
 use Rattle.settings.specs.declared.choice.Replay.{Replay}
 use Rattle.settings.specs.declared.choice.Sizes.{Sizes}
 
@@ -39,6 +40,10 @@ HasOthers command others words = (program : Text) × (words ≡ program ∷ comm
 abbrev pub AreUsual : Sizes → Type 0
 AreUsual s = (s.k ≡ 2) × (s.c ≡ 4) × (s.b ≡ 4) × (s.r ≡ 1) × (s.words ≡ 1024)
 
+-- No line is left out.
+abbrev pub TakesAll : Lines → Type 0
+TakesAll o = (o.processor ≡ None) × (o.word ≡ None) × (o.from ≡ None) × (o.to ≡ None)
+
 -- The words are just the command of these settings with its files, or `explain` with at most four words. So no flag is
 -- set, no trace is written, no choice is made, and each number is its default.
 abbrev pub IsPlain : Settings → List Text → Type 0
@@ -56,7 +61,8 @@ IsPlain (asked.Explore x) words = HasFile (codes "explore") x.file.now words
     × (x.trace ≡ None) × (x.each ≡ false) × (x.every ≡ false) × (x.quiet ≡ false)
     × AreUsual x.sizes × (x.states ≡ 1000000) × (x.witness ≡ None)
 IsPlain (asked.Trace c r) words = HasTrace (trace_name c) r words
-IsPlain (asked.Order o) words = HasTrace (codes "order") o.replay words × (o.processor ≡ None) × (o.word ≡ None)
+IsPlain (asked.Order o) words = HasTrace (codes "order") o.replay words × TakesAll o
+IsPlain (asked.Story o) words = HasTrace (codes "story") o.replay words × TakesAll o
 IsPlain (asked.Picture p) words = HasTrace (codes "picture") p.replay words × (p.step ≡ None)
 IsPlain (asked.Debug d) words = HasFile (codes "debug") d.file.now words
     × (d.trace ≡ None) × AreUsual d.sizes × (d.budget ≡ 100000) × (d.port ≡ 3333)

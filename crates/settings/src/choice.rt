@@ -13,7 +13,8 @@ pub enum Settings<'a> {
     Hunt(Hunt<'a>),
     Explore(Explore<'a>),
     Trace(TraceCommand, Replay<'a>),
-    Order(Order<'a>),
+    Order(Lines<'a>),
+    Story(Lines<'a>),
     Picture(Picture<'a>),
     Debug(Session<'a>),
     Explain(Explain<'a>),
@@ -106,15 +107,19 @@ pub struct Explain<'a> {
     pub words: Vec<&'a str>,
 }
 
-/// `order TRACE FILE`, and which lines it prints.
+/// `order TRACE FILE` or `story TRACE FILE`, and which lines it prints.
 #[derive(Debug, PartialEq, Eq, Drop)]
-pub struct Order<'a> {
+pub struct Lines<'a> {
     /// The trace and its machine.
     pub replay: Replay<'a>,
-    /// The processor whose entries are printed, at most 63; None for all processors.
+    /// The processor whose lines are printed, at most 63; None for all processors.
     pub processor: Option<u8>,
-    /// The number, at most 262,143, of the shared word whose entries are printed; None for all entries.
+    /// The number, at most 262,143, of the shared word about which lines are printed; None for all lines.
     pub word: Option<u32>,
+    /// The number of the first line that is printed; None for 0.
+    pub from: Option<u32>,
+    /// The number of the last line that is printed; None for the last there is.
+    pub to: Option<u32>,
 }
 
 /// `picture TRACE FILE`, and the step after which the machine is drawn.

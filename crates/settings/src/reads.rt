@@ -2,22 +2,22 @@
 ghost use Rattle.std.specs.Prelude.{◌≡◌, ◌≤◌, ◌<◌, ◌^◌, codes, option_map, unwrap_or, [], IfOk};
 ghost use Rattle.clap.specs.Words.{all_of, found_of, rows_of, subcommand_rows_of};
 ghost use Rattle.settings.specs.Lines.{AreSizes, GivesAsm, GivesCheck, GivesDis, GivesExplain, GivesExplore};
-ghost use Rattle.settings.specs.Lines.{GivesHunt, IsChoice, IsChosen, IsFlag, IsNumber, IsOption, GivesOrder};
+ghost use Rattle.settings.specs.Lines.{GivesHunt, GivesLines, IsChoice, IsChosen, IsFlag, IsNumber, IsOption};
 ghost use Rattle.settings.specs.Lines.{IsPath, GivesPicture, GivesReplay, GivesRun, GivesSession, GivesWords};
 ghost use Rattle.settings.specs.Plain.{texts_of};
-ghost use Rattle.settings.specs.Given.{HasAsm, HasDebug, HasDis, HasExplore, HasHunt, HasNumber, HasOrder};
+ghost use Rattle.settings.specs.Given.{HasAsm, HasDebug, HasDis, HasExplore, HasHunt, HasLines, HasNumber};
 ghost use Rattle.settings.specs.Given.{HasPath, HasPicture, HasReplay, HasRun, HasSizes, IsComplete};
 ghost use Rattle.command_forms.specs.Forms.{bounded, bounds_as, ranged, ranged_as};
 
 use crate::choice::{
-    Asm, Check, Dis, Explain, Explore, Hunt, Order, Picture, Replay, Run, Session, Settings, Sizes,
+    Asm, Check, Dis, Explain, Explore, Hunt, Lines, Picture, Replay, Run, Session, Settings, Sizes,
     Words,
 };
 use clap::ArgMatches;
 use command_forms::{
-    BUDGET, COMBINATIONS, ChoiceOption, FIRST_START, NumberOption, PORT, PROCESSOR, QUEUE, RECORDS,
-    RUN_STEPS, RUNS, SHARED_WORD, SHARED_WORDS, STAGES, START, STATES, STEP, STEPS, TraceCommand,
-    WITNESS,
+    BUDGET, COMBINATIONS, ChoiceOption, FIRST_LINE, FIRST_START, LAST_LINE, NumberOption, PORT,
+    PROCESSOR, QUEUE, RECORDS, RUN_STEPS, RUNS, SHARED_WORD, SHARED_WORDS, STAGES, START, STATES,
+    STEP, STEPS, TraceCommand, WITNESS,
 };
 use std::alloc::{AllocError, Global};
 
@@ -234,14 +234,16 @@ fn explain<'a>(alloc: Global, matches: &ArgMatches<'a>) -> Result<Explain<'a>, A
     })
 }
 
-fn order<'a>(matches: &ArgMatches<'a>) -> Order<'a>
-    requires { HasOrder (rows_of (found_of matches.now)) }
-    ensures { GivesOrder (rows_of (found_of matches.now)) result }
+fn lines<'a>(matches: &ArgMatches<'a>) -> Lines<'a>
+    requires { HasLines (rows_of (found_of matches.now)) }
+    ensures { GivesLines (rows_of (found_of matches.now)) result }
 {
-    Order {
+    Lines {
         replay: replay(matches),
         processor: byte_choice(matches, PROCESSOR),
         word: choice(matches, SHARED_WORD),
+        from: choice(matches, FIRST_LINE),
+        to: choice(matches, LAST_LINE),
     }
 }
 
@@ -321,7 +323,8 @@ pub(crate) fn subcommand_settings<'a>(
         "run" => Ok(Settings::Run(run(inner))),
         "hunt" => Ok(Settings::Hunt(hunt(inner))),
         "explore" => Ok(Settings::Explore(explore(inner))),
-        "order" => Ok(Settings::Order(order(inner))),
+        "order" => Ok(Settings::Order(lines(inner))),
+        "story" => Ok(Settings::Story(lines(inner))),
         "picture" => Ok(Settings::Picture(picture(inner))),
         "debug" => Ok(Settings::Debug(session(inner))),
         "explain" => Ok(Settings::Explain(explain(alloc, inner)?)),

@@ -1,89 +1,99 @@
 -- The lines of steps that a machine takes one after another.
-use Rattle.std.proofs.Common.{◌≡◌, ℕ, ◌+◌, ◌*◌, ◌^◌, ◌≤◌, List, [], ◌∷◌, ◌++◌, length, refl, sym, ap, ◌∙◌, subst, arith}
-use Rattle.std.proofs.lemmas.List.{append-nil, append_assoc}
-use Rattle.std.proofs.lemmas.Nat.{mul-le}
+use Rattle.std.proofs.Common.{◌≡◌, ℕ, suc, List, [], ◌∷◌, ◌++◌, length, refl, sym, ap, ap₂, ◌∙◌}
 use Rattle.flat_machine.specs.declared.config.Config.{Config}
-use Rattle.elf_image.specs.Images.{ImageContents}
+use Rattle.omega_network.specs.Networks.{net_of}
 use Rattle.steps.specs.declared.step.Step.{Step}
 use Rattle.steps.specs.declared.step.Outcome.{Outcome}
+use Rattle.machine_picture.specs.Subjects.{processors_of, subject_of}
 use Rattle.machine_steps.specs.machine_theory.Theory as theory
 use Rattle.machine_steps.specs.machine_theory.Processors.{ObservedCore}
-use Rattle.machine_steps.specs.machine_theory.Steps.{outcome_of, after}
-use Rattle.machine_steps.specs.Machines.{MachineLists, machine_of, IsMachine}
-use Rattle.machine_steps.specs.Draining.{drain_steps}
-use Rattle.machine_steps.specs.Noting.{AreNoted, AreNotedFrom}
-use Rattle.machine_steps.specs.Answers.{answers_from, answers_of}
-use Rattle.machine_steps.specs.Laws.{RunsAreSerialized}
-use Rattle.machine_steps.specs.Runs.{all_after, IsOpening, IsRun}
-use Rattle.machine_steps.proofs.Lemmas.{count_small, noted_after_run}
-use Rattle.trace_lines.specs.StoryLines.{line_of, lines_from, story_of}
-use Rattle.trace_commands.specs.Reports.{IsExitOf}
-use Rattle.trace_commands.specs.Stories.{AreStoryLines, StoryState, no_lines, with_line, IsDrainedStory}
+use Rattle.machine_steps.specs.machine_theory.Steps.{after, machine_of_parts, outcome_of}
+use Rattle.machine_steps.specs.Answers.{AnswersBegin, AnswersGoOn}
+use Rattle.machine_steps.specs.Machines.{IsStep, MachineLists, machine_of}
+use Rattle.machine_steps.specs.Runs.{IsRun, all_after, events_of}
+use Rattle.machine_steps.proofs.Lemmas.{outcome_there}
+use Rattle.trace_lines.specs.declared.choice.Choice.{Choice}
+use Rattle.trace_lines.specs.declared.subject.Subject.{Subject}
+use Rattle.trace_lines.specs.StoryLines.{StoriesGoOn, StoryState, StoryStep, no_lines, story_step, with_line, with_lines}
+use Rattle.trace_commands.specs.Stories.{story_steps_from, story_steps_of, story_step_on}
 
--- The lines after a step are those before it and the step's.
-abbrev pub HasLine : StoryState → Step → Outcome → StoryState → Type 0
-HasLine t s o t' = t' ≡ with_line t s o
+-- ---- what is story_step
 
-joined_from : (c : Config) (code : List ℕ) (M : theory.Machine ObservedCore) (xs ys : List Step) (t mid t' : StoryState) →
-    AreNotedFrom HasLine c code M xs t mid → AreNotedFrom HasLine c code (all_after c code M xs) ys mid t' → AreNotedFrom HasLine c code M (xs ++ ys) t t'
-unfolding all_after
-joined_from c code M [] ys t mid t' same rest = subst (λ x. AreNotedFrom HasLine c code M ys x t') same rest
-joined_from c code M (x ∷ xs) ys t mid t' all rest = (all.0, all.1, joined_from c code (after c code M x) xs ys all.0 mid t' all.2 rest)
+-- A step that is taken next comes last.
+next_step : (c : Config) (code : List ℕ) (M : theory.Machine ObservedCore) (done : List Step) (s : Step) →
+    story_steps_from c code M (done ++ s ∷ []) ≡ story_steps_from c code M done ++ story_step_on c code (all_after c code M done) s ∷ []
+unfolding story_steps_from all_after
+next_step c code M [] s = refl
+next_step c code M (x ∷ done) s = ap (λ xs. story_step_on c code M x ∷ xs) (next_step c code (after c code M x) done s)
 
-numbered_from : (c : Config) (code : List ℕ) (M : theory.Machine ObservedCore) (steps : List Step) (t t' : StoryState) →
-    AreNotedFrom HasLine c code M steps t t' → t'.number ≡ t.number + length steps
-numbered_from c code M [] t t' same = ap (λ (x : StoryState). x.number) same ∙ omega arith
-numbered_from c code M (s ∷ ss) t t' all =
-    numbered_from c code (after c code M s) ss all.0 t' all.2 ∙ ap (λ (x : StoryState). x.number + length ss) all.1 ∙ omega arith
+counted_from : (c : Config) (code : List ℕ) (M : theory.Machine ObservedCore) (steps : List Step) →
+    length (story_steps_from c code M steps) ≡ length steps
+unfolding story_steps_from
+counted_from c code M [] = refl
+counted_from c code M (s ∷ steps) = ap suc (counted_from c code (after c code M s) steps)
 
-lines_more : (c : Config) (code : List ℕ) (M : theory.Machine ObservedCore) (steps : List Step) (t t' : StoryState) →
-    AreNotedFrom HasLine c code M steps t t' → t'.text ≡ t.text ++ lines_from t.groups t.number (answers_from c code M steps)
-unfolding answers_from
-lines_more c code M [] t t' same = ap (λ (x : StoryState). x.text) same ∙ sym (append-nil t.text)
-lines_more c code M (s ∷ ss) t t' all =
-    let o = outcome_of c code M s in
-    let next = with_line t s o in
-    let rest = answers_from c code (after c code M s) ss in
-    subst (λ (m : StoryState). t'.text ≡ m.text ++ lines_from m.groups m.number rest) all.1 (lines_more c code (after c code M s) ss all.0 t' all.2)
-    ∙ append_assoc t.text (line_of t.groups t.number s o) (lines_from next.groups next.number rest)
+no_step : (m : MachineLists) → story_steps_of m [] ≡ []
+unfolding story_steps_of story_steps_from
+no_step m = refl
 
--- If lines are added to none, there is one for each step.
-pub one_for_each : (m : MachineLists) (steps : List Step) (t t' : StoryState) → t ≡ no_lines → AreNoted HasLine m steps t t' → t'.number ≡ length steps
-one_for_each m steps t t' none all =
-    numbered_from m.config m.code (machine_of m (λ p. [])) steps t t' all ∙ ap (λ (x : StoryState). x.number + length steps) none ∙ omega arith
+-- As many steps are story_step as are taken.
+all_counted : (m : MachineLists) (steps : List Step) → length (story_steps_of m steps) ≡ length steps
+unfolding story_steps_of
+all_counted m steps = counted_from m.config m.code (machine_of m (λ p. [])) steps
 
--- Lines that are added to none, step by step, and then those of more steps are the story of all of them.
-pub lines_are_story : (m mid : MachineLists) (steps more : List Step) (t t1 t' : StoryState) → t ≡ no_lines → IsRun m steps mid →
-    AreNoted HasLine m steps t t1 → AreNoted HasLine mid more t1 t' → t'.text ≡ story_of (answers_of m (steps ++ more))
-unfolding story_of answers_of
-lines_are_story m mid steps more t t1 t' none r first rest =
-    let M : theory.Machine ObservedCore = machine_of m (λ p. []) in
-    let all = joined_from m.config m.code M steps more t t1 t' first (noted_after_run HasLine m mid steps more t1 t' r rest) in
-    subst (λ (x : StoryState). t'.text ≡ x.text ++ lines_from x.groups x.number (answers_from m.config m.code M (steps ++ more))) none
-    (lines_more m.config m.code M (steps ++ more) t t' all)
+-- the subject of a step on a machine
+abbrev subject_on : Config → (code : List ℕ) → MachineLists → Step → Subject
+subject_on c code m s = subject_of c code (net_of m.network) (processors_of m) s
 
--- A drain takes few steps.
-pub drain_is_few : (k : ℕ) → k ≤ 6 → 2 ^ k * (2 * k + 2) ≤ 64 * 14
-drain_is_few k few = mul-le (2 ^ k) (2 * k + 2) 64 14 (count_small k few) (omega (arith, few))
+module _ (old m : MachineLists) (done : List Step) (r : IsRun old done m) (s : Step) where
+  abbrev M : theory.Machine ObservedCore
+  M = all_after old.config old.code (machine_of old (λ p. [])) done
 
--- The story of a machine that opens on an image, takes the steps of a trace and is drained is what is printed.
-pub story_printed : RunsAreSerialized → (c : Config) (image : ImageContents) (opening new : MachineLists) (steps : List Step) (text : List ℕ) (status : ℕ) →
-    IsOpening c image opening → IsMachine opening → IsMachine new → IsDrainedStory opening steps new text → IsExitOf new status →
-    AreStoryLines c image steps text status
-story_printed each c image opening new steps text status opens is is' story exit = record {
-  all = steps ++ drain_steps story.before;
-  home = record {
-    before = story.before;
-    stands = record { opening = opening; opens = opens; replay = story.taken };
-    is = refl;
-    run = record {
-      opening = opening;
-      opens = opens;
-      machine = new;
-      replay = story.replay;
-      idle = story.idle;
-      serialized = each opening (steps ++ drain_steps story.before) new is opens.idle is' story.replay.run;
-    };
-  };
-  contents_are = record { opening = opening; opens = opens; machine = new; run = story.replay.run; are = story.lines; exit = exit };
+  -- A step is about the same on a machine after a run and on the theory's machine after its steps.
+  subject_there : (story_step_on old.config old.code M s).subject ≡ subject_on m.config m.code m s
+  unfolding machine_of_parts
+  subject_there =
+      ap (λ N. (story_step_on old.config old.code N s).subject) (sym (r.after (λ p. [])))
+      ∙ ap₂ (λ c code. subject_on c code m s) (sym r.config) (sym r.code)
+
+  one_step_more : (o : Outcome) → o ≡ outcome_of m.config m.code (machine_of m (λ p. [])) s →
+      story_steps_of old (done ++ s ∷ []) ≡ story_steps_of old done ++ story_step s o (subject_on m.config m.code m s) ∷ []
+  unfolding story_steps_of
+  one_step_more o is =
+      next_step old.config old.code (machine_of old (λ p. [])) done s
+      ∙ ap₂ (λ out subject. story_steps_from old.config old.code (machine_of old (λ p. [])) done ++ story_step s out subject ∷ [])
+      (outcome_there old m done r s ∙ sym is) subject_there
+
+-- ---- the lines
+
+-- The machine has taken these steps, and these are their chosen lines.
+pub record IsStorySoFar (choice : Choice) (old : MachineLists) (done : List Step) (m : MachineLists) (lines : StoryState) : Type 0 where
+  pub run : IsRun old done m
+  pub are : lines ≡ with_lines (no_lines choice) (story_steps_of old done)
+
+-- Before the first step there are no lines.
+pub at_first : AnswersBegin → (choice : Choice) (m : MachineLists) (lines : StoryState) → lines ≡ no_lines choice → IsStorySoFar choice m [] m lines
+at_first begin choice m lines none = record {
+  run = (begin m).0;
+  are = none ∙ sym (ap (with_lines (no_lines choice)) (no_step m));
 }
+
+module _ (goes_on : StoriesGoOn) (choice : Choice) (old m : MachineLists) (done : List Step) (lines : StoryState)
+    (t : IsStorySoFar choice old done m lines) where
+  -- The lines number the steps.
+  pub numbered : lines.known.number ≡ length done
+  numbered =
+      ap (λ (l : StoryState). l.known.number) t.are ∙ goes_on.number choice (story_steps_of old done) ∙ all_counted old done
+
+  -- If the machine takes one step more, and its line is added, these are the lines of all steps.
+  pub one_more : AnswersGoOn → (s : Step) (o : Outcome) (subject : Subject) (new : MachineLists) (lines' : StoryState) → IsStep m s o new →
+      subject ≡ subject_on m.config m.code m s → lines' ≡ with_line lines (story_step s o subject) →
+      IsStorySoFar choice old (done ++ s ∷ []) new lines'
+  one_more go_on s o subject new lines' is about line = record {
+    run = (go_on old m new done s o t.run is).0;
+    are =
+        line
+        ∙ ap₂ (λ l x. with_line l (story_step s o x)) t.are about
+        ∙ sym (goes_on.more (no_lines choice) (story_steps_of old done) (story_step s o (subject_on m.config m.code m s)))
+        ∙ ap (with_lines (no_lines choice)) (sym (one_step_more old m done t.run s o is.step.outcome));
+  }

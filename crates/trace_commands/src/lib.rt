@@ -7,12 +7,12 @@
 //! A report depends only on the image, the machine's size and the steps: a machine that opens on the image takes the
 //! steps ([`replay_counted`]), and a tally counts what each step shows. [`print_run`] reports the log of a run in the
 //! same way. A machine that keeps no log counts what it shows as it goes ([`step_tallied`]), and is reported itself
-//! ([`report_with_status`]). [`order_command`] prints an [`Order`], unless a number of its choice names nothing on the
-//! machine.
+//! ([`report_with_status`]). [`lines_command`] prints an [`Order`] or a [`Story`], unless a number of its choice names
+//! nothing on the machine.
 //!
-//! A [`Story`] takes the steps of the trace on a machine that opens on the image, and then those of a drain, and each
-//! step becomes a line ([`story_text`]). The others list all these steps first ([`drained_steps`]). For an order, a
-//! second machine gives their serial order ([`entries_of`]). Two more machines execute it, one entry at a time: one of
+//! The others list the steps of the trace and those of a drain first ([`drained_steps`]). For a story, a second machine
+//! takes all these steps, and each becomes a line, if it is chosen ([`story_text`]). For an order, a second machine
+//! gives their serial order ([`entries_of`]). Two more machines execute it, one entry at a time: one of
 //! them has taken the entry and the other has not yet, so that its line can say what it changed ([`order_text`]). For
 //! stats, a second machine takes all steps again, and their outcomes are counted ([`count_steps`]). For a picture, it
 //! takes as many steps as are asked for, and its view is drawn ([`picture_text`]).
@@ -42,7 +42,7 @@ mod tally_in_memory;
 mod telling;
 mod trace_report;
 
-pub use choosing::order_command;
+pub use choosing::lines_command;
 pub use counting::count_steps;
 pub use draining::drained_steps;
 pub use drawing::picture_text;

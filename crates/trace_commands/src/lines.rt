@@ -68,7 +68,7 @@ fn push_entry(
     let outcome = execute(after, entry);
     if !outcome.is_stalled() {
         let word = word_of(before, entry, outcome);
-        if choice.takes(processor_of(entry), word) {
+        if choice.takes(number, processor_of(entry), word) {
             let reference = reference_of(before, after, word);
             push_line(alloc, text, before, number, entry, outcome, &reference)?;
         }

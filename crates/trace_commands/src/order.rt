@@ -19,7 +19,7 @@ use std::alloc::Global;
 use steps::Step;
 use trace_lines::Choice;
 
-/// What `ultra order` prints for a trace ([`crate::trace_report::trace_command`]): takes the trace's steps, and then
+/// What `ultra order` prints for a trace ([`crate::choosing::lines_command`]): takes the trace's steps, and then
 /// steps until no reference is open. One serial order of whole instructions explains all these steps. Each chosen entry
 /// has a line that says what the entry does in the flat machine after all entries before it. The exit status is 1 if a
 /// fault has stopped a processor.

@@ -1,18 +1,17 @@
 //! The lines of the steps that a machine takes.
 
-ghost use Rattle.std.specs.Prelude.{◌≡◌, ◌≤◌, IfErr, IfOk, length, string_bytes};
-ghost use Rattle.machine_log.specs.Replays.{StallsAt};
-ghost use Rattle.trace_commands.specs.Stories.{no_lines, IsDrainedStory};
+ghost use Rattle.std.specs.Prelude.{◌≡◌, IfOk, OnOk, string_bytes};
+ghost use Rattle.machine_steps.specs.Runs.{IsRun};
+ghost use Rattle.trace_lines.specs.StoryLines.{story_of};
+ghost use Rattle.trace_commands.specs.Stories.{story_steps_of};
 
-use machine_log::{StalledStep, replay_observed};
-use machine_steps::{Machine, laws};
+use machine_picture::subject_of;
+use machine_steps::Machine;
 use std::alloc::{AllocError, Global};
-use std::marker::Model;
-use steps::{Groups, Outcome, Step, StepObserver};
-use trace_lines::push_line;
+use steps::Step;
+use trace_lines::{Choice, StoryLines};
 
-/// Takes the steps of a trace, and then those of a drain, and makes a line from the outcome of each. Returns
-/// [`StalledStep`] if a step of the trace stalls, as [`machine_log::replay`] does.
+/// Takes these steps, and makes a line of each that is chosen.
 ///
 /// # Errors
 ///
@@ -21,90 +20,18 @@ pub fn story_text(
     alloc: Global,
     machine: &mut Machine,
     steps: &[Step],
-) -> Result<Result<String, StalledStep>, AllocError>
-    requires few { length steps.now ≤ 4194304 }
-    ensures story { IfOk result (λ replayed. IfOk replayed (λ text.
-        IsDrainedStory machine.old steps.now machine.new (string_bytes text))) }
-    ensures stalled { IfOk result (λ replayed. IfErr replayed
-        (λ e. StallsAt machine.old steps.now e.place machine.new)) }
+    choice: Choice,
+) -> Result<String, AllocError>
+    ensures run { OnOk result (IsRun machine.old steps.now machine.new) }
+    ensures lines { IfOk result (λ text. string_bytes text ≡ story_of choice (story_steps_of machine.old steps.now)) }
 {
-    let mut lines = StoryLines::new(alloc)?;
-    let replayed = replay_observed(machine, steps, &mut lines)?;
-    if let Err(stalled) = replayed {
-        return Ok(Err(stalled));
+    machine_steps::laws::answers_go_on();
+    trace_lines::laws::stories_go_on();
+    let mut lines = StoryLines::new(alloc, choice)?;
+    for step in steps {
+        let subject = subject_of(machine, step);
+        let outcome = machine.apply(*step);
+        lines.push(step, &outcome, &subject)?;
     }
-    laws::machine_is_well_formed(machine);
-    machine.drain_observed(&mut lines)?;
-    Ok(Ok(lines.into_text()))
-}
-
-/// The lines of the observed steps.
-#[derive(Drop)]
-struct StoryLines {
-    alloc: Global,
-    /// The groups of requests after these steps.
-    groups: Groups,
-    /// How many steps there are.
-    number: usize,
-    text: String,
-}
-
-impl Model for StoryLines {
-    ghost use Rattle.std.specs.Prelude.{string_bytes};
-    ghost use Rattle.trace_commands.specs.Stories.{StoryState};
-
-    ghost Value = { StoryState };
-
-    ghost view = { λ l. record { groups = l.groups; number = l.number; text = string_bytes l.text } };
-}
-
-impl StoryLines {
-    /// The lines of no step.
-    ///
-    /// # Errors
-    ///
-    /// [`AllocError`] if there is no memory for the groups.
-    fn new(alloc: Global) -> Result<Self, AllocError>
-        ensures { IfOk result (λ lines. lines ≡ no_lines) }
-    {
-        Ok(StoryLines {
-            alloc,
-            groups: Groups::new(alloc)?,
-            number: 0,
-            text: String::new(alloc),
-        })
-    }
-
-    /// The text of the lines.
-    fn into_text(self) -> String
-        ensures { string_bytes result ≡ self.text }
-    {
-        self.text
-    }
-}
-
-/// Appends the line of each step.
-impl StepObserver for StoryLines {
-    ghost use Rattle.std.specs.Prelude.{◌≡◌, ◌<◌, ◌+◌, ◌^◌};
-    ghost use Rattle.trace_commands.specs.Stories.{with_line};
-
-    type Refusal = AllocError;
-
-    ghost has_room = { λ lines more. lines.number + more < 2 ^ 64 };
-
-    ghost observed = { λ old step outcome new. new ≡ with_line old step outcome };
-
-    fn observe(&mut self, step: Step, outcome: &Outcome) -> Result<(), AllocError> {
-        push_line(
-            self.alloc,
-            &mut self.text,
-            &self.groups,
-            self.number,
-            &step,
-            outcome,
-        )?;
-        self.groups.observe(self.alloc, &step, outcome)?;
-        self.number += 1;
-        Ok(())
-    }
+    Ok(lines.into_text())
 }

@@ -1,35 +1,32 @@
--- Each step adds its line to the story of a run.
+-- Each step adds its line, if it is chosen, to the story of a run.
 use Rattle.std.proofs.Common.{◌≡◌, ℕ, ◌+◌, List, [], ◌∷◌, ◌++◌, length, refl, sym, ap, ◌∙◌, append_assoc, arith}
 use Rattle.std.proofs.lemmas.List.{append-nil}
-use Rattle.steps.specs.Answered.{Answer}
-use Rattle.steps.specs.Groups.{groups_after, groups_from, groups_of, no_groups}
 use Rattle.std.specs.Prelude.{codes}
 use Rattle.std.specs.Fmt.{decimal}
 use Rattle.trace_lines.specs.StoryTexts.{members_text}
-use Rattle.trace_lines.specs.StoryLines.{StoriesGoOn, line_of, lines_from, story_of}
+use Rattle.trace_lines.specs.StoryLines.{StoriesGoOn, StoryState, StoryStep, chosen_line, known_after, lines_from, no_lines, story_of, with_line, with_lines}
 
-lines_more : (groups : List (List ℕ)) (number : ℕ) (given_answers : List Answer) (a : Answer) →
-    lines_from groups number (given_answers ++ a ∷ []) ≡ lines_from groups number given_answers
-    ++ line_of (groups_from groups given_answers) (number + length given_answers) a.step a.outcome
-lines_more groups number [] a =
-    append-nil (line_of groups number a.step a.outcome) ∙ ap (λ n. line_of groups n a.step a.outcome) (omega arith)
-lines_more groups number (x ∷ given_answers) a =
-    let next = groups_after groups x.step x.outcome in
-    let there : number + 1 + length given_answers ≡ number + length (x ∷ given_answers) = omega arith in
-    ap (λ rest. line_of groups number x.step x.outcome ++ rest)
-    (lines_more next (number + 1) given_answers a
-    ∙ ap (λ n. lines_from next (number + 1) given_answers ++ line_of (groups_from next given_answers) n a.step a.outcome) there)
-    ∙ sym (append_assoc (line_of groups number x.step x.outcome) (lines_from next (number + 1) given_answers)
-    (line_of (groups_from next given_answers) (number + length (x ∷ given_answers)) a.step a.outcome))
+text_more : (t : StoryState) (run : List StoryStep) → (with_lines t run).text ≡ t.text ++ lines_from t.choice t.known run
+text_more t [] = sym (append-nil t.text)
+text_more t (a ∷ rest) =
+    text_more (with_line t a) rest
+    ∙ append_assoc t.text (chosen_line t.choice t.known a) (lines_from t.choice (known_after t.choice t.known a.step a.outcome) rest)
 
--- The story of no step is empty, and a step at the end of a run adds its line.
+number_more : (t : StoryState) (run : List StoryStep) → (with_lines t run).known.number ≡ t.known.number + length run
+number_more t [] = omega arith
+number_more t (a ∷ rest) = number_more (with_line t a) rest ∙ omega arith
+
+one_more : (t : StoryState) (run : List StoryStep) (a : StoryStep) → with_lines t (run ++ a ∷ []) ≡ with_line (with_lines t run) a
+one_more t [] a = refl
+one_more t (x ∷ rest) a = one_more (with_line t x) rest a
+
+-- Lines that are added step by step are the story of all steps.
 pub stories_more : StoriesGoOn
-unfolding story_of groups_of
+unfolding story_of
 stories_more = record {
-  none = refl;
-  story = λ given_answers a.
-      lines_more no_groups 0 given_answers a
-      ∙ ap (λ n. lines_from no_groups 0 given_answers ++ line_of (groups_from no_groups given_answers) n a.step a.outcome) (omega arith);
+  more = one_more;
+  story = λ choice run. text_more (no_lines choice) run;
+  number = λ choice run. number_more (no_lines choice) run ∙ omega arith;
 }
 
 -- ---- the members of a group

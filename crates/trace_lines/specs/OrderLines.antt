@@ -1,5 +1,5 @@
 -- The lines of a serial order: what each entry does in the flat machine that has taken the entries before it.
-use Rattle.std.specs.Prelude.{ℕ, ◌+◌, Bool, true, false, ◌==◌, ◌&&◌, List, [], ◌∷◌, ◌++◌, Option, Some, None, slice_get}
+use Rattle.std.specs.Prelude.{ℕ, ◌+◌, List, [], ◌∷◌, ◌++◌, Option, Some, None, slice_get}
 use Rattle.std.specs.Prelude.{if◌then◌else◌}
 use Rattle.flat_machine.specs.declared.event.Event.{Event}
 use Rattle.flat_machine.specs.declared.poke.Entry.{Entry}
@@ -7,6 +7,7 @@ use Rattle.flat_machine.specs.declared.poke.Entry.TheVariants as entry
 use Rattle.flat_machine.specs.State.{FlatState, Processor}
 use Rattle.flat_machine.specs.Flat.{flat_event, flat_step, is_lawful}
 use Rattle.trace_lines.specs.declared.choice.Choice.{Choice}
+use Rattle.trace_lines.specs.Choices.{takes}
 use Rattle.trace_lines.specs.declared.reference.Reference.{Reference}
 use Rattle.trace_lines.specs.References.{processor_of, reference_of, word_of}
 use Rattle.trace_lines.specs.OrderTexts.{poke_line, turn_line}
@@ -25,19 +26,9 @@ line_of m number (entry.Processor k) =
     (reference_of m (entry.Processor k))
 line_of m number (entry.Poke q) = if is_lawful m q then poke_line number q (reference_of m (entry.Poke q)) else []
 
--- whether an entry's number, if it has one, is the chosen one; true if none is chosen
-abbrev pub is_chosen : (chosen there : Option ℕ) → Bool
-is_chosen None there = true
-is_chosen (Some n) None = false
-is_chosen (Some n) (Some m) = n == m
-
--- whether a choice takes an entry of this processor that acts on this shared word
-abbrev pub takes : Choice → (processor word : Option ℕ) → Bool
-takes choice processor word = is_chosen choice.processor processor && is_chosen choice.word word
-
 -- the line of an entry if it is chosen, and nothing otherwise
 abbrev pub chosen_line : Choice → FlatState → (number : ℕ) → Entry → List ℕ
-chosen_line choice m number e = if takes choice (processor_of e) (word_of m e) then line_of m number e else []
+chosen_line choice m number e = if takes choice number (processor_of e) (word_of m e) then line_of m number e else []
 
 -- The lines of a list of entries, each in the flat machine that has taken the entries before it. Entries that are not
 -- chosen are numbered too.

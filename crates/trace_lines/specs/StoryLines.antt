@@ -1,12 +1,16 @@
--- The lines of a run's story: a line for each step, read off the step, its outcome and the groups of requests before
--- it.
-use Rattle.std.specs.Prelude.{◌≡◌, ℕ, ◌+◌, List, [], ◌∷◌, ◌++◌, codes, length}
+-- The lines of a run's story: a line for each step that is chosen, read off the step, its outcome and the groups of
+-- requests before it.
+use Rattle.std.specs.Prelude.{◌≡◌, ℕ, ◌+◌, Bool, true, ◌&&◌, List, [], ◌∷◌, ◌++◌, codes, length, Option, Some, None}
+use Rattle.std.specs.Prelude.{if◌then◌else◌}
 use Rattle.std.specs.Fmt.{decimal}
 use Rattle.command_io.specs.Digits.{line_feed}
 use Rattle.steps.specs.declared.step.Step.{Step}
 use Rattle.steps.specs.declared.step.Outcome.{Outcome}
-use Rattle.steps.specs.Answered.{Answer}
-use Rattle.steps.specs.Groups.{groups_after, groups_of, no_groups}
+use Rattle.steps.specs.Groups.{groups_after, no_groups}
+use Rattle.trace_lines.specs.declared.choice.Choice.{Choice}
+use Rattle.trace_lines.specs.declared.subject.Subject.{Subject}
+use Rattle.trace_lines.specs.Choices.{is_chosen, is_in_range}
+use Rattle.trace_lines.specs.Concerns.{concerns, leader_after}
 use Rattle.trace_lines.specs.StoryTexts.{outcome_text, step_text}
 
 -- `N STEP: OUTCOME`
@@ -14,21 +18,94 @@ unfoldable pub line_of : List (List ℕ) → (number : ℕ) → Step → Outcome
 line_of groups number s o = decimal number ++ codes " " ++ step_text s ++ codes ": " ++ outcome_text groups s o
     ++ line_feed
 
--- the lines of a list of steps, numbered from this number
-abbrev pub lines_from : List (List ℕ) → (number : ℕ) → List Answer → List ℕ
-lines_from groups number [] = []
-lines_from groups number (a ∷ given_answers) = line_of groups number a.step a.outcome
-    ++ lines_from (groups_after groups a.step a.outcome) (number + 1) given_answers
+-- ---- chosen lines
 
--- the story of a run, from its first step
-unfoldable pub story_of : List Answer → List ℕ
-story_of answers = lines_from no_groups 0 answers
+-- a step with its outcome, and what it is about
+pub record StoryStep : Type 0 where
+  pub step : Step
+  pub outcome : Outcome
+  pub subject : Subject
+
+abbrev pub story_step : Step → Outcome → Subject → StoryStep
+story_step s o subject = record { step = s; outcome = o; subject = subject }
+
+-- what is known before a step: how many steps there were, the groups of requests after them, and the leader of the
+-- message that stands for the chosen processor, if one does
+pub record Telling : Type 0 where
+  pub number : ℕ
+  pub groups : List (List ℕ)
+  pub leader : Option ℕ
+
+abbrev pub at_first : Telling
+at_first = record { number = 0; groups = no_groups; leader = None }
+
+-- the leader of the message that stands for the chosen processor, if one is chosen
+abbrev pub chosen_leader : (chosen : Option ℕ) → Telling → Step → Outcome → Option ℕ
+chosen_leader None t s o = None
+chosen_leader (Some p) t s o = leader_after p t.groups t.leader s o
+
+-- what is known after a step
+abbrev pub known_after : Choice → Telling → Step → Outcome → Telling
+known_after choice t s o = record {
+  number = t.number + 1;
+  groups = groups_after t.groups s o;
+  leader = chosen_leader choice.processor t s o;
+}
+
+-- whether a step concerns the chosen processor; true if none is chosen
+abbrev pub concerns_chosen : (chosen : Option ℕ) → Telling → StoryStep → Bool
+concerns_chosen None t a = true
+concerns_chosen (Some p) t a = concerns p t.leader a.subject.leader a.step a.outcome
+
+-- whether a choice takes a step
+abbrev pub takes_step : Choice → Telling → StoryStep → Bool
+takes_step choice t a = is_in_range choice t.number
+    && (is_chosen choice.word a.subject.word && concerns_chosen choice.processor t a)
+
+-- the line of a step if it is chosen, and nothing otherwise
+abbrev pub chosen_line : Choice → Telling → StoryStep → List ℕ
+chosen_line choice t a = if takes_step choice t a then line_of t.groups t.number a.step a.outcome else []
+
+-- the chosen lines of a list of steps, each by what is known before it
+abbrev pub lines_from : Choice → Telling → List StoryStep → List ℕ
+lines_from choice t [] = []
+lines_from choice t (a ∷ rest) = chosen_line choice t a
+    ++ lines_from choice (known_after choice t a.step a.outcome) rest
+
+-- the chosen lines of a run, from its first step
+unfoldable pub story_of : Choice → List StoryStep → List ℕ
+story_of choice run = lines_from choice at_first run
+
+-- ---- step by step
+
+-- the chosen lines of some steps, and what is known after them
+pub record StoryState : Type 0 where
+  pub choice : Choice
+  pub known : Telling
+  pub text : List ℕ
+
+-- the lines of no step
+abbrev pub no_lines : Choice → StoryState
+no_lines choice = record { choice = choice; known = at_first; text = [] }
+
+-- the lines with that of one more step
+abbrev pub with_line : StoryState → StoryStep → StoryState
+with_line t a = record {
+  choice = t.choice;
+  known = known_after t.choice t.known a.step a.outcome;
+  text = t.text ++ chosen_line t.choice t.known a;
+}
+
+-- the lines with those of more steps
+abbrev pub with_lines : StoryState → List StoryStep → StoryState
+with_lines t [] = t
+with_lines t (a ∷ rest) = with_lines (with_line t a) rest
 
 -- ---- a law
 
--- The story of no step is empty, and a step at the end of a run adds its line.
+-- Lines that are added step by step, from none, are the chosen lines of the run, and number all its steps.
 pub record StoriesGoOn : Type 0 where
-  pub none : story_of [] ≡ []
-  pub story : (given_answers : List Answer) (a : Answer) →
-      story_of (given_answers ++ a ∷ []) ≡ story_of given_answers
-      ++ line_of (groups_of given_answers) (length given_answers) a.step a.outcome
+  pub more : (t : StoryState) (run : List StoryStep) (a : StoryStep) →
+      with_lines t (run ++ a ∷ []) ≡ with_line (with_lines t run) a
+  pub story : (choice : Choice) (run : List StoryStep) → (with_lines (no_lines choice) run).text ≡ story_of choice run
+  pub number : (choice : Choice) (run : List StoryStep) → (with_lines (no_lines choice) run).known.number ≡ length run

@@ -1,19 +1,23 @@
-//! Choices of entries.
+//! Choices of lines.
 
 ghost use Rattle.std.specs.Prelude.{◌≡◌};
-ghost use Rattle.trace_lines.specs.Choices.{unknown_of, unknown_processor, unknown_word};
-ghost use Rattle.trace_lines.specs.OrderLines.{is_chosen, takes};
+ghost use Rattle.trace_lines.specs.Choices.{is_chosen, is_from, is_in_range, is_up_to, takes, unknown_of};
+ghost use Rattle.trace_lines.specs.Choices.{unknown_processor, unknown_word};
 
 use crate::unknown::Unknown;
 
-/// A choice of entries of a serial order: those of one processor, those that act on one shared word, those that
-/// meet both conditions, or all.
+/// A choice of the lines of a serial order or of a story: those of one processor, those about one shared word, those
+/// with numbers in a range. A line has to meet all conditions that are given.
 #[derive(Clone, Copy, Debug, PartialEq, Eq, Drop)]
 pub struct Choice {
     /// The processor, if one is chosen.
     pub processor: Option<u8>,
     /// The number of the shared word, if one is chosen.
     pub word: Option<u32>,
+    /// The number of the first line, if one is chosen.
+    pub from: Option<u32>,
+    /// The number of the last line, if one is chosen.
+    pub to: Option<u32>,
 }
 
 impl Choice {
@@ -28,11 +32,41 @@ impl Choice {
         }
     }
 
-    /// Whether the choice includes an entry of this processor that acts on this shared word.
-    pub fn takes(&self, processor: Option<u8>, word: Option<u32>) -> bool
-        ensures { result ≡ takes self.now processor word }
+    /// Whether the number of a line is in the chosen range, both ends included.
+    pub(crate) fn is_in_range(&self, number: usize) -> bool
+        ensures { result ≡ is_in_range self.now number }
     {
-        is_processor(self.processor, processor) && is_word(self.word, word)
+        is_from(self.from, number) && is_up_to(self.to, number)
+    }
+
+    /// Whether the choice includes the line of this number, of this processor, that is about this shared word.
+    #[tactic(auto, unfolding(crate::specs::Choices::takes))]
+    pub fn takes(&self, number: usize, processor: Option<u8>, word: Option<u32>) -> bool
+        ensures { result ≡ takes self.now number processor word }
+    {
+        self.is_in_range(number)
+            && is_processor(self.processor, processor)
+            && is_word(self.word, word)
+    }
+}
+
+/// Whether a number is at least the first that is chosen; true if none is.
+fn is_from(first: Option<u32>, number: usize) -> bool
+    ensures { result ≡ is_from first number }
+{
+    match first {
+        None => true,
+        Some(first) => first as usize <= number,
+    }
+}
+
+/// Whether a number is at most the last that is chosen; true if none is.
+fn is_up_to(last: Option<u32>, number: usize) -> bool
+    ensures { result ≡ is_up_to last number }
+{
+    match last {
+        None => true,
+        Some(last) => number <= last as usize,
     }
 }
 
@@ -48,7 +82,7 @@ fn is_processor(chosen: Option<u8>, there: Option<u8>) -> bool
 }
 
 /// Whether the word is the chosen one; true if none is chosen.
-fn is_word(chosen: Option<u32>, there: Option<u32>) -> bool
+pub(crate) fn is_word(chosen: Option<u32>, there: Option<u32>) -> bool
     ensures { result ≡ is_chosen chosen there }
 {
     match (chosen, there) {

@@ -9,18 +9,24 @@
 #![tactic(auto)]
 
 mod choice;
+mod concern;
 pub mod laws;
 mod lines;
 mod order_laws;
 mod reference;
+mod story;
 mod story_laws;
+mod subject;
 mod texts;
 mod unknown;
 mod words;
 
 pub use choice::Choice;
+pub use concern::{concerns, leader_after};
 pub use lines::push_line;
 pub use reference::Reference;
+pub use story::StoryLines;
+pub use subject::Subject;
 pub use texts::{push_event, push_owner, push_poke, push_turn, push_written};
 pub use unknown::Unknown;
 pub use words::{processor_of_poke, word_of_instruction, word_of_poke};

@@ -2,7 +2,7 @@
 
 ghost use Rattle.trace_lines.specs.StoryLines.{StoriesGoOn};
 
-/// A step at the end of a run adds its line to the story, with the groups after the run.
+/// Lines that are added step by step, from none, are the chosen lines of the run, and number all its steps.
 #[tactic(auto, using(crate::proofs::StoryGoing::stories_more))]
 pub fn stories_go_on()
     ensures { StoriesGoOn }

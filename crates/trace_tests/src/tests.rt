@@ -19,7 +19,7 @@ use std::fmt::Debug;
 use std::io::{self, Read, Write};
 use std::process::Abort;
 use test_support::metered;
-use trace_commands::{Order, Stats, Story, order_command, trace_command};
+use trace_commands::{Order, Stats, Story, lines_command, trace_command};
 use trace_lines::Choice;
 
 /// Fails the test if the two differ, and prints both and their case ([`assert_same!`]).
@@ -27,10 +27,12 @@ fn same<T: PartialEq + Debug, A: Debug>(rt: &impl Abort, found: &T, wanted: &T, 
     assert_eq!(rt; found, wanted, "{at:?}");
 }
 
-/// No entry is left out.
+/// No line is left out.
 const ALL: Choice = Choice {
     processor: None,
     word: None,
+    from: None,
+    to: None,
 };
 
 /// A report on a trace.
@@ -38,12 +40,13 @@ const ALL: Choice = Choice {
 enum Asked {
     /// The chosen lines of its serial order.
     Order(Choice),
-    Story,
+    /// The chosen lines of its story.
+    Story(Choice),
     Stats,
 }
 
-/// Each kind of report, with all entries of the serial order.
-const WHOLE: [Asked; 3] = [Asked::Order(ALL), Asked::Story, Asked::Stats];
+/// Each kind of report, with all lines.
+const WHOLE: [Asked; 3] = [Asked::Order(ALL), Asked::Story(ALL), Asked::Stats];
 
 /// Carries out the command for a report.
 fn ask<T: Read + Drop, R: Read + Drop, W: LinkWrite, E: Write>(
@@ -62,9 +65,12 @@ fn ask<T: Read + Drop, R: Read + Drop, W: LinkWrite, E: Write>(
     match asked {
         Asked::Order(choice) => {
             let order = Order { choice };
-            order_command(alloc, trace, file, shared_words, &order, out, err)
+            lines_command(alloc, trace, file, shared_words, choice, &order, out, err)
         }
-        Asked::Story => trace_command(alloc, trace, file, shared_words, &Story, out, err),
+        Asked::Story(choice) => {
+            let story = Story { choice };
+            lines_command(alloc, trace, file, shared_words, choice, &story, out, err)
+        }
         Asked::Stats => trace_command(alloc, trace, file, shared_words, &Stats, out, err),
     }
 }

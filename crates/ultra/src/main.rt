@@ -30,7 +30,7 @@ use machine_picture::Svg;
 use processor_threads::Open;
 use run_command::{Progress, run_command, threaded_run_command, unlogged_run_command};
 use settings::{
-    Explore, Hunt, Replay, Run, Session, Settings, Sizes, TraceCommand, settings, status_of,
+    Explore, Hunt, Lines, Replay, Run, Session, Settings, Sizes, TraceCommand, settings, status_of,
 };
 use std::alloc::{AllocError, Global};
 use std::env;
@@ -42,7 +42,7 @@ use std::sync::Wait;
 use std::thread::Threads;
 use std::time::Clock;
 use trace_commands::{
-    Order, Picture, Report, Stats, Story, TraceReport, order_command, trace_command,
+    Order, Picture, Report, Stats, Story, TraceReport, lines_command, trace_command,
 };
 use trace_lines::Choice;
 use words_command::words_command;
@@ -172,26 +172,15 @@ fn execute<
         Settings::Explore(explore) => explore_file(rt, explore, terminal, reason, out, err),
         Settings::Trace(command, replay) => match command {
             TraceCommand::Replay => tell_steps(rt, replay, &Report, reason, out, err),
-            TraceCommand::Story => tell_steps(rt, replay, &Story, reason, out, err),
             TraceCommand::Stats => tell_steps(rt, replay, &Stats, reason, out, err),
         },
-        Settings::Order(order) => {
-            let choice = Choice {
-                processor: order.processor,
-                word: order.word,
-            };
-            let mut trace = Meter::new(open(rt, order.replay.trace, reason)?);
-            let mut file = open_image(rt, order.replay.file, reason);
-            let words = order.replay.words;
-            Ok(order_command(
-                alloc,
-                &mut trace,
-                &mut file,
-                words,
-                &Order { choice },
-                out,
-                err,
-            ))
+        Settings::Order(lines) => {
+            let choice = choice_of(lines);
+            tell_lines(rt, lines, &Order { choice }, reason, out, err)
+        }
+        Settings::Story(lines) => {
+            let choice = choice_of(lines);
+            tell_lines(rt, lines, &Story { choice }, reason, out, err)
         }
         Settings::Picture(asked) => {
             let picture = Picture {
@@ -229,6 +218,49 @@ fn tell_steps<'a, A: TraceReport, R: Files + AllocGlobal, W: LinkWrite, E: Write
         &mut trace,
         &mut file,
         words,
+        trace_report,
+        out,
+        err,
+    ))
+}
+
+/// The choice of lines that a command is asked for.
+fn choice_of(lines: &Lines<'_>) -> Choice
+    ensures { result ≡ record {
+      processor = lines.now.processor;
+      word = lines.now.word;
+      from = lines.now.from;
+      to = lines.now.to;
+    } }
+{
+    Choice {
+        processor: lines.processor,
+        word: lines.word,
+        from: lines.from,
+        to: lines.to,
+    }
+}
+
+/// Opens a trace, and then the image of its run, and prints the chosen lines of its steps, as [`tell_steps`] prints a
+/// report.
+fn tell_lines<'a, A: TraceReport, R: Files + AllocGlobal, W: LinkWrite, E: Write>(
+    rt: &R,
+    lines: &Lines<'a>,
+    trace_report: &A,
+    reason: &Reason,
+    out: &mut W,
+    err: &mut E,
+) -> Result<u8, Refusal<'a>>
+    requires works { W.has_failed out.old ≡ false }
+{
+    let mut trace = Meter::new(open(rt, lines.replay.trace, reason)?);
+    let mut file = open_image(rt, lines.replay.file, reason);
+    Ok(lines_command(
+        rt.alloc(),
+        &mut trace,
+        &mut file,
+        lines.replay.words,
+        choice_of(lines),
         trace_report,
         out,
         err,

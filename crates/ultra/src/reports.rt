@@ -119,7 +119,10 @@ pub(crate) fn place_of<'a>(settings: &Settings<'a>, letter: u8) -> Option<Place<
         (b'I', Settings::Debug(session)) => Some(Place::File(session.file)),
         (b'l', Settings::Debug(session)) => Some(Place::Port(session.port)),
         (_, Settings::Trace(_, replay)) => place_of_replay(replay, letter),
-        (_, Settings::Order(order)) => place_of_replay(&order.replay, letter),
+        (_, Settings::Order(lines) | Settings::Story(lines)) => place_of_replay(
+            &lines.replay,
+            letter,
+        ),
         (_, Settings::Picture(asked)) => place_of_replay(&asked.replay, letter),
         _ => None,
     }

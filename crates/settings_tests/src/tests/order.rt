@@ -1,18 +1,24 @@
-//! `order TRACE FILE` and its options.
+//! `order TRACE FILE` and its options, and `story`, which takes the same.
 
-/// Ways to ask for `order`.
+/// Ways to ask for `order` and `story`.
 pub const TAKEN: &str = r#"$ ultra order a.trace a.elf
-Order(Order { replay: Replay { trace: "a.trace", file: "a.elf", words: 1024 }, processor: None, word: None })
+Order(Lines { replay: Replay { trace: "a.trace", file: "a.elf", words: 1024 }, processor: None, word: None, from: None, to: None })
 $ ultra order --processor 0 a.trace a.elf
-Order(Order { replay: Replay { trace: "a.trace", file: "a.elf", words: 1024 }, processor: Some(0), word: None })
+Order(Lines { replay: Replay { trace: "a.trace", file: "a.elf", words: 1024 }, processor: Some(0), word: None, from: None, to: None })
 $ ultra order a.trace --processor=63 a.elf
-Order(Order { replay: Replay { trace: "a.trace", file: "a.elf", words: 1024 }, processor: Some(63), word: None })
+Order(Lines { replay: Replay { trace: "a.trace", file: "a.elf", words: 1024 }, processor: Some(63), word: None, from: None, to: None })
 $ ultra order a.trace a.elf --word 0
-Order(Order { replay: Replay { trace: "a.trace", file: "a.elf", words: 1024 }, processor: None, word: Some(0) })
+Order(Lines { replay: Replay { trace: "a.trace", file: "a.elf", words: 1024 }, processor: None, word: Some(0), from: None, to: None })
 $ ultra order a.trace a.elf --word=262143 --words 7 --processor +5
-Order(Order { replay: Replay { trace: "a.trace", file: "a.elf", words: 7 }, processor: Some(5), word: Some(262143) })
+Order(Lines { replay: Replay { trace: "a.trace", file: "a.elf", words: 7 }, processor: Some(5), word: Some(262143), from: None, to: None })
 $ ultra order --processor=-0 a.trace a.elf
-Order(Order { replay: Replay { trace: "a.trace", file: "a.elf", words: 1024 }, processor: Some(0), word: None })
+Order(Lines { replay: Replay { trace: "a.trace", file: "a.elf", words: 1024 }, processor: Some(0), word: None, from: None, to: None })
+$ ultra order a.trace a.elf --from 3 --to=4294967295
+Order(Lines { replay: Replay { trace: "a.trace", file: "a.elf", words: 1024 }, processor: None, word: None, from: Some(3), to: Some(4294967295) })
+$ ultra story a.trace a.elf
+Story(Lines { replay: Replay { trace: "a.trace", file: "a.elf", words: 1024 }, processor: None, word: None, from: None, to: None })
+$ ultra story --processor 1 --word 2 --from 0 a.trace a.elf --to 5 --words 7
+Story(Lines { replay: Replay { trace: "a.trace", file: "a.elf", words: 7 }, processor: Some(1), word: Some(2), from: Some(0), to: Some(5) })
 "#;
 
 /// Parts of the help.
@@ -28,7 +34,13 @@ DisplayHelp
 --processor <NUMBER>  Print the lines of this processor alone, 0 to 63
 $ ultra order --help
 DisplayHelp
---word <NUMBER>       Print the lines that act on this shared word alone, 0 to 262143
+--word <NUMBER>       Print the lines about this shared word alone, 0 to 262143
+$ ultra story --help
+DisplayHelp
+--from <NUMBER>       Print no line before the line of this number, 0 to 4294967295
+$ ultra story --help
+DisplayHelp
+--to <NUMBER>         Print no line after the line of this number, 0 to 4294967295
 $ ultra order --help
 DisplayHelp
 Exit status: 0 done, 1 a fault stopped a processor, 2 a refused trace, image or command line, 3 a\

@@ -1,6 +1,6 @@
-//! `replay TRACE FILE` and its option, and `story` and `stats`, which take the same.
+//! `replay TRACE FILE` and its option, and `stats`, which takes the same.
 
-/// Ways to ask for `replay`, `story` and `stats`.
+/// Ways to ask for `replay` and `stats`.
 pub const TAKEN: &str = r#"$ ultra replay a.trace a.elf
 Trace(Replay, Replay { trace: "a.trace", file: "a.elf", words: 1024 })
 $ ultra replay --words 1 a.trace a.elf
@@ -13,10 +13,6 @@ $ ultra replay a.elf a.trace
 Trace(Replay, Replay { trace: "a.elf", file: "a.trace", words: 1024 })
 $ ultra replay -- --words 1
 Trace(Replay, Replay { trace: "--words", file: "1", words: 1024 })
-$ ultra story a.trace a.elf
-Trace(Story, Replay { trace: "a.trace", file: "a.elf", words: 1024 })
-$ ultra story a.trace a.elf --words 7
-Trace(Story, Replay { trace: "a.trace", file: "a.elf", words: 7 })
 $ ultra stats a.trace a.elf
 Trace(Stats, Replay { trace: "a.trace", file: "a.elf", words: 1024 })
 $ ultra stats --words=8 a.trace a.elf

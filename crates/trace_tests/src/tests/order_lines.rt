@@ -186,7 +186,12 @@ fn choices(rt: HostRuntime) {
         (Some(1), Some(7), Some(1), Some(8), false),
         (Some(1), Some(7), Some(2), Some(7), false),
     ] {
-        let choice = Choice { processor, word };
-        assert_same!(rt; choice.takes(there, on), is_taken, (&choice, &there, &on));
+        let choice = Choice {
+            processor,
+            word,
+            from: None,
+            to: None,
+        };
+        assert_same!(rt; choice.takes(0, there, on), is_taken, (&choice, &there, &on));
     }
 }

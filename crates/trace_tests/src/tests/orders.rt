@@ -60,14 +60,28 @@ fn two_adds_combine(rt: HostRuntime) -> Result<(), Fail> {
     let alloc = rt.alloc();
     let image = image_of(alloc, ONE_ADD)?;
     let trace = trace_of(alloc, (1, 2, 1), &COMBINED)?;
-    for (processor, word, chosen) in [
-        (None, None, [0, 1, 2, 3, 4, 5, 6, 7].as_slice()),
-        (Some(0), None, [0, 3, 6].as_slice()),
-        (Some(1), None, [1, 4, 5, 7].as_slice()),
-        (None, Some(0), [2, 5, 6].as_slice()),
-        (None, Some(1), [].as_slice()),
-        (Some(0), Some(0), [6].as_slice()),
-        (Some(1), Some(1), [].as_slice()),
+    for ((processor, word), (from, to), chosen) in [
+        (
+            (None, None),
+            (None, None),
+            [0, 1, 2, 3, 4, 5, 6, 7].as_slice(),
+        ),
+        ((Some(0), None), (None, None), [0, 3, 6].as_slice()),
+        ((Some(1), None), (None, None), [1, 4, 5, 7].as_slice()),
+        ((None, Some(0)), (None, None), [2, 5, 6].as_slice()),
+        ((None, Some(1)), (None, None), [].as_slice()),
+        ((Some(0), Some(0)), (None, None), [6].as_slice()),
+        ((Some(1), Some(1)), (None, None), [].as_slice()),
+        ((None, None), (Some(2), Some(4)), [2, 3, 4].as_slice()),
+        ((None, None), (Some(7), None), [7].as_slice()),
+        ((None, None), (None, Some(0)), [0].as_slice()),
+        ((None, None), (Some(8), None), [].as_slice()),
+        ((None, None), (Some(5), Some(2)), [].as_slice()),
+        (
+            (Some(1), None),
+            (Some(4), Some(u32::MAX)),
+            [4, 5, 7].as_slice(),
+        ),
     ] {
         let mut lines = String::new(alloc);
         for number in chosen {
@@ -75,7 +89,12 @@ fn two_adds_combine(rt: HostRuntime) -> Result<(), Fail> {
                 lines.push_str(line)?;
             }
         }
-        let choice = Choice { processor, word };
+        let choice = Choice {
+            processor,
+            word,
+            from,
+            to,
+        };
         let ran = run(
             alloc,
             Asked::Order(choice),
@@ -121,17 +140,24 @@ fn refuses_what_the_machine_has_not(rt: HostRuntime) -> Result<(), Fail> {
     let alloc = rt.alloc();
     let trace = trace_of(alloc, (1, 2, 1), &COMBINED)?;
     for (processor, word, asked) in UNKNOWN {
-        let choice = Asked::Order(Choice { processor, word });
-        let ran = run(alloc, choice, trace.as_slice(), Ok(b"".as_slice()), 1024);
-        assert_same!(rt; ran.err.as_slice(), asked.as_bytes(), choice);
-        assert_same!(rt; ran.out.len(), 0, choice);
-        assert_same!(rt; ran.status, 2, choice);
-        let ran = run(alloc, choice, b"".as_slice(), Ok(b"".as_slice()), 1024);
-        assert_same!(rt; ran.err.as_slice(), b"ultra: X1\n".as_slice(), choice);
+        let unknown = Choice {
+            processor,
+            word,
+            ..ALL
+        };
+        for choice in [Asked::Order(unknown), Asked::Story(unknown)] {
+            let ran = run(alloc, choice, trace.as_slice(), Ok(b"".as_slice()), 1024);
+            assert_same!(rt; ran.err.as_slice(), asked.as_bytes(), choice);
+            assert_same!(rt; ran.out.len(), 0, choice);
+            assert_same!(rt; ran.status, 2, choice);
+            let ran = run(alloc, choice, b"".as_slice(), Ok(b"".as_slice()), 1024);
+            assert_same!(rt; ran.err.as_slice(), b"ultra: X1\n".as_slice(), choice);
+        }
     }
     let last = Asked::Order(Choice {
         processor: Some(1),
         word: Some(1023),
+        ..ALL
     });
     let ran = run(
         alloc,
@@ -153,8 +179,8 @@ fn served_in_the_drain(rt: HostRuntime) -> Result<(), Fail> {
     let image = image_of(alloc, ONE_ADD)?;
     let trace = trace_of(alloc, (1, 2, 1), &COMBINED[..7])?;
     let on_the_word = Choice {
-        processor: None,
         word: Some(0),
+        ..ALL
     };
     let ran = run(
         alloc,
@@ -281,8 +307,8 @@ fn each_add_goes_on_from_the_last(rt: HostRuntime) -> Result<(), Fail> {
         return Ok(());
     };
     let on_the_word = Choice {
-        processor: None,
         word: Some(0),
+        ..ALL
     };
     let ran = run(
         alloc,

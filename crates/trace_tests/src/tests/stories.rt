@@ -1,8 +1,10 @@
 //! Stories of small traces, step by step.
 
-use super::{Asked, run};
+use super::{ALL, Asked, run};
+use std::alloc::{AllocError, Global};
 use std::test::Fail;
 use test_support::{ADD_AT_X12, FOUR_ADDS, assert_same, image_of, trace_of};
+use trace_lines::Choice;
 
 /// The lines up to the service.
 const GOING_UP: &str = "0 poke 0 x11 00000001: writes
@@ -56,7 +58,7 @@ fn four_adds(rt: HostRuntime) -> Result<(), Fail> {
         let trace = trace_of(alloc, (2, 4, 4), &FOUR_ADDS[..steps])?;
         let ran = run(
             alloc,
-            Asked::Story,
+            Asked::Story(ALL),
             trace.as_slice(),
             Ok(image.as_slice()),
             1,
@@ -69,6 +71,78 @@ fn four_adds(rt: HostRuntime) -> Result<(), Fail> {
         assert_same!(rt; ran.status, 0);
     }
     Ok(())
+}
+
+/// Choices of a processor and a word, and of a range, and the numbers of the lines that they take. The request of
+/// processor 3 joins that of 1, and with it that of 0.
+static CHOICES: [(
+    (Option<u8>, Option<u32>),
+    (Option<u32>, Option<u32>),
+    &[usize],
+); 8] = [
+    (
+        (Some(0), None),
+        (None, None),
+        &[0, 4, 9, 13, 14, 17, 18, 19, 20, 21, 23],
+    ),
+    (
+        (Some(1), None),
+        (None, None),
+        &[1, 5, 10, 15, 16, 18, 19, 20, 22, 24],
+    ),
+    (
+        (Some(2), None),
+        (None, None),
+        &[2, 6, 11, 14, 17, 18, 19, 20, 21, 25],
+    ),
+    (
+        (Some(3), None),
+        (None, None),
+        &[3, 7, 12, 16, 18, 19, 20, 22, 26],
+    ),
+    (
+        (None, Some(0)),
+        (None, None),
+        &[
+            8, 9, 10, 11, 12, 13, 14, 15, 16, 17, 18, 19, 20, 21, 22, 23, 24, 25, 26,
+        ],
+    ),
+    ((None, None), (Some(25), None), &[25, 26]),
+    ((None, None), (Some(3), Some(2)), &[]),
+    ((Some(3), Some(0)), (Some(7), Some(18)), &[12, 16, 18]),
+];
+
+#[test]
+fn chosen_lines(rt: HostRuntime) -> Result<(), Fail> {
+    let alloc = rt.alloc();
+    let image = image_of(alloc, ADD_AT_X12)?;
+    let trace = trace_of(alloc, (2, 4, 4), &FOUR_ADDS)?;
+    for ((processor, word), (from, to), numbers) in CHOICES {
+        let choice = Choice {
+            processor,
+            word,
+            from,
+            to,
+        };
+        let story = Asked::Story(choice);
+        let ran = run(alloc, story, trace.as_slice(), Ok(image.as_slice()), 1);
+        let lines = lines_of(alloc, numbers)?;
+        assert_same!(rt; ran.out.as_slice(), lines.as_bytes(), choice);
+        assert_same!(rt; ran.status, 0, choice);
+    }
+    Ok(())
+}
+
+/// The lines of the whole trace that have these numbers.
+fn lines_of(alloc: Global, numbers: &[usize]) -> Result<String, AllocError> {
+    let mut lines = String::new(alloc);
+    for (number, line) in GOING_UP.lines().chain(BY_THE_TRACE.lines()).enumerate() {
+        if numbers.contains(&number) {
+            lines.push_str(line)?;
+            lines.push('\n')?;
+        }
+    }
+    Ok(lines)
 }
 
 /// A byte to the console, and a fault.
@@ -86,7 +160,7 @@ fn console_and_fault(rt: HostRuntime) -> Result<(), Fail> {
     let trace = trace_of(alloc, (0, 4, 4), &[turn, turn, turn, turn])?;
     let ran = run(
         alloc,
-        Asked::Story,
+        Asked::Story(ALL),
         trace.as_slice(),
         Ok(image.as_slice()),
         1024,

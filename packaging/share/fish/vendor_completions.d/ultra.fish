@@ -120,13 +120,19 @@ complete -c ultra -n '__ultra_wants_more replay 2 --words' -F
 
 complete -c ultra -n '__ultra_has_command order' -l words -x -d 'Shared words of four bytes that the machine has, 1 to 262144 [default: 1024]'
 complete -c ultra -n '__ultra_has_command order' -l processor -x -a '0 1 2 3 4 5 6 7 8 9 10 11 12 13 14 15 16 17 18 19 20 21 22 23 24 25 26 27 28 29 30 31 32 33 34 35 36 37 38 39 40 41 42 43 44 45 46 47 48 49 50 51 52 53 54 55 56 57 58 59 60 61 62 63' -d 'Print the lines of this processor alone, 0 to 63'
-complete -c ultra -n '__ultra_has_command order' -l word -x -d 'Print the lines that act on this shared word alone, 0 to 262143'
+complete -c ultra -n '__ultra_has_command order' -l word -x -d 'Print the lines about this shared word alone, 0 to 262143'
+complete -c ultra -n '__ultra_has_command order' -l from -x -d 'Print no line before the line of this number, 0 to 4294967295'
+complete -c ultra -n '__ultra_has_command order' -l to -x -d 'Print no line after the line of this number, 0 to 4294967295'
 complete -c ultra -n '__ultra_has_command order' -l help -d 'Print help'
-complete -c ultra -n '__ultra_wants_more order 2 --words --processor --word' -F
+complete -c ultra -n '__ultra_wants_more order 2 --words --processor --word --from --to' -F
 
 complete -c ultra -n '__ultra_has_command story' -l words -x -d 'Shared words of four bytes that the machine has, 1 to 262144 [default: 1024]'
+complete -c ultra -n '__ultra_has_command story' -l processor -x -a '0 1 2 3 4 5 6 7 8 9 10 11 12 13 14 15 16 17 18 19 20 21 22 23 24 25 26 27 28 29 30 31 32 33 34 35 36 37 38 39 40 41 42 43 44 45 46 47 48 49 50 51 52 53 54 55 56 57 58 59 60 61 62 63' -d 'Print the lines of this processor alone, 0 to 63'
+complete -c ultra -n '__ultra_has_command story' -l word -x -d 'Print the lines about this shared word alone, 0 to 262143'
+complete -c ultra -n '__ultra_has_command story' -l from -x -d 'Print no line before the line of this number, 0 to 4294967295'
+complete -c ultra -n '__ultra_has_command story' -l to -x -d 'Print no line after the line of this number, 0 to 4294967295'
 complete -c ultra -n '__ultra_has_command story' -l help -d 'Print help'
-complete -c ultra -n '__ultra_wants_more story 2 --words' -F
+complete -c ultra -n '__ultra_wants_more story 2 --words --processor --word --from --to' -F
 
 complete -c ultra -n '__ultra_has_command stats' -l words -x -d 'Shared words of four bytes that the machine has, 1 to 262144 [default: 1024]'
 complete -c ultra -n '__ultra_has_command stats' -l help -d 'Print help'

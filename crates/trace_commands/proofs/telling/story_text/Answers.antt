@@ -1,40 +1,28 @@
-use Rattle.std.proofs.Common.{◌≡◌, ◌+◌, ◌*◌, ◌^◌, ◌≤◌, length, ◌∙◌, subst, arith}
-use Rattle.std.specs.Prelude.{OnOk}
-use Rattle.machine_steps.specs.Draining.{drain_steps}
-use Rattle.machine_steps.specs.Noting.{AreNoted}
-use Rattle.machine_steps.specs.Runs.{IsReplay}
-use Rattle.machine_steps.proofs.Lemmas.{replay_joined}
-use Rattle.trace_commands.proofs.StorySteps.{HasLine, drain_is_few, one_for_each, lines_are_story}
+use Rattle.std.proofs.Common.{◌≡◌, List, take, slice_index_or, sym, ap, ◌∙◌, subst, arith}
+use Rattle.std.proofs.lemmas.List.{length-take-le, take_more}
+use Rattle.steps.specs.declared.step.Step.{Step}
+use Rattle.steps.specs.declared.step.Step.TheVariants as step
+use Rattle.trace_commands.proofs.StorySteps.{IsStorySoFar, at_first, numbered, one_more}
 use Rattle.trace_commands.proofs.telling.story_text.Goals as goal
 
-pub drain_observed-requires : goal.drain_observed-requires
-drain_observed-requires c =
-    let m = c.args.machine.now in
-    let steps = c.args.steps.now in
-    let mid = c.replay_observed.new.machine in
-    let before = c.in_ok-lines.lines in
-    let after = c.replay_observed.new.observer in
-    let first = subst (λ r. OnOk r (AreNoted HasLine m steps before after)) c.in_default.is c.in_ok-replayed.ensures.observed in
-    let number : after.number ≡ length steps = one_for_each m steps before after c.in_ok-lines.ensures first in
-    let few : 2 ^ mid.config.k * (2 * mid.config.k + 2) ≤ 896 = drain_is_few mid.config.k c.machine_is_well_formed.ensures.limits.stages in
-    record { room = omega (arith, number, few, c.requires) }
+pub loop-step-init : goal.loop-step-init
+loop-step-init c = at_first c.answers_go_on.ensures.begin c.args.choice c.args.machine.now c.in_ok-lines.lines c.in_ok-lines.ensures
 
-pub returns-clause-story : goal.returns-clause-story
-returns-clause-story c =
-    let m = c.args.machine.now in
+pub push-requires : goal.push-requires
+push-requires c =
     let steps = c.args.steps.now in
-    let mid = c.replay_observed.new.machine in
-    let new = c.drain_observed.new.self in
-    let before = c.in_ok-lines.lines in
-    let after = c.replay_observed.new.observer in
-    let replay = subst (λ r. OnOk r (IsReplay m steps mid)) c.in_default.is c.in_ok-replayed.ensures.replay in
-    let first = subst (λ r. OnOk r (AreNoted HasLine m steps before after)) c.in_default.is c.in_ok-replayed.ensures.observed in
-    let drained = c.in_ok-drain_observed.ensures in
-    record {
-      before = mid;
-      taken = replay;
-      replay = replay_joined m mid new steps (drain_steps mid) replay drained.replay;
-      idle = drained.drained.idle;
-      lines = c.into_text.ensures
-          ∙ lines_are_story m mid steps (drain_steps mid) before after c.drain_observed.new.observer c.in_ok-lines.ensures replay.run first drained.observed;
-    }
+    let l = c.loop-step in
+    let number : l.lines.known.number ≡ l.step-index =
+    numbered c.stories_go_on.ensures c.args.choice c.args.machine.now l.machine (take l.step-index steps) l.lines l.invariant
+    ∙ length-take-le l.step-index steps (omega (arith, c.loop-step-test.true)) in
+    omega (arith, number, c.loop-step-test.true)
+
+pub loop-step-preserved : goal.loop-step-preserved
+loop-step-preserved c =
+    let steps = c.args.steps.now in
+    let l = c.loop-step in
+    subst (λ (done : List Step). IsStorySoFar c.args.choice c.args.machine.now done c.apply-outcome.new.self c.push.new.self)
+    (sym (take_more steps l.step-index (step.Turn 0) c.loop-step-test.true))
+    (one_more c.stories_go_on.ensures c.args.choice c.args.machine.now l.machine (take l.step-index steps) l.lines l.invariant
+    c.answers_go_on.ensures.go_on (slice_index_or steps l.step-index (step.Turn 0)) c.apply-outcome.result c.subject_of-subject.result
+    c.apply-outcome.new.self c.push.new.self c.apply-outcome.ensures.step c.subject_of-subject.ensures c.in_ok-push.ensures)

@@ -1,14 +1,24 @@
-use Rattle.std.proofs.Common.{subst}
-use Rattle.std.specs.Prelude.{IfOk, string_bytes}
-use Rattle.trace_commands.specs.Stories.{IsDrainedStory}
-use Rattle.trace_commands.proofs.StorySteps.{story_printed}
+use Rattle.std.proofs.Common.{◌≡◌, List, ◌∙◌, ap, subst}
+use Rattle.std.specs.Prelude.{string_bytes}
+use Rattle.steps.specs.declared.step.Step.{Step}
+use Rattle.machine_steps.specs.Runs.{IsRun}
+use Rattle.trace_lines.specs.StoryLines.{story_of}
+use Rattle.trace_commands.specs.Stories.{story_steps_of}
 use Rattle.trace_commands.proofs.story.StoryTraceReport.text.Goals as goal
 
-pub returns-in-Ok-clause-fault : goal.returns-in-Ok-clause-fault
-returns-in-Ok-clause-fault c =
+pub returns-clause-fault : goal.returns-clause-fault
+returns-clause-fault c =
     let opening = c.in_ok-machine.machine in
-    let new = c.story_text.new.machine in
-    let steps = c.args.steps.now in
-    let story = subst (λ r. IfOk r (λ text. IsDrainedStory opening steps new (string_bytes text))) c.in-Ok.is c.in_ok-story.ensures.story in
-    story_printed c.runs_are_serialized.ensures.each c.args.config c.args.image.now opening new steps (string_bytes c.in-Ok.text) c.exit_status.result
-    c.in_ok-machine.ensures.opening c.machine_is_well_formed.ensures c.machine_is_well_formed-2.ensures story c.exit_status.ensures
+    let choice = c.args.self.now.choice in
+    record {
+      all = c.in_ok-all.all.items;
+      home = c.in_ok-all.ensures.home;
+      contents_are = record {
+        opening = opening;
+        opens = c.in_ok-machine.ensures.opening;
+        machine = c.story_text.new.machine;
+        run = subst (λ (steps : List Step). IsRun opening steps c.story_text.new.machine) c.as_slice.ensures.value c.in_ok-text.ensures.run;
+        are = c.in_ok-text.ensures.lines ∙ ap (λ (steps : List Step). story_of choice (story_steps_of opening steps)) c.as_slice.ensures.value;
+        exit = c.exit_status.ensures;
+      };
+    }

@@ -5,17 +5,17 @@ use Rattle.std.proofs.lemmas.Result.{IfErr-at_err, IfOk-at_ok}
 use Rattle.command_io.specs.Links.{opened_input, output}
 use Rattle.command_io.proofs.Lemmas.{of_link, reports_with}
 use Rattle.trace_commands.specs.Choices.{AreChosenLines, unknown_in}
-use Rattle.trace_commands.specs.Orders.{AreOrderLines}
 use Rattle.trace_commands.specs.TraceReports.{OfTrace, trace_input}
 use Rattle.trace_commands.proofs.OfTraces.{prints_weaker}
 use Rattle.trace_commands.proofs.Statuses.{error_is}
-use Rattle.trace_commands.proofs.choosing.order_of_trace.Goals as goal
+use Rattle.trace_commands.proofs.choosing.lines_of_trace.Goals as goal
 
 pub returns-clause-printed : goal.returns-clause-printed
 returns-clause-printed g c read is low =
-    let choice = c.args.order.now.choice in
+    let choice = c.args.choice in
+    let reports = g.A.TraceReport.reports c.args.trace_report.now in
     let image = opened_input {R = g.row.R.Denot} g.R.Read.remaining g.R.Link.has_failed c.args.file.now c.print_trace-outcome.new.file in
-    prints_weaker (OfTrace (AreOrderLines choice) c.args.trace.now c.args.shared_words) (AreChosenLines choice) (trace_input read image c.args.shared_words)
+    prints_weaker (OfTrace reports c.args.trace.now c.args.shared_words) (AreChosenLines choice reports) (trace_input read image c.args.shared_words)
     (output {W = g.row.W.Denot} g.W.Write.contents g.W.Link.has_failed c.args.out.now c.print_trace-outcome.new.out) _
     (λ d i steps text p. (ap (unknown_in choice) p.0 ∙ sym c.unknown_of.ensures ∙ c.in_default.is, p.1))
     (IfOk-at_ok _ (c.report_outcome.ensures.done low) (c.print_trace-outcome.ensures.printed read is))
