@@ -113,15 +113,20 @@ explores() {
     ./ultra explore "${options[@]}" "$@"
 }
 
+# lines_of_results FILE: a line for each result in the file, without the pc of a processor.
+lines_of_results() {
+    awk '/^result / { if (line) print line; line = ""; next }
+        /^processor / { gsub(/../, " &", $8); line = line $5 " " $6 ($8 == "-" ? "" : $8) ", " } /^word / { line = line $0 ", " }
+        END { if (line) print line }' "$1"
+}
+
 # finds_each_result HOW NAME STAGES STATUS [STATES]: `ultra explore` prints the expected results and no others, each
 # once, and the processors that can be exchanged. It ends with STATUS after it has found STATES states.
 finds_each_result() {
     local ended=0
     ./ultra asm "examples/explore/$2.s" "$room/$2.elf" || return 1
     explores "$1" --k "$3" "$room/$2.elf" >"$room/results" 2>"$room/err" || ended=$?
-    diff <(expected_results "$1" "$2" "$3" | sort) <(awk '/^result / { if (line) print line; line = ""; next }
-        /^processor / { gsub(/../, " &", $8); line = line $5 " " $6 ($8 == "-" ? "" : $8) ", " } /^word / { line = line $0 ", " }
-        END { if (line) print line }' "$room/results" | sort) &&
+    diff <(expected_results "$1" "$2" "$3" | sort) <(lines_of_results "$room/results" | sort) &&
         diff <(expected_results "$1" "$2" "$3" | wc -l) <(tail -n 2 "$room/results" | head -n 1 | sed 's/ results\{0,1\}, [0-9]* states\{0,1\}$//') &&
         diff <(expected_classes "$1" "$2" "$3") <(grep '^processors ' "$room/results") &&
         { [ -z "${5:-}" ] || grep -q ", $5 states$" "$room/results"; } &&
@@ -354,6 +359,39 @@ refuses_a_witness_of_every_size() {
     done
 }
 check 'a witness of every size is refused, with status 2' refuses_a_witness_of_every_size
+
+# ---- observed words
+
+# Of the queue on two processors, words 0 and 1 count the items; the items are in words 2 and 3, in either order. If only
+# the counts are observed, there is one result for each order in which the items are taken out. A witness leads to one
+# of the results that are printed as one, and there is none of one number more.
+observes_the_counts_of_a_queue() {
+    local number
+    ./ultra asm examples/explore/queue.s "$room/queue.elf" && { word 0 2 && word 1 2; } >"$room/words" &&
+        explores each --k 1 "$room/queue.elf" >"$room/all" && explores each --k 1 --observe 1,0 "$room/queue.elf" >"$room/results" &&
+        diff <(for number in '01 02' '02 01'; do result_line "halt ${number% *}" "halt ${number#* }" <"$room/words"; done) \
+            <(lines_of_results "$room/results" | sort) &&
+        diff <(tail -n 2 "$room/all" | sed 's/^4 /2 /') <(tail -n 2 "$room/results") || return 1
+    for number in 1 2; do
+        witnesses each queue 1 "$number" 0 --observe 1,0 &&
+            diff <(printed_result "$number") <(grep -v '^word [23] ' "$room/report" | as_one_line) || return 1
+    done
+    ends 2 'error: there is no result 3' ./ultra explore --each --k 1 --observe 0-1 --witness 3 --trace "$room/witness" "$room/queue.elf" &&
+        ./ultra explore --every --states 100 --observe 0-1 "$room/queue.elf" 2>"$room/err" | grep '^k 1: 2 processors, 2 results, '
+}
+check 'the queue on two processors has two results by its counts alone, and each has a witness' observes_the_counts_of_a_queue
+
+# Anything but numbers and ranges of the machine's words is refused, before a file is opened.
+refuses_what_is_no_list() {
+    local list command
+    for command in explore hunt; do
+        for list in '' , 0, 0,,1 x 3-1 0-16 16 -- 1- 1-2-3 '1 2' 4294967296; do
+            ends 2 "error: invalid value '$list' for '--observe <LIST>': not numbers and ranges in 0..=15, the machine's shared words (--words)" \
+                ./ultra "$command" --words 16 "--observe=$list" "$room/none.elf" || { echo "$list" && return 1; }
+        done
+    done
+}
+check 'what is no list of the words of the machine is refused, with status 2' refuses_what_is_no_list
 
 # ---- every size
 

@@ -9,12 +9,14 @@ hunts() {
 
 # ---- what they find
 
-# All runs of a right algorithm end with the words that its page gives.
+# All runs of a right algorithm end with the words that its page gives. Its processors halt at its last ecall.
 finds_one_result() {
+    local pc
+    pc=$(./ultra dis "$room/$1.elf" | awk '$3 == "ecall" { pc = $1 } END { print pc }')
     ./ultra hunt --k 1 --runs 200 --budget 20000 --expect-one "$room/$1.elf" >"$room/hunt" && diff "$room/hunt" - <<END
 runs 200 first 1 over
-processor 0 halt 00 console -
-processor 1 halt 00 console -
+processor 0 pc $pc halt 00 console -
+processor 1 pc $pc halt 00 console -
 $(final_words "$1" 1)
 END
 }
@@ -22,13 +24,14 @@ for it in barrier readers_writers ticket_lock; do
     check "random runs of $it come to one result" finds_one_result "$it"
 done
 
-# In some runs of a wrong barrier both processors wait for ever, so the status is 5. Others end as runs of the right
-# barrier do.
+# In some runs of a wrong barrier both processors wait for ever, in the loop of two instructions at 0001007c, so the
+# status is 5. Others end as runs of the right barrier do.
 finds_endless_waits() {
     local ended=0
     hunts "$1" || ended=$?
     [ "$ended" -eq 5 ] &&
-        grep -A 2 '^runs [0-9]* first [0-9]* budget$' "$room/hunt" | grep -A 1 -x 'processor 0 run console -' | grep -x 'processor 1 run console -' &&
+        grep -A 2 '^runs [0-9]* first [0-9]* budget$' "$room/hunt" | grep -A 1 -Ex 'processor 0 pc 000100(7c|80) run console -' |
+        grep -Ex 'processor 1 pc 000100(7c|80) run console -' &&
         names_the_unfinished_runs "$1" && grep -A 4 ' over$' "$room/hunt" | tail -n 2 | diff - <(final_words "wrong/$1" 1)
 }
 
@@ -45,24 +48,26 @@ names_the_unfinished_runs() {
 }
 
 # Both processors add 1 to word 0 by a load and a store, so that one of the adds may be lost. If one result is expected, the
-# status is 6.
+# status is 6, unless word 0 is not observed.
 expects_one_result() {
     local ended=0
     printf '%s\n' 'lui x5, 0x80000' 'lw x6, 0(x5)' 'addi x6, x6, 1' 'sw x6, 0(x5)' ecall >"$room/lost.s"
     ./ultra asm "$room/lost.s" "$room/lost.elf" && ./ultra hunt --k 1 --runs 50 "$room/lost.elf" >"$room/hunt" || return 1
     [ "$(grep -c '^runs ' "$room/hunt")" -eq 2 ] && grep -x 'word 0 00000001' "$room/hunt" && grep -x 'word 0 00000002' "$room/hunt" || return 1
     ./ultra hunt --k 1 --runs 50 --expect-one "$room/lost.elf" >"$room/again" || ended=$?
-    [ "$ended" -eq 6 ] && diff "$room/hunt" "$room/again"
+    [ "$ended" -eq 6 ] && diff "$room/hunt" "$room/again" &&
+        ./ultra hunt --k 1 --runs 50 --expect-one --observe 1-9 "$room/lost.elf" | diff - <(
+            echo 'runs 50 first 1 over' && printf 'processor %d pc 00010010 halt 00 console -\n' 0 1)
 }
 check 'if random runs come to two results and one is expected, the status is 6' expects_one_result
 
-# The number of the first run of each result gives the result again, and its trace replays to the same words.
+# The number of the first run of each result gives the result again, and its trace replays to it.
 finds_again() {
     local runs number rest
     while read -r runs number rest; do
         ./ultra hunt --k 1 --runs 1 --start "$number" --budget 20000 "$room/$1.elf" | sed '/^unfinished /d' >"$room/again"
         diff <(sed -n "/^runs $runs first $number /,/^runs /p" "$room/hunt" | sed "1s/runs $runs /runs 1 /; 2,\${/^runs /d; /^unfinished /d}") "$room/again" || return 1
-        diff <(grep '^word ' "$room/again") <(./ultra replay "$room/$1-$number.trace" "$room/$1.elf" | grep '^word ') || return 1
+        diff <(sed 1d "$room/again") <(./ultra replay "$room/$1-$number.trace" "$room/$1.elf" | sed 's/ retired [0-9]*//') || return 1
     done < <(sed -n 's/^runs \([0-9]*\) first \([0-9]*\) .*/\1 \2/p' "$room/hunt")
 }
 for it in barrier_reset_late barrier_phase_late; do
@@ -74,7 +79,7 @@ done
 finds_a_reader_that_stops() {
     local ended=0
     hunts readers_writers_one_look || ended=$?
-    [ "$ended" -eq 1 ] && grep -x 'processor 1 fault 8 console -' "$room/hunt"
+    [ "$ended" -eq 1 ] && grep -x 'processor 1 pc 00010064 fault 8 console -' "$room/hunt"
 }
 check 'random runs of the wrong readers and writers find a reader that stops' finds_a_reader_that_stops
 then_check 'each result of random runs of readers_writers_one_look is found again by its number, and its trace replays' finds_again readers_writers_one_look

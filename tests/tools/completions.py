@@ -133,7 +133,8 @@ class Argument:
         return [str(number) for number in range(self.low, self.high + 1)]
 
     def takes_file(self):
-        return self.kind in ("Path", "Text")
+        """Whether its value is a path: that of every text but a list of shared words."""
+        return self.kind == "Path" or self.kind == "Text" and self.value != "LIST"
 
 
 class Command:
@@ -200,7 +201,7 @@ def bash():
         places = " ".join("topic" if place.kind == "Words" else "file" for place in command.places())
         cases.append(f"        {command.name}) options='{options}' flags='{flags}' places=({places}) ;;")
         for option in command.options():
-            if option.kind == "Text":
+            if option.takes_file():
                 values[f"--{option.name}"] = "'file'"
             elif option.values():
                 values[f"--{option.name}"] = f"'{' '.join(option.values())}'"
@@ -321,7 +322,7 @@ def zsh():
         for option in command.options():
             spec = f"--{option.name}"
             if option.kind != "Flag":
-                action = "_files" if option.kind == "Text" else f"({' '.join(option.values())})" if option.values() else " "
+                action = "_files" if option.takes_file() else f"({' '.join(option.values())})" if option.values() else " "
                 spec += f"=[{in_brackets(option.help)}]:{option.value}:{action}"
             else:
                 spec += f"[{in_brackets(option.help)}]"
@@ -386,7 +387,7 @@ def fish():
         when = f"complete -c ultra -n '__ultra_has_command {command.name}'"
         for option in command.options():
             how = ""
-            if option.kind == "Text":
+            if option.takes_file():
                 how = " -r -F"
             elif option.kind != "Flag":
                 how = f" -x -a '{' '.join(option.values())}'" if option.values() else " -x"

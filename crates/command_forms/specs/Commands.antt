@@ -176,14 +176,15 @@ picture_command = with_rule (replaying (codes "picture")) (number step)
 unfoldable pub explore_command : App
 explore_command =
     with_rule (with_number states (with_sizes
-    (with_rule (with_rule (with_rule (with_rule (with_file (new_app (codes "explore"))) (option (codes "trace")))
-    (flag (codes "each"))) (flag (codes "every"))) (flag (codes "quiet"))))) (number witness)
+    (with_rule (with_rule (with_rule (with_rule (with_rule (with_file (new_app (codes "explore")))
+    (option (codes "trace"))) (option (codes "observe"))) (flag (codes "each"))) (flag (codes "every")))
+    (flag (codes "quiet"))))) (number witness)
 
 unfoldable pub hunt_command : App
 hunt_command =
     with_number start (with_number runs (with_number steps (with_sizes
-    (with_rule (with_rule (with_rule (with_rule (with_file (new_app (codes "hunt"))) (option (codes "trace")))
-    (flag (codes "overwrite"))) (flag (codes "expect-one")))
+    (with_rule (with_rule (with_rule (with_rule (with_rule (with_file (new_app (codes "hunt")))
+    (option (codes "trace"))) (option (codes "observe"))) (flag (codes "overwrite"))) (flag (codes "expect-one")))
     (flag (codes "quiet"))))))
 
 -- the program, which has a version and requires a subcommand

@@ -190,6 +190,11 @@ const HUNT: CommandForm = CommandForm {
             value: "PREFIX",
             help: "Write a trace for each result, for `ultra replay`, to PREFIX followed by the run's number and `.trace`",
         },
+        Argument::Text {
+            name: "observe",
+            value: "LIST",
+            help: "Words by which runs differ, as `0-3,8`; results have no others [default: all]",
+        },
         Argument::Flag {
             name: "overwrite",
             help: "Overwrite traces that exist; without it the hunt is refused if one does",
@@ -223,6 +228,11 @@ const EXPLORE: CommandForm = CommandForm {
             name: "trace",
             value: "OUT",
             help: "Where to write the steps to the result that --witness names, for `ultra replay`; opened after they are found",
+        },
+        Argument::Text {
+            name: "observe",
+            value: "LIST",
+            help: "Words by which results differ, as `0-3,8`; they are printed without others [default: all]",
         },
         Argument::Flag {
             name: "each",

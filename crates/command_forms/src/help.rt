@@ -205,6 +205,10 @@ processor, and a line `word I VVVVVVVV` for each shared word that is not zero, a
 and the number of states between references to shared words. The last line is `every schedule ends`,
 `some schedule never ends; an end can always be reached`, or `from N states no end can be reached`.
 
+With --observe LIST a result has, of the shared words, only those in the list: numbers and ranges from 0
+to 262143 with commas between them. Results that then are the same are one, and --witness N leads to the
+first result of those that are printed as the Nth.
+
 With --every the machines of 1, 2, 4, 8, 16, 32 and 64 processors are explored one after another, and a
 line is printed for each; --k has no effect. It excludes --witness and --trace.
 
@@ -233,8 +237,10 @@ after --budget steps that did something or --budget turns; then the network is d
 
 Each different result is printed once, after a line `runs N first S over`, or `budget` for `over`: how
 many runs gave it, and the number of the first. `ultra hunt FILE --runs 1 --start S` gives it again. Then
-come `processor P STATUS console HEX` for each processor, and `word I VVVVVVVV` for each shared word that
-is not zero, as `ultra run` prints them. A result that is not found may still exist.
+come `processor P pc VVVVVVVV STATUS console HEX` for each processor, and `word I VVVVVVVV` for each shared
+word that is not zero, as `ultra run` prints them. Results that differ only in a pc are one, with the pc of
+the first run. With --observe LIST a result has, of the shared words, only those in the list: numbers and
+ranges from 0 to 262143 with commas between them. A result that is not found may still exist.
 
 A run is unfinished if it has used up its budget while a processor runs, which may wait for ever. If there
 are such runs, a last line `unfinished S S ..` has their numbers.

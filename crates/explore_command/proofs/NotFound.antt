@@ -1,5 +1,5 @@
 -- If the search gives up, or the witness is not saved, the results are not found, and so not printed.
-use Rattle.std.proofs.Common.{◌≡◌}
+use Rattle.std.proofs.Common.{◌≡◌, Bool, List, Option}
 use Rattle.elf_image.specs.Files.{IsImageOf}
 use Rattle.elf_image.specs.Images.{ImageContents}
 use Rattle.machine_steps.specs.Machines.{MachineLists}
@@ -12,12 +12,13 @@ use Rattle.exploration.specs.state_graph.Laws.{IsTerminationOf}
 use Rattle.explore_command.specs.declared.refused.Refused.{Refused}
 use Rattle.explore_command.specs.declared.refused.Refused.TheVariants as refused
 use Rattle.explore_command.specs.Causes.{IsNotFound, IsNotSaved, IsNotSearched, IsRefused}
-use Rattle.explore_command.specs.Explorations.{AreResultsOf, Exploration, Problem, SearchResult, problem_of}
+use Rattle.explore_command.specs.Explorations.{AreResultsOf, Exploration, Problem, SearchResult, marks_of, problem_of}
 use Rattle.trace_commands.specs.TraceReports.{TraceOutput}
 
-module _ {T : Type 0} (p : Problem) (trace : TraceOutput T) (opening : MachineLists) (opens : IsOpening p.config p.image opening) where
+module _ {T : Type 0} (observed : Option (List Bool)) (p : Problem) (trace : TraceOutput T) (opening : MachineLists)
+    (opens : IsOpening p.config p.image opening) where
   -- If the search of a machine gives up, the results of its image are not found, with the same fault.
-  pub not_searched : (f : Fault) → trace.new ≡ trace.old → IsNotSearched (flat_state opening) p.asked.limit f → IsNotFound p trace (refused.Fault f)
+  pub not_searched : (f : Fault) → trace.new ≡ trace.old → IsNotSearched (flat_state opening) p.asked.limit f → IsNotFound observed p trace (refused.Fault f)
   not_searched (fault.Line line) same why = absurd why
   not_searched (fault.Text e) same why = absurd why
   not_searched fault.NotUtf8 same why = absurd why
@@ -37,7 +38,7 @@ module _ {T : Type 0} (p : Problem) (trace : TraceOutput T) (opening : MachineLi
   module _ (found : SearchResult) (all : AreResultsOf opening found.classes found.results)
       (fact : IsTerminationOf (flat_state opening) found.termination) where
     -- If the trace of a witness is not saved, the results are not found, for the same reason.
-    pub not_saved : (r : Refused) → IsNotSaved p found trace r → IsNotFound p trace r
+    pub not_saved : (r : Refused) → IsNotSaved observed p found trace r → IsNotFound observed p trace r
     not_saved refused.Unknown why = (
       why.0,
       record {
@@ -73,7 +74,7 @@ module _ {T : Type 0} (p : Problem) (trace : TraceOutput T) (opening : MachineLi
 
 -- If the results of the image in a file are not found, the command fails for the same reason.
 pub not_found : {T : Type 0} (e : Exploration) (trace : TraceOutput T) (out : Output) (image : ImageContents) →
-    IsImageOf e.config.shared_words e.file.bytes image → (r : Refused) → IsNotFound (problem_of e.config image e.asked) trace r →
+    IsImageOf e.config.shared_words e.file.bytes image → (r : Refused) → IsNotFound (marks_of e.asked) (problem_of e.config image e.asked) trace r →
     IsRefused e trace out r
 not_found e trace out image meant refused.Unknown why = (image, meant, why)
 not_found e trace out image meant refused.Missed why = (image, meant, why)

@@ -1,12 +1,11 @@
 -- Why the steps of a way are not taken.
-use Rattle.std.specs.Prelude.{ℕ, List}
+use Rattle.std.specs.Prelude.{ℕ}
 use Rattle.flat_machine.specs.declared.config.Config.{Config}
 use Rattle.machine_log.specs.declared.refusal.LockRefusal.{LockRefusal}
 use Rattle.machine_log.specs.declared.refusal.LockRefusal.TheVariants as log
 use Rattle.command_io.specs.declared.fault.Fault.{Fault}
 use Rattle.command_io.specs.declared.fault.Fault.TheVariants as fault
 use Rattle.command_io.specs.Files.{IsFaultOfSize}
-use Rattle.exploration.specs.local_reduction.Results.{FinalResult}
 use Rattle.exploration.specs.state_graph.declared.termination.Termination.{Termination}
 use Rattle.explore_command.specs.declared.refused.Refused.{Refused}
 use Rattle.explore_command.specs.declared.refused.Refused.TheVariants as refused
@@ -58,7 +57,7 @@ size_refuses c fault.Link why = absurd why
 size_refuses c fault.Memory why = tt
 
 -- If the steps of a way are not taken, there is no witness, for the same reason.
-pub not_taken : (c : Config) (results : List FinalResult) (termination : Termination) (number : ℕ) (r : Refused) → IsNotTaken c r →
+pub not_taken : (c : Config) (results : ℕ) (termination : Termination) (number : ℕ) (r : Refused) → IsNotTaken c r →
     IsNoWitness c results termination number r
 not_taken c results termination number (refused.Fault f) why = why
 not_taken c results termination number refused.Unknown why = absurd why

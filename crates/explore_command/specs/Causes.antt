@@ -1,5 +1,5 @@
 -- Why no results are printed, or not all of them.
-use Rattle.std.specs.Prelude.{◌≡◌, ℕ, ◌==◌, List, ◌++◌, Option, codes, if◌then◌else◌}
+use Rattle.std.specs.Prelude.{◌≡◌, ℕ, ◌==◌, Bool, List, ◌++◌, Option, codes, if◌then◌else◌}
 use Rattle.std.specs.Fmt.{decimal}
 use Rattle.flat_machine.specs.State.{FlatState}
 use Rattle.flat_machine.specs.Limits.{IsWithinLimits}
@@ -27,9 +27,8 @@ use Rattle.explore_command.specs.declared.refused.Refused.{Refused}
 use Rattle.explore_command.specs.declared.refused.Refused.TheVariants as refused
 use Rattle.explore_command.specs.Refusals.{HasWitness}
 use Rattle.trace_commands.specs.TraceReports.{HasPartSaved, TraceOutput}
-use Rattle.explore_command.specs.Witnesses.{IsWitness, target}
-use Rattle.explore_command.specs.Explorations.{AreResultsOf, Exploration, PrintsSomeResults, Problem, SearchResult}
-use Rattle.explore_command.specs.Explorations.{problem_of}
+use Rattle.explore_command.specs.Explorations.{AreResultsOf, Exploration, IsWanted, PrintsSomeResults, Problem}
+use Rattle.explore_command.specs.Explorations.{SearchResult, count_of, marks_of, problem_of}
 
 -- the exit status for a refusal
 abbrev pub status_of : Refused → ℕ
@@ -67,7 +66,7 @@ HasTooMany p = (opening : MachineLists) × IsOpening p.config p.image opening
     × HasManyStates (flat_state opening) p.asked.limit
 
 -- The machine's results and whether its schedules end are known, and the wanted number names nothing.
-pub record HasNoWitness (p : Problem) : Type 0 where
+pub record HasNoWitness (observed : Option (List Bool)) (p : Problem) : Type 0 where
   pub opening : MachineLists
   pub opens : IsOpening p.config p.image opening
   pub classes : List ℕ
@@ -75,49 +74,67 @@ pub record HasNoWitness (p : Problem) : Type 0 where
   pub all : AreResultsOf opening classes results
   pub termination : Termination
   pub fact : IsTerminationOf (flat_state opening) termination
-  pub none : HasWitness results termination p.asked.witness → ⊥
+  pub none : HasWitness (count_of observed results) termination p.asked.witness → ⊥
 
 -- A beginning of the trace of a witness is written, and not all of it.
-pub record IsPartWitnessed {T : Type 0} (p : Problem) (results : List FinalResult) (trace : TraceOutput T) : Type 0
-  where
-    pub steps : List Step
-    pub witness : IsWitness p.config p.image (target results p.asked.witness) steps
-    pub part : HasPartSaved trace (trace_bytes (trace_of p.config steps))
+pub record IsPartWitnessed {T : Type 0} (observed : Option (List Bool)) (p : Problem) (results : List FinalResult)
+    (trace : TraceOutput T) : Type 0 where
+  pub steps : List Step
+  pub witness : IsWanted observed p results steps
+  pub part : HasPartSaved trace (trace_bytes (trace_of p.config steps))
 
 -- Why the trace of a witness is not written: there is none for the number; the trace cannot be written; the size is out
 -- of limits; the way is too long or leads elsewhere; or there is no memory.
-abbrev pub IsNotSaved : {T : Type 0} → Problem → SearchResult → TraceOutput T → Refused → Type 0
-IsNotSaved p found trace refused.Unknown = (trace.new ≡ trace.old)
-    × (HasWitness found.results found.termination p.asked.witness → ⊥)
-IsNotSaved p found trace refused.Missed = trace.new ≡ trace.old
-IsNotSaved p found trace (refused.Fault (fault.Trace e)) = (e ≡ of_trace.Link) × IsPartWitnessed p found.results trace
-IsNotSaved p found trace (refused.Fault fault.Size) = (trace.new ≡ trace.old) × (IsWithinLimits p.config → ⊥)
-IsNotSaved p found trace (refused.Fault fault.Full) = trace.new ≡ trace.old
-IsNotSaved p found trace (refused.Fault fault.Memory) = trace.new ≡ trace.old
-IsNotSaved p found trace (refused.Fault other) = ⊥
+abbrev pub IsNotSaved : {T : Type 0} → (observed : Option (List Bool)) → Problem → SearchResult → TraceOutput T →
+    Refused → Type 0
+IsNotSaved observed p found trace refused.Unknown = (trace.new ≡ trace.old)
+    × (HasWitness (count_of observed found.results) found.termination p.asked.witness → ⊥)
+IsNotSaved observed p found trace refused.Missed = trace.new ≡ trace.old
+IsNotSaved observed p found trace (refused.Fault (fault.Trace e)) =
+    (e ≡ of_trace.Link) × IsPartWitnessed observed p found.results trace
+IsNotSaved observed p found trace (refused.Fault fault.Size) =
+    (trace.new ≡ trace.old) × (IsWithinLimits p.config → ⊥)
+IsNotSaved observed p found trace (refused.Fault fault.Full) = trace.new ≡ trace.old
+IsNotSaved observed p found trace (refused.Fault fault.Memory) = trace.new ≡ trace.old
+IsNotSaved observed p found trace (refused.Fault other) = ⊥
 
 -- The machine's results are known, and only a beginning of the trace of a witness for the wanted one is written.
-pub record IsPartOfFound {T : Type 0} (p : Problem) (trace : TraceOutput T) : Type 0 where
-  pub opening : MachineLists
-  pub opens : IsOpening p.config p.image opening
-  pub classes : List ℕ
-  pub results : List FinalResult
-  pub all : AreResultsOf opening classes results
-  pub part : IsPartWitnessed p results trace
+pub record IsPartOfFound {T : Type 0} (observed : Option (List Bool)) (p : Problem) (trace : TraceOutput T) : Type 0
+  where
+    pub opening : MachineLists
+    pub opens : IsOpening p.config p.image opening
+    pub classes : List ℕ
+    pub results : List FinalResult
+    pub all : AreResultsOf opening classes results
+    pub part : IsPartWitnessed observed p results trace
 
 -- Why the results of an image or their witness are not found: the size is out of limits; or the machine opens, but the
 -- search gives up, the number names nothing, there is no witness, or the trace cannot be written; or there is no
 -- memory.
-abbrev pub IsNotFound : {T : Type 0} → Problem → TraceOutput T → Refused → Type 0
-IsNotFound p trace refused.Unknown = (trace.new ≡ trace.old) × HasNoWitness p
-IsNotFound p trace refused.Missed = (trace.new ≡ trace.old) × Opens p
-IsNotFound p trace (refused.Fault fault.Size) = (trace.new ≡ trace.old) × (IsWithinLimits p.config → ⊥)
-IsNotFound p trace (refused.Fault fault.States) = (trace.new ≡ trace.old) × HasTooMany p
-IsNotFound p trace (refused.Fault fault.Alone) = (trace.new ≡ trace.old) × Opens p
-IsNotFound p trace (refused.Fault fault.Full) = (trace.new ≡ trace.old) × Opens p
-IsNotFound p trace (refused.Fault (fault.Trace e)) = (e ≡ of_trace.Link) × IsPartOfFound p trace
-IsNotFound p trace (refused.Fault fault.Memory) = trace.new ≡ trace.old
-IsNotFound p trace (refused.Fault other) = ⊥
+abbrev pub IsNotFound : {T : Type 0} → (observed : Option (List Bool)) → Problem → TraceOutput T → Refused → Type 0
+IsNotFound observed p trace refused.Unknown = (trace.new ≡ trace.old) × HasNoWitness observed p
+IsNotFound observed p trace refused.Missed = (trace.new ≡ trace.old) × Opens p
+IsNotFound observed p trace (refused.Fault fault.Size) =
+    (trace.new ≡ trace.old) × (IsWithinLimits p.config → ⊥)
+IsNotFound observed p trace (refused.Fault fault.States) = (trace.new ≡ trace.old) × HasTooMany p
+IsNotFound observed p trace (refused.Fault fault.Alone) = (trace.new ≡ trace.old) × Opens p
+IsNotFound observed p trace (refused.Fault fault.Full) = (trace.new ≡ trace.old) × Opens p
+IsNotFound observed p trace (refused.Fault (fault.Trace e)) = (e ≡ of_trace.Link) × IsPartOfFound observed p trace
+IsNotFound observed p trace (refused.Fault fault.Memory) = trace.new ≡ trace.old
+IsNotFound observed p trace (refused.Fault other) = ⊥
+
+-- Why there are no steps to what is wanted, if words are chosen: the number names nothing; the size is out of limits; or
+-- the machine opens, but the search for the way gives up, or the way is too long or leads elsewhere; or there is no
+-- memory.
+abbrev pub IsNotLedTo : (observed : Option (List Bool)) → Problem → Refused → Type 0
+IsNotLedTo observed p refused.Unknown = HasNoWitness observed p
+IsNotLedTo observed p refused.Missed = Opens p
+IsNotLedTo observed p (refused.Fault fault.Size) = IsWithinLimits p.config → ⊥
+IsNotLedTo observed p (refused.Fault fault.States) = HasTooMany p
+IsNotLedTo observed p (refused.Fault fault.Alone) = Opens p
+IsNotLedTo observed p (refused.Fault fault.Full) = Opens p
+IsNotLedTo observed p (refused.Fault fault.Memory) = Unit {0}
+IsNotLedTo observed p (refused.Fault other) = ⊥
 
 -- Why no results are printed, or not all of them: the image is refused, its results or their witness are not found, or
 -- the lines cannot be written.
@@ -127,7 +144,7 @@ IsRefused e trace out (refused.Fault (fault.Image r)) =
 IsRefused e trace out (refused.Fault fault.Link) = PrintsPrefix (PrintsSomeResults e trace) out.old out.new
 IsRefused e trace out (refused.Fault fault.Memory) = trace.new ≡ trace.old
 IsRefused e trace out other = (image : ImageContents) × IsImageOf e.config.shared_words e.file.bytes image
-    × IsNotFound (problem_of e.config image e.asked) trace other
+    × IsNotFound (marks_of e.asked) (problem_of e.config image e.asked) trace other
 
 -- Why the command fails: the refusal has a cause, and it is that of a link exactly if the link has failed.
 pub record ExploreFails {T : Type 0} (e : Exploration) (trace : TraceOutput T) (out : Output)

@@ -1,5 +1,6 @@
 -- What the command prints: from the bytes of a file to all final results of the program in it.
-use Rattle.std.specs.Prelude.{◌≡◌, ℕ, ◌<◌, ◌^◌, true, List, MatchOption, None, All, length}
+use Rattle.std.specs.Prelude.{◌≡◌, ℕ, zero, suc, ◌<◌, ◌^◌, Bool, true, List, MatchOption, Option, Some, None, All}
+use Rattle.std.specs.Prelude.{length, option_map, slice_get}
 use Rattle.flat_machine.specs.declared.config.Config.{Config}
 use Rattle.elf_image.specs.Files.{IsImageOf}
 use Rattle.elf_image.specs.Images.{ImageContents}
@@ -19,7 +20,7 @@ use Rattle.exploration.specs.state_graph.Laws.{IsTerminationOf}
 use Rattle.explore_command.specs.declared.command.Asked.{Asked}
 use Rattle.trace_commands.specs.TraceReports.{HasSaved, TraceOutput}
 use Rattle.explore_command.specs.Witnesses.{IsWitness, target}
-use Rattle.explore_command.specs.Lines.{results_lines}
+use Rattle.explore_command.specs.Lines.{observed_of, observed_parts, parts_lines, results_lines}
 
 -- ---- what is found
 
@@ -92,24 +93,55 @@ pub record IsFound (p : Problem) (found : SearchResult) : Type 0 where
   pub counted : AreAllStates (flat_state opening) found.classes found.results found.termination found.states
   pub few : found.states < p.asked.limit
 
+-- ---- what is observed
+
+-- the observed words, if some are chosen: a mark for each word; None for all words
+abbrev pub marks_of : Asked → Option (List Bool)
+marks_of asked = option_map (λ words. words.now) asked.observed
+
+-- how many results are printed: all of them, or, if words are chosen, the different observed parts
+abbrev pub count_of : (observed : Option (List Bool)) → List FinalResult → ℕ
+count_of None results = length results
+count_of (Some marks) results = length (observed_parts marks results)
+
+-- the lines of what is found: of the results, or, if words are chosen, of the different observed parts
+abbrev pub lines_of : (observed : Option (List Bool)) → SearchResult → List ℕ
+lines_of None found = results_lines found.results found.classes found.states found.termination
+lines_of (Some marks) found =
+    parts_lines (observed_parts marks found.results) found.classes found.states found.termination
+
+-- The result of this number, counted from 1, has the part of the wanted number; 0 is wanted by 0.
+abbrev pub HasPart : (marks : List Bool) → List FinalResult → (wanted number : ℕ) → Type 0
+HasPart marks results zero number = number ≡ 0
+HasPart marks results (suc part) number = (place : ℕ) × (r : FinalResult) × (number ≡ suc place)
+    × (slice_get results place ≡ Some r) × (slice_get (observed_parts marks results) part ≡ Some (observed_of marks r))
+
 -- ---- what is printed
 
--- If a trace is asked for, it is written, and its steps lead to the result of the wanted number, or, for 0, to a
--- machine from which no result can be reached.
-abbrev pub IsWitnessed : {T : Type 0} → Problem → List FinalResult → TraceOutput T → Type 0
-IsWitnessed p results trace =
+-- The steps lead to the result of the wanted number, or, if words are chosen, to one that has the observed part of the
+-- wanted number; for 0 they lead to a machine from which no result can be reached.
+abbrev pub IsWanted : (observed : Option (List Bool)) → Problem → List FinalResult → List Step → Type 0
+IsWanted None p results steps = IsWitness p.config p.image (target results p.asked.witness) steps
+IsWanted (Some marks) p results steps = (number : ℕ) × HasPart marks results p.asked.witness number
+    × IsWitness p.config p.image (target results number) steps
+
+-- If a trace is asked for, it is written, and its steps lead to what is wanted.
+abbrev pub IsWitnessed : {T : Type 0} → (observed : Option (List Bool)) → Problem → List FinalResult →
+    TraceOutput T → Type 0
+IsWitnessed observed p results trace =
     MatchOption trace.old (trace.new ≡ None)
-    (λ old. (steps : List Step) × IsWitness p.config p.image (target results p.asked.witness) steps
+    (λ old. (steps : List Step) × IsWanted observed p results steps
     × HasSaved trace (trace_bytes (trace_of p.config steps)))
 
--- These are the lines of what is found, and this is the exit status. The trace of a witness is written, if one is asked
--- for.
-pub record AreExplored {T : Type 0} (p : Problem) (trace : TraceOutput T) (text : List ℕ) (status : ℕ) : Type 0 where
+-- These are the lines of what is found, and this is the exit status, whatever is observed. The trace of a witness is
+-- written, if one is asked for.
+pub record AreExplored {T : Type 0} (observed : Option (List Bool)) (p : Problem) (trace : TraceOutput T)
+    (text : List ℕ) (status : ℕ) : Type 0 where
   pub found : SearchResult
   pub is : IsFound p found
-  pub lines : text ≡ results_lines found.results found.classes found.states found.termination
+  pub lines : text ≡ lines_of observed found
   pub exit : IsExitOf found.results found.termination status
-  pub witnessed : IsWitnessed p found.results trace
+  pub witnessed : IsWitnessed observed p found.results trace
 
 -- These are the lines of the final results of the image in the file, and this is the exit status. The trace of a
 -- witness is written, if one is asked for.
@@ -117,7 +149,7 @@ pub record PrintsResults {T : Type 0} (e : Exploration) (trace : TraceOutput T) 
     (text : List ℕ) : Type 0 where
   pub image : ImageContents
   pub meant : IsImageOf e.config.shared_words e.file.bytes image
-  pub explored : AreExplored (problem_of e.config image e.asked) trace text status
+  pub explored : AreExplored (marks_of e.asked) (problem_of e.config image e.asked) trace text status
 
 -- These are the lines, with some exit status.
 abbrev pub PrintsSomeResults : {T : Type 0} → Exploration → TraceOutput T → (text : List ℕ) → Type 0

@@ -4,3 +4,4 @@ pub mod Causes
 pub mod Sizes
 pub mod Witnesses
 pub mod Refusals
+pub mod Parts

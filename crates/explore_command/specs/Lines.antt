@@ -1,6 +1,7 @@
 -- The lines of final results.
-use Rattle.std.specs.Prelude.{ℕ, zero, suc, ◌+◌, ◌==◌, nat_lt, Bool, false, List, [], ◌++◌, codes, length, slice_index}
-use Rattle.std.specs.Prelude.{slice_index_or, if◌then◌else◌}
+use Rattle.std.specs.Prelude.{ℕ, zero, suc, ◌+◌, ◌==◌, nat_lt, Bool, false, List, [], ◌∷◌, ◌++◌, bytes_eq, codes, fold}
+use Rattle.std.specs.Prelude.{length, slice_index, slice_index_or, if◌then◌else◌}
+use Rattle.std.specs.List.{list_any}
 use Rattle.std.specs.Fmt.{decimal}
 use Rattle.flat_machine.specs.declared.event.Status.TheVariants.{Running}
 use Rattle.command_io.specs.Digits.{hex_of_word, line_feed, status_text}
@@ -8,6 +9,7 @@ use Rattle.command_io.specs.Lines.{console_text, word_lines}
 use Rattle.exploration.specs.local_reduction.Results.{ProcessorResult, FinalResult}
 use Rattle.exploration.specs.state_graph.declared.termination.Termination.{Termination}
 use Rattle.exploration.specs.state_graph.declared.termination.Termination.TheVariants as fact
+use Rattle.observed_words.specs.Lists.{observes}
 
 -- ---- a result
 
@@ -27,16 +29,47 @@ processor_lines processors zero = []
 processor_lines processors (suc p) = processor_lines processors p
     ++ processor_line p (slice_index_or processors p no_processor)
 
+-- the lines of the first shared words, given those of a word
+abbrev pub lines_by : (line : (place word : ℕ) → List ℕ) → List ℕ → (count : ℕ) → List ℕ
+lines_by line words zero = []
+lines_by line words (suc i) = lines_by line words i ++ line i (slice_index words i)
+
 -- the lines of the first shared words; a word that is zero has none
 abbrev pub shared_lines : List ℕ → (count : ℕ) → List ℕ
-shared_lines words zero = []
-shared_lines words (suc i) = shared_lines words i ++ word_lines i (slice_index words i)
+shared_lines words count = lines_by word_lines words count
 
--- `result N`, counted from 1, and the lines of its processors and words
+-- `result N`, counted from 1
+abbrev pub heading : (place : ℕ) → List ℕ
+heading place = codes "result " ++ decimal (place + 1) ++ line_feed
+
+-- `result N`, and the lines of its processors and words
 abbrev pub result_lines : (place : ℕ) → FinalResult → List ℕ
 result_lines place r =
-    (codes "result " ++ decimal (place + 1) ++ line_feed) ++ processor_lines r.processors (length r.processors)
-    ++ shared_lines r.words (length r.words)
+    heading place ++ processor_lines r.processors (length r.processors) ++ shared_lines r.words (length r.words)
+
+-- ---- an observed part
+
+-- the line of a word; a word that is zero or is not observed has none
+abbrev pub observed_line : (marks : List Bool) → (place word : ℕ) → List ℕ
+observed_line marks place word = if observes marks place then word_lines place word else []
+
+-- the observed part of a result: the lines of its processors and of its observed words
+abbrev pub observed_of : (marks : List Bool) → FinalResult → List ℕ
+observed_of marks r =
+    processor_lines r.processors (length r.processors) ++ lines_by (observed_line marks) r.words (length r.words)
+
+-- the texts after one more: it is appended unless it is one of them
+abbrev pub with_text : List (List ℕ) → (text : List ℕ) → List (List ℕ)
+with_text texts text = if list_any (bytes_eq text) texts then texts else texts ++ text ∷ []
+
+-- the different observed parts of results, in the order of the first result that has each
+abbrev pub observed_parts : (marks : List Bool) → List FinalResult → List (List ℕ)
+observed_parts marks results = fold (λ texts r. with_text texts (observed_of marks r)) [] results
+
+-- the lines of the first parts, numbered as results
+abbrev pub first_parts : List (List ℕ) → (count : ℕ) → List ℕ
+first_parts texts zero = []
+first_parts texts (suc place) = first_parts texts place ++ heading place ++ slice_index_or texts place []
 
 -- ---- all results
 
@@ -116,10 +149,20 @@ class_lines classes (suc class) = class_lines classes class ++ class_line classe
 
 -- ---- what is printed
 
--- the lines of all results, those of the processors that can be exchanged, `N results, M states`, and whether schedules
--- end
+-- the lines after the results: those of the processors that can be exchanged, `N results, M states`, and whether
+-- schedules end
+abbrev pub closing_lines : (results : ℕ) → (classes : List ℕ) → (states : ℕ) → Termination → List ℕ
+closing_lines results classes states termination =
+    class_lines classes (length classes)
+    ++ (counted results (codes "result") ++ codes ", " ++ counted states (codes "state") ++ line_feed)
+    ++ schedules_text termination ++ line_feed
+
+-- the lines of all results, and those after them
 abbrev pub results_lines : List FinalResult → (classes : List ℕ) → (states : ℕ) → Termination → List ℕ
 results_lines results classes states termination =
-    first_lines results (length results) ++ class_lines classes (length classes)
-    ++ (counted (length results) (codes "result") ++ codes ", " ++ counted states (codes "state") ++ line_feed)
-    ++ schedules_text termination ++ line_feed
+    first_lines results (length results) ++ closing_lines (length results) classes states termination
+
+-- the lines of observed parts, in place of results
+abbrev pub parts_lines : (texts : List (List ℕ)) → (classes : List ℕ) → (states : ℕ) → Termination → List ℕ
+parts_lines texts classes states termination =
+    first_parts texts (length texts) ++ closing_lines (length texts) classes states termination

@@ -1,5 +1,5 @@
 -- Why there is no witness.
-use Rattle.std.specs.Prelude.{ℕ, zero, suc, ◌<◌, List, length}
+use Rattle.std.specs.Prelude.{ℕ, zero, suc, ◌<◌}
 use Rattle.flat_machine.specs.declared.config.Config.{Config}
 use Rattle.flat_machine.specs.Limits.{IsWithinLimits}
 use Rattle.machine_log.specs.declared.refusal.LockRefusal.{LockRefusal}
@@ -8,7 +8,6 @@ use Rattle.command_io.specs.declared.fault.Fault.{Fault}
 use Rattle.command_io.specs.declared.fault.Fault.TheVariants as fault
 use Rattle.exploration.specs.declared.refusal.Refusal.{Refusal}
 use Rattle.exploration.specs.declared.refusal.Refusal.TheVariants as search
-use Rattle.exploration.specs.local_reduction.Results.{FinalResult}
 use Rattle.exploration.specs.state_graph.declared.termination.Termination.{Termination}
 use Rattle.exploration.specs.state_graph.declared.termination.Termination.TheVariants as fact
 use Rattle.explore_command.specs.declared.refused.Refused.{Refused}
@@ -32,10 +31,10 @@ Deadlock fact.Always = ⊥
 Deadlock fact.Possible = ⊥
 Deadlock (fact.Deadlock states first) = Unit {0}
 
--- Some result has the number, counted from 1, or, for 0, there is such a state.
-abbrev pub HasWitness : List FinalResult → Termination → (number : ℕ) → Type 0
+-- One of this many results has the number, counted from 1, or, for 0, there is such a state.
+abbrev pub HasWitness : (results : ℕ) → Termination → (number : ℕ) → Type 0
 HasWitness results termination zero = Deadlock termination
-HasWitness results termination (suc place) = place < length results
+HasWitness results termination (suc place) = place < results
 
 -- Why steps are not taken: the log is full, there is no memory, or the steps lead elsewhere. No more is said about
 -- these.
@@ -53,7 +52,7 @@ IsNotTaken c other = IsOfSteps other
 
 -- Why there is no witness for the number: nothing has the number, or the steps of the way are not taken or lead
 -- elsewhere.
-abbrev pub IsNoWitness : Config → List FinalResult → Termination → (number : ℕ) → Refused → Type 0
+abbrev pub IsNoWitness : Config → (results : ℕ) → Termination → (number : ℕ) → Refused → Type 0
 IsNoWitness c results termination number refused.Unknown = HasWitness results termination number → ⊥
 IsNoWitness c results termination number refused.Missed = Unit {0}
 IsNoWitness c results termination number (refused.Fault fault) = IsNotTaken c (refused.Fault fault)

@@ -23,7 +23,8 @@ use Rattle.link.specs.Transfer.{AppendsPart}
 use Rattle.exploration.specs.local_reduction.Results.{FinalResult, ProcessorResult}
 use Rattle.exploration.specs.state_graph.declared.termination.Termination.{Termination}
 use Rattle.explore_command.specs.Causes.{HasTooMany, Opens}
-use Rattle.explore_command.specs.Explorations.{Exploration, IsExitOf, IsFound, Problem, SearchResult, problem_of}
+use Rattle.explore_command.specs.Explorations.{Exploration, IsExitOf, IsFound, Problem, SearchResult, count_of}
+use Rattle.explore_command.specs.Explorations.{marks_of, problem_of}
 use Rattle.explore_command.specs.Lines.{counted, schedules_text}
 
 -- ---- the greatest status
@@ -112,7 +113,8 @@ pub record IsSizeExplored (p : Problem) (r : SizeReport) : Type 0 where
   pub is : IsFound p found
   pub greatest : Option Status
   pub greatest_is : IsGreatestStatus found.results greatest
-  pub line_is : r.line ≡ size_line p.config.k (length found.results) found.states found.termination greatest
+  pub line_is : r.line
+      ≡ size_line p.config.k (count_of (marks_of p.asked) found.results) found.states found.termination greatest
   pub exit : IsExitOf found.results found.termination r.status
   pub faultless : r.fault ≡ None
 

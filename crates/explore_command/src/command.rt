@@ -17,12 +17,13 @@ use exploration::SearchObserver;
 use flat_machine::Config;
 use itoa::Buffer;
 use link::{LinkRead, LinkWrite};
+use observed_words::ObservedWords;
 use std::alloc::Global;
 use std::io::Write;
 
 /// What a search is asked for.
-#[derive(Clone, Copy, Debug, PartialEq, Eq, Drop)]
-pub struct Asked {
+#[derive(Clone, Copy, Debug, Drop)]
+pub struct Asked<'a> {
     /// The number of states between references to shared words at which the search gives up.
     pub limit: u32,
     /// Whether each result is listed by itself, so that processors that are alike are not exchanged.
@@ -30,11 +31,15 @@ pub struct Asked {
     /// The number of the result to which the trace leads, counted from 1, or 0 for a state from which no end can be
     /// reached. Ignored if no trace is asked for.
     pub witness: u32,
+    /// The shared words by which results are observed, or None for all words. Results are then printed without the
+    /// other words, and those that are the same without them are one result.
+    pub observed: Option<&'a ObservedWords>,
 }
 
 /// Reads an image, finds every final result that its program can have on a machine of this size, and prints them, up to
 /// exchanges of processors that are alike. A final result is what is left after steps of the machine after which no
-/// processor runs. Also prints which processors can be exchanged, and whether schedules end. The observer sees the
+/// processor runs. If words are chosen, prints the different observed parts of results in place of the results; the
+/// trace then leads to the first result that has the wanted part. Also prints which processors can be exchanged, and whether schedules end. The observer sees the
 /// progress of the search. If a trace is asked for, that of a way to the result with the wanted number is written
 /// first.
 ///
@@ -46,7 +51,7 @@ pub fn explore_command<R: LinkRead, T: LinkWrite, G: SearchObserver, W: LinkWrit
     alloc: Global,
     file: &mut R,
     config: Config,
-    asked: Asked,
+    asked: Asked<'_>,
     trace: &mut Option<T>,
     observer: &mut G,
     out: &mut W,
@@ -56,12 +61,12 @@ pub fn explore_command<R: LinkRead, T: LinkWrite, G: SearchObserver, W: LinkWrit
     requires works { IsWorking T.has_failed trace.old }
     requires prints { W.has_failed out.old ≡ false }
     ensures printed { result ≤ 1 →
-        Prints (PrintsResults (exploration_of config asked (input R.remaining R.has_failed file.old file.new))
+        Prints (PrintsResults (exploration_of config asked.entry (input R.remaining R.has_failed file.old file.new))
         (trace_output T.contents trace.old trace.new) result) (W.contents out.old) (W.contents out.new) }
     ensures fault { 2 ≤ result → ReportsRefusal status_of
-        (ExploreFails (exploration_of config asked (input R.remaining R.has_failed file.old file.new))
+        (ExploreFails (exploration_of config asked.entry (input R.remaining R.has_failed file.old file.new))
         (trace_output T.contents trace.old trace.new) (output W.contents W.has_failed out.old out.new))
-        (IsReportedAs asked.witness (E.contents err.old) (E.contents err.new)) result }
+        (IsReportedAs asked.entry.witness (E.contents err.old) (E.contents err.new)) result }
     ensures failed { W.has_failed out.new ≡ true → result ≡ 3 }
     ensures unread { R.has_failed file.new ≡ true → result ≡ 3 }
     ensures silent { 2 ≤ result → W.has_failed out.new ≡ false → out.new ≡ out.old }
@@ -112,7 +117,7 @@ fn execute<R: LinkRead, T: LinkWrite, G: SearchObserver, W: LinkWrite>(
     alloc: Global,
     file: &mut R,
     config: Config,
-    asked: Asked,
+    asked: Asked<'_>,
     trace: &mut Option<T>,
     observer: &mut G,
     out: &mut W,
@@ -123,11 +128,11 @@ fn execute<R: LinkRead, T: LinkWrite, G: SearchObserver, W: LinkWrite>(
     ensures unread { IsErrOf result (Refused.Fault (Fault.Image ImageError.Link)) ↔ (R.has_failed file.new ≡ true) }
     ensures failed { IsErrOf result (Refused.Fault Fault.Link) ↔ (W.has_failed out.new ≡ true) }
     ensures printed { IfOk result (λ status.
-        Prints (PrintsResults (exploration_of config asked (input R.remaining R.has_failed file.old file.new))
+        Prints (PrintsResults (exploration_of config asked.entry (input R.remaining R.has_failed file.old file.new))
         (trace_output T.contents trace.old trace.new) status) (W.contents out.old) (W.contents out.new)) }
     ensures low { IfOk result (λ status. status ≤ 1) }
     ensures fault { IfErr result
-        (IsRefused (exploration_of config asked (input R.remaining R.has_failed file.old file.new))
+        (IsRefused (exploration_of config asked.entry (input R.remaining R.has_failed file.old file.new))
         (trace_output T.contents trace.old trace.new) (output W.contents W.has_failed out.old out.new)) }
     ensures silent { OnErr result (W.has_failed out.new ≡ false → out.new ≡ out.old) }
 {

@@ -2,8 +2,8 @@
 
 ghost use Rattle.std.specs.Prelude.{◌≡◌, ◌+◌, ◌++◌, ◌<◌, ◌^◌, codes, length, IfOk, OnOk, string_bytes};
 ghost use Rattle.std.specs.Fmt.{decimal};
-ghost use Rattle.explore_command.specs.Lines.{counted, processor_line, processor_lines, result_lines, results_lines};
-ghost use Rattle.explore_command.specs.Lines.{schedules_text, shared_lines};
+ghost use Rattle.explore_command.specs.Lines.{closing_lines, counted, heading, processor_line, processor_lines};
+ghost use Rattle.explore_command.specs.Lines.{result_lines, results_lines, schedules_text, shared_lines};
 
 use crate::classes::push_classes;
 use command_io::{push_console, push_shared_word, push_status, push_word};
@@ -30,11 +30,26 @@ pub fn results_text(
     for (place, result) in results.iter().enumerate() {
         push_result(alloc, &mut text, place, result)?;
     }
-    push_classes(&mut text, classes)?;
-    push_counts(&mut text, results.len(), states)?;
-    push_schedules(&mut text, termination)?;
-    text.push('\n')?;
+    push_closing(&mut text, results.len(), classes, states, termination)?;
     Ok(text)
+}
+
+/// Appends the lines after those of this many results.
+pub(crate) fn push_closing(
+    text: &mut String,
+    results: usize,
+    classes: &[u8],
+    states: usize,
+    termination: Termination,
+) -> Result<(), AllocError>
+    ensures { OnOk result (string_bytes text.new ≡ string_bytes text.old
+        ++ closing_lines results classes.now states termination) }
+{
+    push_classes(text, classes)?;
+    push_counts(text, results, states)?;
+    push_schedules(text, termination)?;
+    text.push_str("\n")?;
+    Ok(())
 }
 
 /// Appends whether schedules end.
@@ -87,13 +102,21 @@ fn push_result(
     requires { place + 1 < 2 ^ 64 }
     ensures { OnOk result (string_bytes text.new ≡ string_bytes text.old ++ result_lines place last.now) }
 {
-    writeln!(text, "result {}", place + 1)?;
+    push_heading(text, place)?;
     push_processors(alloc, text, last.processors.as_slice())?;
     push_words(alloc, text, last)
 }
 
+/// Appends the line before those of the result at a place.
+pub(crate) fn push_heading(text: &mut String, place: usize) -> Result<(), AllocError>
+    requires { place + 1 < 2 ^ 64 }
+    ensures { OnOk result (string_bytes text.new ≡ string_bytes text.old ++ heading place) }
+{
+    writeln!(text, "result {}", place + 1)
+}
+
 /// Appends a line for each processor.
-fn push_processors(
+pub(crate) fn push_processors(
     alloc: Global,
     text: &mut String,
     processors: &[ProcessorResult],

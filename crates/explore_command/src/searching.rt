@@ -1,6 +1,6 @@
 //! The search, its lines and its witness.
 
-ghost use Rattle.std.specs.Prelude.{◌≡◌, ◌≢◌, ◌<◌, ◌≤◌, ◌^◌, None, false, not, IfOk, IfErr, IsErrOf, OnOk};
+ghost use Rattle.std.specs.Prelude.{◌≡◌, ◌≢◌, ◌<◌, ◌≤◌, ◌^◌, None, false, length, not, IfOk, IfErr, IsErrOf, OnOk};
 ghost use Rattle.std.specs.Prelude.{string_bytes};
 ghost use Rattle.flat_machine.specs.Limits.{IsWithinLimits};
 ghost use Rattle.machine_steps.specs.Openings.{flat_state};
@@ -11,13 +11,14 @@ ghost use Rattle.exploration.specs.States.{AreAllStates};
 ghost use Rattle.exploration.specs.state_graph.Laws.{IsTerminationOf};
 ghost use Rattle.trace_commands.specs.TraceReports.{IsWorking};
 ghost use Rattle.explore_command.specs.Causes.{IsNotFound, IsNotSaved, IsNotSearched};
-ghost use Rattle.explore_command.specs.Explorations.{AreExplored, AreResultsOf, IsWitnessed, problem_of};
+ghost use Rattle.explore_command.specs.Explorations.{AreExplored, AreResultsOf, IsWitnessed, marks_of, problem_of};
 ghost use Rattle.explore_command.specs.Explorations.{search_result};
 ghost use Rattle.explore_command.specs.Refusals.{HasWitness, fault_of_search};
 ghost use Rattle.trace_commands.specs.TraceReports.{trace_output};
 
 use crate::command::Asked;
 use crate::lines::results_text;
+use crate::observing::explore_observed;
 use crate::refused::Refused;
 use crate::status::exit_status;
 use crate::witness::witness_of;
@@ -35,43 +36,70 @@ pub(crate) fn explore_image<T: LinkWrite, G: SearchObserver>(
     alloc: Global,
     image: Image,
     config: Config,
-    asked: Asked,
+    asked: Asked<'_>,
     trace: &mut Option<T>,
     observer: &mut G,
 ) -> Result<(String, u8), Refused>
     requires words { image.shared_words ≡ config.shared_words }
     requires works { IsWorking T.has_failed trace.old }
-    ensures lines { IfOk result (λ done. AreExplored (problem_of config image asked)
+    ensures lines { IfOk result (λ done. AreExplored (marks_of asked.entry) (problem_of config image asked.entry)
         (trace_output T.contents trace.old trace.new) (string_bytes done.0) done.1) }
     ensures low { IfOk result (λ done. done.1 ≤ 1) }
     ensures size { (IsWithinLimits config → ⊥) → IsErrOf result (Refused.Fault Fault.Size) }
     ensures refused { IfErr result
-        (IsNotFound (problem_of config image asked) (trace_output T.contents trace.old trace.new)) }
+        (IsNotFound (marks_of asked.entry) (problem_of config image asked.entry)
+        (trace_output T.contents trace.old trace.new)) }
 {
     let machine = machine_of(alloc, image, config)?;
     explore_machine(alloc, &machine, config, asked, trace, observer)
 }
 
-/// The lines of the results of a machine that has just opened, and the exit status. Writes the trace of a witness, if
-/// one is asked for.
+/// The lines of the results of a machine that has just opened, or of their different observed parts, and the exit
+/// status. Writes the trace of a witness, if one is asked for.
 // A separate function, so that neither has many values to drop at each return.
-#[tactic(auto, using(crate::proofs::NotFound::not_searched, crate::proofs::NotFound::not_saved))]
 fn explore_machine<T: LinkWrite, G: SearchObserver>(
     alloc: Global,
     machine: &Machine,
     config: Config,
-    asked: Asked,
+    asked: Asked<'_>,
     trace: &mut Option<T>,
     observer: &mut G,
 ) -> Result<(String, u8), Refused>
     requires opens { IsOpening config machine.now.image machine.now }
     requires words { machine.now.image.shared_words ≡ config.shared_words }
     requires works { IsWorking T.has_failed trace.old }
-    ensures lines { IfOk result (λ done. AreExplored (problem_of config machine.now.image asked)
+    ensures lines { IfOk result (λ done. AreExplored (marks_of asked.entry) (problem_of config machine.now.image asked.entry)
         (trace_output T.contents trace.old trace.new) (string_bytes done.0) done.1) }
     ensures low { IfOk result (λ done. done.1 ≤ 1) }
     ensures refused { IfErr result
-        (IsNotFound (problem_of config machine.now.image asked) (trace_output T.contents trace.old trace.new)) }
+        (IsNotFound (marks_of asked.entry) (problem_of config machine.now.image asked.entry)
+        (trace_output T.contents trace.old trace.new)) }
+{
+    match asked.observed {
+        Some(words) => explore_observed(alloc, machine, config, asked, words, trace, observer),
+        None => explore_all(alloc, machine, config, asked, trace, observer),
+    }
+}
+
+/// The lines of the results of a machine that has just opened, and the exit status. Writes the trace of a witness, if
+/// one is asked for.
+#[tactic(auto, using(crate::proofs::NotFound::not_searched, crate::proofs::NotFound::not_saved))]
+fn explore_all<T: LinkWrite, G: SearchObserver>(
+    alloc: Global,
+    machine: &Machine,
+    config: Config,
+    asked: Asked<'_>,
+    trace: &mut Option<T>,
+    observer: &mut G,
+) -> Result<(String, u8), Refused>
+    requires opens { IsOpening config machine.now.image machine.now }
+    requires words { machine.now.image.shared_words ≡ config.shared_words }
+    requires works { IsWorking T.has_failed trace.old }
+    ensures lines { IfOk result (λ done. AreExplored None (problem_of config machine.now.image asked.entry)
+        (trace_output T.contents trace.old trace.new) (string_bytes done.0) done.1) }
+    ensures low { IfOk result (λ done. done.1 ≤ 1) }
+    ensures refused { IfErr result
+        (IsNotFound None (problem_of config machine.now.image asked.entry) (trace_output T.contents trace.old trace.new)) }
 {
     let search = search_of(asked, trace.is_some());
     let found = find_results(alloc, machine, search, observer)?;
@@ -83,9 +111,9 @@ fn explore_machine<T: LinkWrite, G: SearchObserver>(
 }
 
 /// The search that is asked for, with or without the path of a witness.
-pub(crate) fn search_of(asked: Asked, is_wanted: bool) -> Search
-    ensures exchanged { result.exchanged ≡ not asked.each }
-    ensures limit { result.limit ≡ asked.limit }
+pub(crate) fn search_of(asked: Asked<'_>, is_wanted: bool) -> Search
+    ensures exchanged { result.exchanged ≡ not asked.entry.each }
+    ensures limit { result.limit ≡ asked.entry.limit }
 {
     Search {
         limit: asked.limit,
@@ -137,17 +165,18 @@ fn save_witness<T: LinkWrite>(
     image: &Image,
     config: Config,
     found: &Explored,
-    asked: Asked,
+    asked: Asked<'_>,
     trace: &mut Option<T>,
 ) -> Result<(), Refused>
     requires words { image.now.shared_words ≡ config.shared_words }
     requires works { IsWorking T.has_failed trace.old }
-    ensures saved { OnOk result (IsWitnessed (problem_of config image.now asked) found.now.results.items
+    ensures saved { OnOk result (IsWitnessed None (problem_of config image.now asked.entry) found.now.results.items
         (trace_output T.contents trace.old trace.new)) }
-    ensures refused { IfErr result (IsNotSaved (problem_of config image.now asked)
+    ensures refused { IfErr result (IsNotSaved None (problem_of config image.now asked.entry)
         (search_result found.now.classes.items found.now.results.items found.now.termination found.now.states)
         (trace_output T.contents trace.old trace.new)) }
-    ensures unknown { trace.old ≢ None → (HasWitness found.now.results.items found.now.termination asked.witness → ⊥)
+    ensures unknown { trace.old ≢ None
+        → (HasWitness (length found.now.results.items) found.now.termination asked.entry.witness → ⊥)
         → IsErrOf result Refused.Unknown }
 {
     if trace.is_none() {

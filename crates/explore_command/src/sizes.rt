@@ -1,11 +1,11 @@
 //! The results for every size of a machine, one line each.
 
 ghost use Rattle.std.specs.Prelude.{◌≡◌, ◌↔◌, ◌++◌, ◌≤◌, true, false, max, Option, IfOk, IfErr, IsErrOf, OnErr, OnOk};
-ghost use Rattle.std.specs.Prelude.{length, string_bytes};
+ghost use Rattle.std.specs.Prelude.{option_map, string_bytes};
 ghost use Rattle.flat_machine.specs.Limits.{IsWithinLimits};
 ghost use Rattle.command_io.specs.ErrorOutputs.{errors_to};
 ghost use Rattle.command_io.specs.Links.{input, output};
-ghost use Rattle.explore_command.specs.Explorations.{IsFound, exploration_of, problem_of, search_result};
+ghost use Rattle.explore_command.specs.Explorations.{IsFound, count_of, exploration_of, problem_of, search_result};
 ghost use Rattle.explore_command.specs.Sizes.{FailsBefore, FailsSize, FailsSizes, IsGreatestStatus, IsSizeLine};
 ghost use Rattle.explore_command.specs.Sizes.{IsSizeRefused, PrintsEverySize, PrintsFirst, PrintsSize};
 ghost use Rattle.explore_command.specs.Sizes.{ReportsEverySize, greatest_text, refusal_text, refused_line};
@@ -14,6 +14,7 @@ ghost use Rattle.explore_command.specs.Sizes.{size_line, size_text, sizes};
 use crate::command::Asked;
 use crate::greatest::greatest_status;
 use crate::lines::{push_count, push_schedules};
+use crate::parts::count_of;
 use crate::searching::{find_results, search_of};
 use crate::status::exit_status;
 use command_io::{Fault, image_of, machine_of_copy, print, push_status, report_fault};
@@ -21,6 +22,7 @@ use elf_image::{Image, ImageError};
 use exploration::{Explored, SearchObserver};
 use flat_machine::{Config, Status};
 use link::{LinkRead, LinkWrite, laws};
+use observed_words::ObservedWords;
 use std::alloc::{AllocError, Global};
 use std::fmt::Write as Format;
 use std::io::Write;
@@ -39,14 +41,14 @@ pub fn explore_every_size<R: LinkRead, G: SearchObserver, W: LinkWrite, E: Write
     alloc: Global,
     file: &mut R,
     config: Config,
-    asked: Asked,
+    asked: Asked<'_>,
     observer: &mut G,
     out: &mut W,
     err: &mut E,
 ) -> u8
     requires reads { R.has_failed file.old ≡ false }
     requires prints { W.has_failed out.old ≡ false }
-    ensures fault { ReportsEverySize (exploration_of config asked (input R.remaining R.has_failed file.old file.new))
+    ensures fault { ReportsEverySize (exploration_of config asked.entry (input R.remaining R.has_failed file.old file.new))
         (output W.contents W.has_failed out.old out.new) (errors_to E.contents err.old err.new) result }
 {
     match print_every_size(alloc, file, config, asked, observer, out, err) {
@@ -60,7 +62,7 @@ fn print_every_size<R: LinkRead, G: SearchObserver, W: LinkWrite, E: Write>(
     alloc: Global,
     file: &mut R,
     config: Config,
-    asked: Asked,
+    asked: Asked<'_>,
     observer: &mut G,
     out: &mut W,
     err: &mut E,
@@ -68,10 +70,10 @@ fn print_every_size<R: LinkRead, G: SearchObserver, W: LinkWrite, E: Write>(
     requires reads { R.has_failed file.old ≡ false }
     requires prints { W.has_failed out.old ≡ false }
     ensures printed { IfOk result
-        (PrintsEverySize (exploration_of config asked (input R.remaining R.has_failed file.old file.new))
+        (PrintsEverySize (exploration_of config asked.entry (input R.remaining R.has_failed file.old file.new))
         (output W.contents W.has_failed out.old out.new) (errors_to E.contents err.old err.new)) }
     ensures refused { IfErr result
-        (FailsBefore (exploration_of config asked (input R.remaining R.has_failed file.old file.new))
+        (FailsBefore (exploration_of config asked.entry (input R.remaining R.has_failed file.old file.new))
         (output W.contents W.has_failed out.old out.new) (errors_to E.contents err.old err.new)) }
     ensures unwritten { IsErrOf result Fault.Link ↔ (W.has_failed out.new ≡ true) }
     ensures unread { IsErrOf result (Fault.Image ImageError.Link) ↔ (R.has_failed file.new ≡ true) }
@@ -86,16 +88,16 @@ fn print_sizes<G: SearchObserver, W: LinkWrite, E: Write>(
     alloc: Global,
     image: &Image,
     config: Config,
-    asked: Asked,
+    asked: Asked<'_>,
     observer: &mut G,
     out: &mut W,
     err: &mut E,
 ) -> Result<u8, Fault>
     requires words { image.now.shared_words ≡ config.shared_words }
     requires prints { W.has_failed out.old ≡ false }
-    ensures printed { IfOk result (PrintsFirst (problem_of config image.now asked) sizes
+    ensures printed { IfOk result (PrintsFirst (problem_of config image.now asked.entry) sizes
         (output W.contents W.has_failed out.old out.new) (errors_to E.contents err.old err.new)) }
-    ensures refused { IfErr result (FailsSizes (problem_of config image.now asked)
+    ensures refused { IfErr result (FailsSizes (problem_of config image.now asked.entry)
         (output W.contents W.has_failed out.old out.new) (errors_to E.contents err.old err.new)) }
     ensures unwritten { IsErrOf result Fault.Link ↔ (W.has_failed out.new ≡ true) }
 {
@@ -121,7 +123,7 @@ fn print_size<G: SearchObserver, W: LinkWrite, E: Write>(
     alloc: Global,
     image: &Image,
     config: Config,
-    asked: Asked,
+    asked: Asked<'_>,
     observer: &mut G,
     out: &mut W,
     err: &mut E,
@@ -129,10 +131,10 @@ fn print_size<G: SearchObserver, W: LinkWrite, E: Write>(
     requires words { image.now.shared_words ≡ config.shared_words }
     requires few { config.k ≤ 6 }
     requires prints { W.has_failed out.old ≡ false }
-    ensures printed { IfOk result (PrintsSize (problem_of config image.now asked)
+    ensures printed { IfOk result (PrintsSize (problem_of config image.now asked.entry)
         (output W.contents W.has_failed out.old out.new) (errors_to E.contents err.old err.new)) }
     ensures works { OnOk result (W.has_failed out.new ≡ false) }
-    ensures refused { IfErr result (FailsSize (problem_of config image.now asked)
+    ensures refused { IfErr result (FailsSize (problem_of config image.now asked.entry)
         (output W.contents W.has_failed out.old out.new) (errors_to E.contents err.old err.new)) }
     ensures unwritten { IsErrOf result Fault.Link ↔ (W.has_failed out.new ≡ true) }
 {
@@ -146,19 +148,19 @@ fn line_of<G: SearchObserver, E: Write>(
     alloc: Global,
     image: &Image,
     config: Config,
-    asked: Asked,
+    asked: Asked<'_>,
     observer: &mut G,
     err: &mut E,
 ) -> Result<(String, u8), AllocError>
     requires words { image.now.shared_words ≡ config.shared_words }
     requires few { config.k ≤ 6 }
-    ensures line { IfOk result (λ done. IsSizeLine (problem_of config image.now asked)
+    ensures line { IfOk result (λ done. IsSizeLine (problem_of config image.now asked.entry)
         (errors_to E.contents err.old err.new) (string_bytes done.0) done.1) }
     ensures quiet { OnErr result (err.new ≡ err.old) }
 {
     match explore_size(alloc, image, config, asked, observer) {
         Ok(explored) => Ok((
-            line_of_explored(alloc, config.k, &explored)?,
+            line_of_explored(alloc, config.k, &explored, asked.observed)?,
             exit_status(explored.results.as_slice(), explored.termination),
         )),
         Err(fault) => {
@@ -173,13 +175,13 @@ fn explore_size<G: SearchObserver>(
     alloc: Global,
     image: &Image,
     config: Config,
-    asked: Asked,
+    asked: Asked<'_>,
     observer: &mut G,
 ) -> Result<Explored, Fault>
     requires words { image.now.shared_words ≡ config.shared_words }
-    ensures found { IfOk result (λ found. IsFound (problem_of config image.now asked)
+    ensures found { IfOk result (λ found. IsFound (problem_of config image.now asked.entry)
         (search_result found.classes.items found.results.items found.termination found.states)) }
-    ensures refused { IfErr result (IsSizeRefused (problem_of config image.now asked)) }
+    ensures refused { IfErr result (IsSizeRefused (problem_of config image.now asked.entry)) }
     ensures size { (IsWithinLimits config → ⊥) → IsErrOf result Fault.Size }
 {
     let machine = machine_of_copy(alloc, image, config)?;
@@ -187,15 +189,22 @@ fn explore_size<G: SearchObserver>(
 }
 
 /// The line of a size that is explored.
-fn line_of_explored(alloc: Global, k: u8, found: &Explored) -> Result<String, AllocError>
+fn line_of_explored(
+    alloc: Global,
+    k: u8,
+    found: &Explored,
+    observed: Option<&ObservedWords>,
+) -> Result<String, AllocError>
     requires { k ≤ 6 }
     ensures { IfOk result (λ line. (greatest : Option Status) × IsGreatestStatus found.now.results.items greatest
         × (string_bytes line
-        ≡ size_line k (length found.now.results.items) found.now.states found.now.termination greatest)) }
+        ≡ size_line k (count_of (option_map (λ words. words.now) observed.entry) found.now.results.items)
+        found.now.states found.now.termination greatest)) }
 {
+    let count = count_of(alloc, found.results.as_slice(), observed)?;
     let mut text = String::new(alloc);
     push_size(&mut text, k)?;
-    push_count(&mut text, found.results.len(), "result")?;
+    push_count(&mut text, count, "result")?;
     text.push_str(", ")?;
     push_count(&mut text, found.states, "state")?;
     text.push_str(", ")?;

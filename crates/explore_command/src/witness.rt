@@ -30,7 +30,6 @@ use trace_file::is_trace;
 /// [`Refused::Unknown`] exactly if no result has the number, or, for 0, if an end can be reached from each state found;
 /// else [`Fault::Size`] exactly if the size is out of limits, [`Refused::Missed`] if the steps lead elsewhere,
 /// [`Fault::Full`] if there would be more than [`steps::MAX_STEPS`], and [`Fault::Memory`].
-#[tactic(auto, using(crate::proofs::Refusing::not_taken))]
 pub fn witness_of(
     alloc: Global,
     image: &Image,
@@ -42,27 +41,53 @@ pub fn witness_of(
     requires words { image.now.shared_words ≡ config.shared_words }
     ensures witness { IfOk result (λ log. IsWitness config image.now
         (target explored.now.results.items number) log.steps) }
-    ensures refused { IfErr result (IsNoWitness config explored.now.results.items explored.now.termination number) }
-    ensures unknown { (HasWitness explored.now.results.items explored.now.termination number → ⊥)
+    ensures refused { IfErr result (IsNoWitness config (length explored.now.results.items) explored.now.termination
+        number) }
+    ensures unknown { (HasWitness (length explored.now.results.items) explored.now.termination number → ⊥)
         → IsErrOf result Refused.Unknown }
-    ensures size { HasWitness explored.now.results.items explored.now.termination number
+    ensures size { HasWitness (length explored.now.results.items) explored.now.termination number
+        → (IsWithinLimits config → ⊥) → IsErrOf result (Refused.Fault Fault.Size) }
+{
+    let way = explored.way.as_slice();
+    witness_on(alloc, image, config, explored, way, number, limit)
+}
+
+/// Does what [`witness_of`] does, on this way.
+#[tactic(auto, using(crate::proofs::Refusing::not_taken))]
+pub(crate) fn witness_on(
+    alloc: Global,
+    image: &Image,
+    config: Config,
+    explored: &Explored,
+    way: &[u8],
+    number: u32,
+    limit: u32,
+) -> Result<Logged, Refused>
+    requires words { image.now.shared_words ≡ config.shared_words }
+    ensures witness { IfOk result (λ log. IsWitness config image.now
+        (target explored.now.results.items number) log.steps) }
+    ensures refused { IfErr result (IsNoWitness config (length explored.now.results.items) explored.now.termination
+        number) }
+    ensures unknown { (HasWitness (length explored.now.results.items) explored.now.termination number → ⊥)
+        → IsErrOf result Refused.Unknown }
+    ensures size { HasWitness (length explored.now.results.items) explored.now.termination number
         → (IsWithinLimits config → ⊥) → IsErrOf result (Refused.Fault Fault.Size) }
 {
     let results = explored.results.as_slice();
-    if !has_witness(results, explored.termination, number) {
+    if !has_witness(results.len(), explored.termination, number) {
         return Err(Refused::Unknown);
     }
-    let log = log_of(alloc, image, config, explored.way.as_slice(), number > 0)?;
+    let log = log_of(alloc, image, config, way, number > 0)?;
     check(alloc, image, config, results, number, limit, log.steps())?;
     Ok(log)
 }
 
-/// Whether a result has the number; for 0, whether there is a state from which no end can be reached.
-fn has_witness(results: &[FinalResult], termination: Termination, number: u32) -> bool
-    ensures { IsTrue result ↔ HasWitness results.now termination number }
+/// Whether one of this many results has the number; for 0, whether there is a state from which no end can be reached.
+pub(crate) fn has_witness(results: usize, termination: Termination, number: u32) -> bool
+    ensures { IsTrue result ↔ HasWitness results termination number }
 {
     match number.checked_sub(1) {
-        Some(before) => (before as usize) < results.len(),
+        Some(before) => (before as usize) < results,
         None => match termination {
             Termination::Deadlock { .. } => true,
             Termination::Always | Termination::Possible => false,

@@ -16,22 +16,23 @@ use Rattle.hunt_command.specs.Findings.{FindingState, finding_lines, findings_li
 
 -- ---- a place that is found, or not
 
-pub noted_there : (fs : List FindingState) (text : List ℕ) (number : ℕ) (f : FindingState) → slice_get fs (place_of text fs) ≡ Some f →
-    noted fs text number ≡ slice_set fs (place_of text fs) (once_more f)
-noted_there fs text number f there = ap (λ o. noted_at fs (place_of text fs) o text number) there
+pub noted_there : (fs : List FindingState) (text printed : List ℕ) (number : ℕ) (f : FindingState) → slice_get fs (place_of text fs) ≡ Some f →
+    noted fs text printed number ≡ slice_set fs (place_of text fs) (once_more f)
+noted_there fs text printed number f there = ap (λ o. noted_at fs (place_of text fs) o text printed number) there
 
-pub noted_new : (fs : List FindingState) (text : List ℕ) (number : ℕ) → length fs ≤ place_of text fs →
-    noted fs text number ≡ fs ++ (record { text = text; runs = 1; first = number }) ∷ []
-noted_new fs text number past = ap (λ o. noted_at fs (place_of text fs) o text number) (slice_get_past fs (place_of text fs) past)
+pub noted_new : (fs : List FindingState) (text printed : List ℕ) (number : ℕ) → length fs ≤ place_of text fs →
+    noted fs text printed number ≡ fs ++ (record { text = text; printed = printed; runs = 1; first = number }) ∷ []
+noted_new fs text printed number past =
+    ap (λ o. noted_at fs (place_of text fs) o text printed number) (slice_get_past fs (place_of text fs) past)
 
 -- ---- the entries of a map
 
-module _ {K V : Type 0} (text : K → List ℕ) (runs first : V → ℕ) where
+module _ {K V : Type 0} (text : K → List ℕ) (printed : V → List ℕ) (runs first : V → ℕ) where
   abbrev Found : List (K × V) → List FindingState
-  Found es = found_in text runs first es
+  Found es = found_in text printed runs first es
 
   abbrev One : K → V → FindingState
-  One k v = record { text = text k; runs = runs v; first = first v }
+  One k v = record { text = text k; printed = printed v; runs = runs v; first = first v }
 
   -- A text is found at the place where the map finds its key.
   pub place_in : (t : List ℕ) (is : K → Bool) → ((k : K) → is k ≡ bytes_eq t (text k)) → (es : List (K × V)) →
@@ -88,25 +89,29 @@ module _ {K V : Type 0} (text : K → List ℕ) (runs first : V → ℕ) where
 
     -- If the map appends a new key, the results are those after a run with its text.
     pub noted_absent : (es' : List (K × V)) (k : K) (v : V) → text k ≡ t → runs v ≡ 1 → position is (keys_of es) ≡ None →
-        es' ≡ es ++ (k, v) ∷ [] → Found es' ≡ noted (Found es) t (first v)
+        es' ≡ es ++ (k, v) ∷ [] → Found es' ≡ noted (Found es) t (printed v) (first v)
     noted_absent es' k v named once none more =
         ap Found more ∙ new_in es k v
-        ∙ (λ j. Found es ++ (record { text = named j; runs = once j; first = first v }) ∷ [])
-        ∙ sym (noted_new (Found es) t (first v) (absent_in none))
+        ∙ (λ j. Found es ++ (record { text = named j; printed = printed v; runs = once j; first = first v }) ∷ [])
+        ∙ sym (noted_new (Found es) t (printed v) (first v) (absent_in none))
 
     -- If the map counts an existing key once more, the results are those after a run with its text.
-    pub noted_present : (es' : List (K × V)) (i : ℕ) (k : K) (v w : V) (number : ℕ) → position is (keys_of es) ≡ Some i →
-        slice_get es i ≡ Some (k, v) → One k w ≡ once_more (One k v) → es' ≡ set_value_at es i w → Found es' ≡ noted (Found es) t number
-    noted_present es' i k v w number at there more now =
+    pub noted_present : (es' : List (K × V)) (i : ℕ) (k : K) (v w : V) (shown : List ℕ) (number : ℕ) → position is (keys_of es) ≡ Some i →
+        slice_get es i ≡ Some (k, v) → One k w ≡ once_more (One k v) → es' ≡ set_value_at es i w →
+        Found es' ≡ noted (Found es) t shown number
+    noted_present es' i k v w shown number at there more now =
         let place = present_in i at in
         ap Found now ∙ set_in es i k v w there ∙ ap (slice_set (Found es) i) more
         ∙ ap (λ p. slice_set (Found es) p (once_more (One k v))) (sym place)
-        ∙ sym (noted_there (Found es) t number (One k v) (ap (slice_get (Found es)) place ∙ entry_in es i k v there))
+        ∙ sym (noted_there (Found es) t shown number (One k v) (ap (slice_get (Found es)) place ∙ entry_in es i k v there))
 
 -- ---- the entries of the results
 
 abbrev pub text_in : String Global → List ℕ
 text_in s = string_bytes s
+
+abbrev pub printed_in : Counted → List ℕ
+printed_in counted = string_bytes counted.printed
 
 abbrev pub runs_in : Counted → ℕ
 runs_in counted = counted.runs
@@ -125,13 +130,17 @@ firsts_length fs = length-map fs _
 
 -- ---- lines
 
-lines_more : (xs : List FindingState) (f : FindingState) → findings_lines (xs ++ f ∷ []) ≡ findings_lines xs ++ finding_lines f
-lines_more [] f = append-nil (finding_lines f)
-lines_more (x ∷ xs) f = ap (λ ys. finding_lines x ++ ys) (lines_more xs f) ∙ sym (append_assoc (finding_lines x) (findings_lines xs) (finding_lines f))
+-- the lines of a result
+abbrev pub lines_of : FindingState → List ℕ
+lines_of f = finding_lines f.runs f.first f.printed
+
+lines_more : (xs : List FindingState) (f : FindingState) → findings_lines (xs ++ f ∷ []) ≡ findings_lines xs ++ lines_of f
+lines_more [] f = append-nil (lines_of f)
+lines_more (x ∷ xs) f = ap (λ ys. lines_of x ++ ys) (lines_more xs f) ∙ sym (append_assoc (lines_of x) (findings_lines xs) (lines_of f))
 
 -- The lines of the first i + 1 results are those of the first i, and then those of the next.
 pub lines_step : (fs : List FindingState) (i : ℕ) (f : FindingState) → slice_get fs i ≡ Some f →
-    findings_lines (take (i + 1) fs) ≡ findings_lines (take i fs) ++ finding_lines f
+    findings_lines (take (i + 1) fs) ≡ findings_lines (take i fs) ++ lines_of f
 lines_step fs i f there =
     ap findings_lines (take_more fs i f (slice_get_within fs i f there)
     ∙ ap (λ g. take i fs ++ g ∷ []) (get_or_from_slice_get fs i f f there))
@@ -161,9 +170,9 @@ few_there fs n i f there few =
     (few_more fs n few)
 
 -- If no result was counted more than n times, and a new one is counted once, none was counted more than n + 1 times.
-pub few_new : (fs : List FindingState) (n number : ℕ) (text : List ℕ) → NoneOver n fs →
-    NoneOver (n + 1) (fs ++ (record { text = text; runs = 1; first = number }) ∷ [])
-few_new fs n number text few =
+pub few_new : (fs : List FindingState) (n number : ℕ) (text printed : List ℕ) → NoneOver n fs →
+    NoneOver (n + 1) (fs ++ (record { text = text; printed = printed; runs = 1; first = number }) ∷ [])
+few_new fs n number text printed few =
     let P = λ (f : FindingState). f.runs ≤ n + 1 in
-    All-append P fs ((record { text = text; runs = 1; first = number }) ∷ []) (few_more fs n few)
-    (All-cons P (record { text = text; runs = 1; first = number }) [] (omega arith) (All-nil P))
+    All-append P fs ((record { text = text; printed = printed; runs = 1; first = number }) ∷ []) (few_more fs n few)
+    (All-cons P (record { text = text; printed = printed; runs = 1; first = number }) [] (omega arith) (All-nil P))

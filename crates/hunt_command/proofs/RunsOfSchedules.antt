@@ -1,5 +1,5 @@
 -- The log of a run from its machine's opening on, and the run's result.
-use Rattle.std.proofs.Common.{◌≡◌, ℕ, ◌+◌, ◌^◌, List, ◌++◌, length, ◌∙◌, ap, sym, refl, subst, arith}
+use Rattle.std.proofs.Common.{◌≡◌, ℕ, ◌+◌, ◌^◌, Bool, Option, List, ◌++◌, length, ◌∙◌, ap, sym, refl, subst, arith}
 use Rattle.std.specs.Prelude.{replicate}
 use Rattle.flat_machine.specs.declared.config.Config.{Config}
 use Rattle.flat_machine.specs.Limits.{IsWithinLimits}
@@ -43,11 +43,12 @@ module _ (c : Config) (most number : ℕ) (image : ImageContents) (m : MachineLi
   }
 
 -- The result to which the drain leads after the steps of a schedule is the result of the run.
-pub result_of_drain : (c : Config) (image : ImageContents) (most number : ℕ) (m : MachineLists) (old log : Log) (end : SweepEnd) (text : List ℕ) (status : ℕ) →
+pub result_of_drain : (observed : Option (List Bool)) (c : Config) (image : ImageContents) (most number : ℕ) (m : MachineLists) (old log : Log)
+    (end : SweepEnd) (text printed : List ℕ) (status : ℕ) →
     IsOpening c image m → old ≡ opened m → WasAsked (schedule old.machine.config.k number most) (length old.steps + most) old end log →
-    IsDrainedTo log.opening log.steps log.machine end text status →
-    IsResultOf c image most number (record { text = text; end = end; status = status })
-result_of_drain c image most number m old log end text status opens starts asked d =
+    IsDrainedTo observed log.opening log.steps log.machine end text printed status →
+    IsResultOf observed c image most number (record { text = text; printed = printed; end = end; status = status })
+result_of_drain observed c image most number m old log end text printed status opens starts asked d =
     let is : log.opening ≡ m = asked.opening ∙ ap (λ (l : Log). l.opening) starts in
     let at_first : IsOpening c image log.opening = subst (IsOpening c image) (sym is) opens in
     let new : Log = record { opening = log.opening; steps = log.steps ++ drain_steps log.machine; machine = d.machine } in
@@ -66,6 +67,7 @@ result_of_drain c image most number m old log end text status opens starts asked
       tally = d.tally;
       replay_counted = d.replay_counted;
       is = d.is;
+      printed_is = d.printed_is;
       exit = d.exit;
     }
 

@@ -7,9 +7,10 @@ use Rattle.schedules.specs.declared.sweeping.SweepEnd.{SweepEnd}
 use Rattle.schedules.specs.declared.sweeping.SweepEnd.TheVariants.{Over, Budget}
 use Rattle.command_io.specs.Digits.{line_feed}
 
--- A result: its text, how many runs had it, and the number of the first of them.
+-- A result: its text, how it is printed, how many runs had it, and the number of the first of them.
 pub record FindingState : Type 0 where
   pub text : List ℕ
+  pub printed : List ℕ
   pub runs : ℕ
   pub first : ℕ
 
@@ -21,8 +22,10 @@ pub record FindingsState : Type 0 where
   pub unfinished : List ℕ
 
 -- the results in the entries of a map
-abbrev pub found_in : {K V : Type 0} → (text : K → List ℕ) → (runs first : V → ℕ) → List (K × V) → List FindingState
-found_in text runs first entries = map (λ e. record { text = text e.0; runs = runs e.1; first = first e.1 }) entries
+abbrev pub found_in : {K V : Type 0} → (text : K → List ℕ) → (printed : V → List ℕ) → (runs first : V → ℕ) →
+    List (K × V) → List FindingState
+found_in text printed runs first entries =
+    map (λ e. record { text = text e.0; printed = printed e.1; runs = runs e.1; first = first e.1 }) entries
 
 -- the number of the first run with each result
 abbrev pub firsts : List FindingState → List ℕ
@@ -42,22 +45,25 @@ once_more f = record f { runs = f.runs + 1 }
 
 -- the results after a run with this text: the result at the place is counted once more, or, if there is none, a new one
 -- is appended
-abbrev pub noted_at : List FindingState → (place : ℕ) → Option FindingState → (text : List ℕ) → (number : ℕ) →
+abbrev pub noted_at : List FindingState → (place : ℕ) → Option FindingState → (text printed : List ℕ) → (number : ℕ) →
     List FindingState
-noted_at fs place (Some f) text number = slice_set fs place (once_more f)
-noted_at fs place None text number = fs ++ (record { text = text; runs = 1; first = number }) ∷ []
+noted_at fs place (Some f) text printed number = slice_set fs place (once_more f)
+noted_at fs place None text printed number =
+    fs ++ (record { text = text; printed = printed; runs = 1; first = number }) ∷ []
 
--- the results after the run with this number had this text
-abbrev pub noted : List FindingState → (text : List ℕ) → (number : ℕ) → List FindingState
-noted fs text number = noted_at fs (place_of text fs) (slice_get fs (place_of text fs)) text number
+-- the results after the run with this number had this text, and would be printed in this way
+abbrev pub noted : List FindingState → (text printed : List ℕ) → (number : ℕ) → List FindingState
+noted fs text printed number =
+    noted_at fs (place_of text fs) (slice_get fs (place_of text fs)) text printed number
 
--- `runs N first S`, and the result
-unfoldable pub finding_lines : FindingState → List ℕ
-finding_lines f = codes "runs " ++ decimal f.runs ++ codes " first " ++ decimal f.first ++ codes " " ++ f.text
+-- `runs N first S`, and the result as it is printed
+unfoldable pub finding_lines : (runs first : ℕ) → (printed : List ℕ) → List ℕ
+finding_lines runs first printed =
+    codes "runs " ++ decimal runs ++ codes " first " ++ decimal first ++ codes " " ++ printed
 
 abbrev pub findings_lines : List FindingState → List ℕ
 findings_lines [] = []
-findings_lines (f ∷ fs) = finding_lines f ++ findings_lines fs
+findings_lines (f ∷ fs) = finding_lines f.runs f.first f.printed ++ findings_lines fs
 
 -- ---- unfinished runs
 

@@ -1,6 +1,6 @@
 -- What a hunt prints: from the bytes of an image's file to the different results of its runs.
 use Rattle.std.specs.Prelude.{◌≡◌, ◌⊎◌, ℕ, zero, suc, ◌+◌, ◌%◌, ◌^◌, ◌≤◌, nat_lt, Bool, if◌then◌else◌, List, []}
-use Rattle.std.specs.Prelude.{◌∷◌, ◌++◌, true, false, Option, Some, length, slice_get}
+use Rattle.std.specs.Prelude.{◌∷◌, ◌++◌, true, false, Option, Some, length, option_map, slice_get}
 use Rattle.flat_machine.specs.declared.config.Config.{Config}
 use Rattle.flat_machine.specs.Limits.{IsWithinLimits}
 use Rattle.elf_image.specs.declared.error.ImageError.TheVariants as of_image
@@ -32,15 +32,17 @@ use Rattle.hunt_command.specs.Traces.{AreNotSaved, AreSaved, WhereAsked}
 
 -- ---- one run
 
--- The result of a run: its text, how the run ended, and the exit status of the machine.
+-- The result of a run: its text, how it is printed, how the run ended, and the exit status of the machine.
 pub record ResultState : Type 0 where
   pub text : List ℕ
+  pub printed : List ℕ
   pub end : SweepEnd
   pub status : ℕ
 
 -- This is the result of the run with this number, of at most this many steps and turns, on a machine that opens on the
--- image.
-pub record IsResultOf (c : Config) (image : ImageContents) (most number : ℕ) (r : ResultState) : Type 0 where
+-- image, by the observed words.
+pub record IsResultOf (observed : Option (List Bool)) (c : Config) (image : ImageContents) (most number : ℕ)
+    (r : ResultState) : Type 0 where
   pub log : Log
   pub ran : IsRandomRun c image number most r.end log
   pub opening : MachineLists
@@ -48,17 +50,19 @@ pub record IsResultOf (c : Config) (image : ImageContents) (most number : ℕ) (
   pub machine : MachineLists
   pub tally : TallyState
   pub replay_counted : IsReplayCounted opening log.steps machine tally
-  pub is : r.text ≡ result_of r.end machine tally.shown
+  pub is : r.text ≡ result_of observed false r.end machine tally.shown
+  pub printed_is : r.printed ≡ result_of observed true r.end machine tally.shown
   pub exit : IsExitOf machine r.status
 
 -- The machine has taken these steps, and its drain leads to this result.
-pub record IsDrainedTo (opening : MachineLists) (steps : List Step) (old : MachineLists) (end : SweepEnd)
-    (text : List ℕ) (status : ℕ) : Type 0 where
+pub record IsDrainedTo (observed : Option (List Bool)) (opening : MachineLists) (steps : List Step)
+    (old : MachineLists) (end : SweepEnd) (text printed : List ℕ) (status : ℕ) : Type 0 where
   pub machine : MachineLists
   pub idle : IsIdle machine
   pub tally : TallyState
   pub replay_counted : IsReplayCounted opening (steps ++ drain_steps old) machine tally
-  pub is : text ≡ result_of end machine tally.shown
+  pub is : text ≡ result_of observed false end machine tally.shown
+  pub printed_is : printed ≡ result_of observed true end machine tally.shown
   pub exit : IsExitOf machine status
 
 -- The log is that of the run with this number, and a trace file can spell its steps.
@@ -73,14 +77,17 @@ abbrev pub number_at : (start place : ℕ) → ℕ
 number_at start place = (start + place) % 2 ^ 32
 
 -- These are the results of consecutive runs, the first of which has this number.
-abbrev pub AreResults : Config → ImageContents → (most start : ℕ) → List ResultState → Type 0
-AreResults c image most start results =
-    (place : ℕ) (r : ResultState) → slice_get results place ≡ Some r → IsResultOf c image most (number_at start place) r
+abbrev pub AreResults : (observed : Option (List Bool)) → Config → ImageContents → (most start : ℕ) →
+    List ResultState → Type 0
+AreResults observed c image most start results =
+    (place : ℕ) (r : ResultState) → slice_get results place ≡ Some r →
+    IsResultOf observed c image most (number_at start place) r
 
 -- the results found after these are noted too, the first of them as that of the run at this place
 abbrev pub found_from : (start place : ℕ) → List FindingState → List ResultState → List FindingState
 found_from start place fs [] = fs
-found_from start place fs (r ∷ rs) = found_from start (place + 1) (noted fs r.text (number_at start place)) rs
+found_from start place fs (r ∷ rs) =
+    found_from start (place + 1) (noted fs r.text r.printed (number_at start place)) rs
 
 -- the numbers of the runs with these results that are unfinished, the first of them the run at this place
 abbrev pub unfinished_from : (start place : ℕ) → List ResultState → List ℕ
@@ -99,11 +106,11 @@ greatest_from status (r ∷ rs) = greatest_from (greater r.status status) rs
 
 -- These are the results found in this many runs, starting with this number, these are the numbers of the runs that are
 -- unfinished, and this is the greatest exit status of a machine: 1 if a fault has stopped a processor in some run.
-pub record AreFound (c : Config) (image : ImageContents) (most start runs : ℕ) (found : List FindingState)
-    (unfinished : List ℕ) (greatest : ℕ) : Type 0 where
+pub record AreFound (observed : Option (List Bool)) (c : Config) (image : ImageContents) (most start runs : ℕ)
+    (found : List FindingState) (unfinished : List ℕ) (greatest : ℕ) : Type 0 where
   pub results : List ResultState
   pub all : length results ≡ runs
-  pub each : AreResults c image most start results
+  pub each : AreResults observed c image most start results
   pub are : found ≡ found_from start 0 [] results
   pub those : unfinished ≡ unfinished_from start 0 results
   pub exit : greatest ≡ greatest_from 0 results
@@ -130,6 +137,10 @@ pub record AskedHunt : Type 0 where
 
 abbrev pub asked_hunt : Config → Hunt → Input → AskedHunt
 asked_hunt c hunt file = record { config = c; hunt = hunt; file = file }
+
+-- the observed words, if some are chosen: a mark for each word; None for all words
+abbrev pub marks_of : Hunt → Option (List Bool)
+marks_of hunt = option_map (λ words. words.now) hunt.observed
 
 -- A store of traces, each under its number: whether it has a trace under a number, how a writer opens and closes,
 -- whether a writer has failed, and the bytes that it is known to have.
@@ -160,7 +171,8 @@ hunt_traces store old new = record { store = store; old = old; new = new }
 pub record HasFound (h : AskedHunt) (image : ImageContents) (found : List FindingState) (unfinished : List ℕ)
     (greatest : ℕ) : Type 0 where
   pub meant : IsImageOf h.config.shared_words h.file.bytes image
-  pub are : AreFound h.config image (most_of h.hunt.budget) h.hunt.start h.hunt.runs found unfinished greatest
+  pub are : AreFound (marks_of h.hunt) h.config image (most_of h.hunt.budget) h.hunt.start h.hunt.runs found unfinished
+      greatest
 
 -- If traces are asked for, those of the first runs with each result are written, and no others.
 abbrev pub HasSaved : {T W : Type 0} → AskedHunt → HuntTraces T W → ImageContents → List FindingState → Type 0

@@ -8,8 +8,8 @@ ghost use Rattle.command_io.specs.Files.{IsFaultOfSize};
 ghost use Rattle.command_io.specs.Links.{Input, input, output};
 ghost use Rattle.command_io.specs.Printing.{Prints, ReportsRefusal};
 ghost use Rattle.hunt_command.specs.Hunts.{AreFound, IsHunt, HuntFails, IsOfResults, IsRefusalReported, IsRefused};
-ghost use Rattle.hunt_command.specs.Hunts.{IsOfRefusal, asked_hunt, hunt_status, hunt_traces, is_unexpected, status_of};
-ghost use Rattle.hunt_command.specs.Hunts.{trace_store};
+ghost use Rattle.hunt_command.specs.Hunts.{IsOfRefusal, asked_hunt, hunt_status, hunt_traces, is_unexpected, marks_of};
+ghost use Rattle.hunt_command.specs.Hunts.{status_of, trace_store};
 
 use crate::findings::{Findings, findings_text};
 use crate::observer::HuntObserver;
@@ -20,6 +20,7 @@ use command_io::{DONE, Fault, REFUSED, STOPPED_BY_FAULT, image_of, print, report
 use elf_image::{Image, ImageError};
 use flat_machine::Config;
 use link::{LinkRead, LinkWrite};
+use observed_words::ObservedWords;
 use std::alloc::Global;
 use std::io::Write;
 
@@ -32,8 +33,8 @@ pub const UNFINISHED: u8 = 5;
 pub const UNEXPECTED: u8 = 6;
 
 /// Which runs a hunt takes, and what is expected of them.
-#[derive(Clone, Copy, Debug, PartialEq, Eq, Drop)]
-pub struct Hunt {
+#[derive(Clone, Copy, Debug, Drop)]
+pub struct Hunt<'a> {
     /// The maximum number of steps of a run, and of turns that it asks for.
     pub budget: u32,
     /// The number of runs.
@@ -42,11 +43,15 @@ pub struct Hunt {
     pub start: u32,
     /// Whether all runs are expected to come to one result.
     pub expect_one: bool,
+    /// The shared words by which results are observed, or None for all words. A result then has no other words, and
+    /// runs that are the same without them came to one result.
+    pub observed: Option<&'a ObservedWords>,
 }
 
 /// Reads an image, runs it on machines of this size by random schedules, one for each number, and prints each different
-/// result of the runs once. The observer sees the progress of the hunt. If traces are asked for, that of the first run
-/// to each result is written first. If one of these traces exists already, none is written and nothing is printed.
+/// result of the runs once. Results that differ only in a pc are one, printed as that of its first run. The observer
+/// sees the progress of the hunt. If traces are asked for, that of the first run to each result is written first. If
+/// one of these traces exists already, none is written and nothing is printed.
 ///
 /// Returns the exit status. If all is printed, it is 1 if a fault has stopped a processor in some run; else 5 if some
 /// run is unfinished, which means that its budget was used up while a processor ran; else 6 if one result is expected
@@ -57,7 +62,7 @@ pub fn hunt_command<R: LinkRead, T: Traces, G: HuntObserver, W: LinkWrite, E: Wr
     alloc: Global,
     file: &mut R,
     config: Config,
-    hunt: Hunt,
+    hunt: Hunt<'_>,
     traces: &mut Option<T>,
     observer: &mut G,
     out: &mut W,
@@ -66,11 +71,11 @@ pub fn hunt_command<R: LinkRead, T: Traces, G: HuntObserver, W: LinkWrite, E: Wr
     requires reads { R.has_failed file.old ≡ false }
     requires prints { W.has_failed out.old ≡ false }
     ensures printed { IsOfResults result →
-        Prints (IsHunt (asked_hunt config hunt (input R.remaining R.has_failed file.old file.new))
+        Prints (IsHunt (asked_hunt config hunt.entry (input R.remaining R.has_failed file.old file.new))
         (hunt_traces (trace_store T.finds T.opens T.closes T.Writer.has_failed T.Writer.contents) traces.old traces.new)
         result) (W.contents out.old) (W.contents out.new) }
     ensures fault { IsOfRefusal result → ReportsRefusal status_of
-        (HuntFails (asked_hunt config hunt (input R.remaining R.has_failed file.old file.new))
+        (HuntFails (asked_hunt config hunt.entry (input R.remaining R.has_failed file.old file.new))
         (hunt_traces (trace_store T.finds T.opens T.closes T.Writer.has_failed T.Writer.contents) traces.old traces.new)
         (output W.contents W.has_failed out.old out.new))
         (IsRefusalReported (E.contents err.old) (E.contents err.new)) result }
@@ -106,7 +111,7 @@ fn execute<R: LinkRead, T: Traces, G: HuntObserver, W: LinkWrite>(
     alloc: Global,
     file: &mut R,
     config: Config,
-    hunt: Hunt,
+    hunt: Hunt<'_>,
     traces: &mut Option<T>,
     observer: &mut G,
     out: &mut W,
@@ -116,12 +121,12 @@ fn execute<R: LinkRead, T: Traces, G: HuntObserver, W: LinkWrite>(
     ensures unread { IsErrOf result (Refused.Fault (Fault.Image ImageError.Link)) ↔ (R.has_failed file.new ≡ true) }
     ensures failed { IsErrOf result (Refused.Fault Fault.Link) ↔ (W.has_failed out.new ≡ true) }
     ensures printed { IfOk result (λ status.
-        Prints (IsHunt (asked_hunt config hunt (input R.remaining R.has_failed file.old file.new))
+        Prints (IsHunt (asked_hunt config hunt.entry (input R.remaining R.has_failed file.old file.new))
         (hunt_traces (trace_store T.finds T.opens T.closes T.Writer.has_failed T.Writer.contents) traces.old traces.new)
         status) (W.contents out.old) (W.contents out.new)) }
     ensures results { IfOk result IsOfResults }
     ensures fault { IfErr result
-        (IsRefused (asked_hunt config hunt (input R.remaining R.has_failed file.old file.new))
+        (IsRefused (asked_hunt config hunt.entry (input R.remaining R.has_failed file.old file.new))
         (hunt_traces (trace_store T.finds T.opens T.closes T.Writer.has_failed T.Writer.contents) traces.old traces.new)
         (output W.contents W.has_failed out.old out.new)) }
     ensures silent { OnErr result (W.has_failed out.new ≡ false → out.new ≡ out.old) }
@@ -136,7 +141,7 @@ fn hunt_image<T: Traces, G: HuntObserver, W: LinkWrite>(
     alloc: Global,
     image: &Image,
     config: Config,
-    hunt: Hunt,
+    hunt: Hunt<'_>,
     traces: &mut Option<T>,
     observer: &mut G,
     out: &mut W,
@@ -146,13 +151,13 @@ fn hunt_image<T: Traces, G: HuntObserver, W: LinkWrite>(
     ensures failed { IsErrOf result (Refused.Fault Fault.Link) ↔ (W.has_failed out.new ≡ true) }
     ensures unread { IsErrOf result (Refused.Fault (Fault.Image ImageError.Link)) → ⊥ }
     ensures printed { IfOk result (λ status. (file : Input) → IsImageOf config.shared_words file.bytes image.now
-        → Prints (IsHunt (asked_hunt config hunt file)
+        → Prints (IsHunt (asked_hunt config hunt.entry file)
         (hunt_traces (trace_store T.finds T.opens T.closes T.Writer.has_failed T.Writer.contents) traces.old traces.new)
         status) (W.contents out.old) (W.contents out.new)) }
     ensures results { IfOk result IsOfResults }
     ensures size { (IsWithinLimits config → ⊥) → IsErrOf result (Refused.Fault Fault.Size) }
     ensures fault { IfErr result (λ refused. (file : Input) → IsImageOf config.shared_words file.bytes image.now
-        → IsRefused (asked_hunt config hunt file)
+        → IsRefused (asked_hunt config hunt.entry file)
         (hunt_traces (trace_store T.finds T.opens T.closes T.Writer.has_failed T.Writer.contents) traces.old traces.new)
         (output W.contents W.has_failed out.old out.new) refused) }
     ensures silent { OnErr result (W.has_failed out.new ≡ false → out.new ≡ out.old) }
@@ -194,12 +199,12 @@ fn run_hunt<G: HuntObserver>(
     alloc: Global,
     image: &Image,
     config: Config,
-    hunt: Hunt,
+    hunt: Hunt<'_>,
     observer: &mut G,
 ) -> Result<(Findings, u8), Fault>
     requires words { image.now.shared_words ≡ config.shared_words }
-    ensures found { IfOk result (λ done. AreFound config image.now
-        (most_of hunt.budget) hunt.start hunt.runs done.0.found done.0.unfinished done.1) }
+    ensures found { IfOk result (λ done. AreFound (marks_of hunt.entry) config image.now
+        (most_of hunt.entry.budget) hunt.entry.start hunt.entry.runs done.0.found done.0.unfinished done.1) }
     ensures low { IfOk result (λ done. done.1 ≤ 1) }
     ensures limits { OnOk result (IsWithinLimits config) }
     ensures size { (IsWithinLimits config → ⊥) → IsErrOf result Fault.Size }
@@ -209,7 +214,8 @@ fn run_hunt<G: HuntObserver>(
         return Err(Fault::Size);
     }
     let (budget, start, runs) = (hunt.budget, hunt.start, hunt.runs);
-    let found = findings_of(alloc, image, config, budget, start, runs, observer);
+    let words = hunt.observed;
+    let found = findings_of(alloc, image, config, budget, start, runs, words, observer);
     observer.over();
     found
 }

@@ -1,10 +1,11 @@
 //! The different results of runs, how many runs had each, and which runs are unfinished.
 
 ghost use Rattle.std.specs.Prelude.{◌≡◌, ◌+◌, ◌++◌, ◌<◌, ◌^◌, [], Some, IfOk, OnOk, codes, length, slice_get};
-ghost use Rattle.std.specs.Prelude.{string_bytes};
+ghost use Rattle.std.specs.Prelude.{String, string_bytes};
+ghost use Rattle.std.specs.Global.{Global as Allocator};
 ghost use Rattle.std.specs.Fmt.{decimal};
-ghost use Rattle.indexmap.specs.IndexMap.{index_map_len};
 ghost use Rattle.indexmap.specs.Layout.{set_value_at};
+ghost use Rattle.hunt_command.specs.declared.findings.Counted.{Counted as CountedValue};
 ghost use Rattle.hunt_command.specs.Findings.{finding_lines, findings_lines, firsts, hunt_lines, if_unfinished};
 ghost use Rattle.hunt_command.specs.Findings.{noted, numbers_text, unfinished_line};
 
@@ -14,11 +15,12 @@ use std::alloc::{AllocError, Global};
 use std::fmt::Write;
 use std::marker::Model;
 
-/// How many runs had a result, and the number of the first of them.
-#[derive(Clone, Copy, Debug, PartialEq, Eq, Drop)]
+/// How many runs had a result, the number of the first of them, and the result as it is printed for this run.
+#[derive(Drop)]
 struct Counted {
     runs: u32,
     first: u32,
+    printed: String,
 }
 
 /// Different results, ordered by their first runs, and the runs that used up their budgets while a processor ran.
@@ -38,13 +40,15 @@ impl Model for Findings {
     ghost Value = { FindingsState };
 
     ghost view = { λ f. record {
-      found = found_in (λ text. string_bytes text) (λ counted. counted.runs) (λ counted. counted.first) f.found.entries;
+      found = found_in (λ text. string_bytes text) (λ counted. string_bytes counted.printed) (λ counted. counted.runs)
+          (λ counted. counted.first) f.found.entries;
       noted = f.noted;
       unfinished = f.unfinished.items;
     } };
 
     ghost invariant = { λ f. AreFew (record {
-      found = found_in (λ text. string_bytes text) (λ counted. counted.runs) (λ counted. counted.first) f.found.entries;
+      found = found_in (λ text. string_bytes text) (λ counted. string_bytes counted.printed) (λ counted. counted.runs)
+          (λ counted. counted.first) f.found.entries;
       noted = f.noted;
       unfinished = f.unfinished.items;
     }) };
@@ -80,15 +84,15 @@ impl Findings {
         }
     }
 
-    /// Notes the result of the run with this number.
+    /// Notes the result of the run with this number, which has this text. If it is new, it is printed as `printed`.
     ///
     /// # Errors
     ///
     /// [`AllocError`] if there is no memory for it.
-    pub fn add(&mut self, text: String, number: u32) -> Result<(), AllocError>
+    pub fn add(&mut self, text: String, printed: String, number: u32) -> Result<(), AllocError>
         requires { self.old.noted + 1 < 2 ^ 32 }
         ensures { OnOk result (self.new ≡ record self.old {
-          found = noted self.old.found (string_bytes text) number;
+          found = noted self.old.found (string_bytes text) (string_bytes printed) number;
           noted = self.old.noted + 1;
         }) }
     {
@@ -97,6 +101,7 @@ impl Findings {
             let counted = Counted {
                 runs: 1,
                 first: number,
+                printed,
             };
             self.found.insert(text, counted)?;
             return Ok(());
@@ -104,11 +109,8 @@ impl Findings {
         let Some((_, before)) = self.found.get_index(place) else {
             unreachable!()
         };
-        let counted = Counted {
-            runs: before.runs + 1,
-            first: before.first,
-        };
-        put_at(&mut self.found, place, counted);
+        let runs = before.runs + 1;
+        put_at(&mut self.found, place, runs);
         Ok(())
     }
 
@@ -136,24 +138,24 @@ impl Findings {
     }
 }
 
-/// Replaces the counts of the result at a place.
-fn put_at(found: &mut IndexMap<String, Counted>, place: usize, counted: Counted)
-    requires { place < index_map_len found.old }
-    ensures { found.new.entries ≡ set_value_at found.old.entries place counted }
+/// Replaces the number of runs that had the result at a place.
+fn put_at(found: &mut IndexMap<String, Counted>, place: usize, runs: u32)
+    ensures { (text : String Allocator) (counted : CountedValue) → slice_get found.old.entries place ≡ Some (text, counted)
+        → found.new.entries ≡ set_value_at found.old.entries place (record counted { runs = runs }) }
 {
     if let Some(value) = found.get_index_mut(place) {
-        *value = counted;
+        value.runs = runs;
     }
 }
 
 /// Appends the lines of a result.
 #[tactic(auto, unfolding(crate::specs::Findings::finding_lines))]
-fn push_result(text: &mut String, found: &str, counted: &Counted) -> Result<(), AllocError>
+fn push_result(text: &mut String, counted: &Counted) -> Result<(), AllocError>
     ensures { OnOk result (string_bytes text.new ≡ string_bytes text.old
-        ++ finding_lines (record { text = found.now; runs = counted.now.runs; first = counted.now.first })) }
+        ++ finding_lines counted.now.runs counted.now.first (string_bytes counted.now.printed)) }
 {
     write!(text, "runs {} first {} ", counted.runs, counted.first)?;
-    text.push_str(found)
+    text.push_str(counted.printed.as_str())
 }
 
 /// The lines of all results found, and that of the unfinished runs.
@@ -175,10 +177,10 @@ fn push_results(text: &mut String, findings: &Findings) -> Result<(), AllocError
     ensures { OnOk result (string_bytes text.new ≡ string_bytes text.old ++ findings_lines findings.now.found) }
 {
     for place in 0..findings.count() {
-        let Some((found, counted)) = findings.found.get_index(place) else {
+        let Some((_, counted)) = findings.found.get_index(place) else {
             unreachable!()
         };
-        push_result(text, found.as_str(), counted)?;
+        push_result(text, counted)?;
     }
     Ok(())
 }

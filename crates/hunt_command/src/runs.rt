@@ -1,6 +1,6 @@
 //! Runs and their results.
 
-ghost use Rattle.std.specs.Prelude.{◌≡◌, ◌≤◌, List, IfErr, IfOk, length, string_bytes};
+ghost use Rattle.std.specs.Prelude.{◌≡◌, ◌≤◌, List, IfErr, IfOk, length, option_map, string_bytes};
 ghost use Rattle.machine_steps.specs.Machines.{AreHome, MachineLists};
 ghost use Rattle.steps.specs.declared.step.Step.{Step};
 ghost use Rattle.trace_commands.specs.CountedReplays.{IsReplayCounted};
@@ -17,6 +17,7 @@ use elf_image::Image;
 use flat_machine::Config;
 use machine_log::{Logged, laws};
 use machine_steps::Machine;
+use observed_words::ObservedWords;
 use schedules::SweepEnd;
 use std::alloc::Global;
 use trace_commands::{drain_counted, exit_status};
@@ -50,7 +51,10 @@ pub(crate) fn run_of(
 /// The result of a run.
 #[derive(Drop)]
 struct RunResult {
+    /// Without a pc.
     text: String,
+    /// With each pc.
+    printed: String,
     end: SweepEnd,
     /// The exit status of the machine.
     status: u8,
@@ -63,10 +67,17 @@ fn result_of(
     config: Config,
     budget: u32,
     number: u32,
+    observed: Option<&ObservedWords>,
 ) -> Result<RunResult, Fault>
     requires words { image.now.shared_words ≡ config.shared_words }
-    ensures result { IfOk result (λ done. IsResultOf config image.now (most_of budget) number
-        (record { text = string_bytes done.text; end = done.end; status = done.status })) }
+    ensures result { IfOk result (λ done.
+        IsResultOf (option_map (λ words. words.now) observed.entry) config image.now (most_of budget) number
+        (record {
+          text = string_bytes done.text;
+          printed = string_bytes done.printed;
+          end = done.end;
+          status = done.status;
+        })) }
     ensures low { IfOk result (λ done. done.status ≤ 1) }
     ensures refused { IfErr result (IsFaultOfSize config) }
 {
@@ -76,31 +87,40 @@ fn result_of(
     let end = observed_run(&mut log, number, budget, &mut tally)?;
     laws::log_is_well_formed(&log);
     let (machine, _, _) = log.into_parts();
-    let (text, status) = drained_result(alloc, machine, end, tally)?;
-    Ok(RunResult { text, end, status })
+    let (text, printed, status) = drained_result(alloc, machine, end, tally, observed)?;
+    Ok(RunResult {
+        text,
+        printed,
+        end,
+        status,
+    })
 }
 
-/// The text and the exit status of a run that ended in this way, after its machine is drained.
+/// The text, without a pc and with each, and the exit status of a run that ended in this way, after its machine is
+/// drained.
 // A separate function, so that neither has many values to drop at each return.
 fn drained_result(
     alloc: Global,
     machine: Machine,
     end: SweepEnd,
     tally: Tally,
-) -> Result<(String, u8), Fault>
+    observed: Option<&ObservedWords>,
+) -> Result<(String, String, u8), Fault>
     requires shown { (opening : MachineLists) × (steps : List Step) × AreHome opening × (length steps ≤ 4194304)
         × IsReplayCounted opening steps machine tally }
     ensures result { IfOk result (λ done. (opening : MachineLists) (steps : List Step) →
         IsReplayCounted opening steps machine tally
-        → IsDrainedTo opening steps machine end (string_bytes done.0) done.1) }
-    ensures low { IfOk result (λ done. done.1 ≤ 1) }
+        → IsDrainedTo (option_map (λ words. words.now) observed.entry) opening steps machine end (string_bytes done.0)
+        (string_bytes done.1) done.2) }
+    ensures low { IfOk result (λ done. done.2 ≤ 1) }
     ensures refused { IfErr result (λ fault. fault ≡ Fault.Memory) }
 {
     let mut machine = machine;
     let mut tally = tally;
     drain_counted(&mut machine, &mut tally)?;
-    let text = result_text(alloc, end, &machine, &tally)?;
-    Ok((text, exit_status(&machine)))
+    let text = result_text(alloc, end, &machine, &tally, observed, false)?;
+    let printed = result_text(alloc, end, &machine, &tally, observed, true)?;
+    Ok((text, printed, exit_status(&machine)))
 }
 
 /// The greater of two exit statuses.
@@ -124,11 +144,13 @@ pub(crate) fn findings_of<G: HuntObserver>(
     budget: u32,
     start: u32,
     runs: u32,
+    observed: Option<&ObservedWords>,
     observer: &mut G,
 ) -> Result<(Findings, u8), Fault>
     requires words { image.now.shared_words ≡ config.shared_words }
     ensures found { IfOk result (λ done.
-        AreFound config image.now (most_of budget) start runs done.0.found done.0.unfinished done.1) }
+        AreFound (option_map (λ words. words.now) observed.entry) config image.now (most_of budget) start runs
+        done.0.found done.0.unfinished done.1) }
     ensures low { IfOk result (λ done. done.1 ≤ 1) }
     ensures refused { IfErr result (IsFaultOfSize config) }
 {
@@ -136,8 +158,13 @@ pub(crate) fn findings_of<G: HuntObserver>(
     let mut greatest = 0;
     for place in 0..runs {
         let number = start.wrapping_add(place);
-        let RunResult { text, end, status } = result_of(alloc, image, config, budget, number)?;
-        findings.add(text, number)?;
+        let RunResult {
+            text,
+            printed,
+            end,
+            status,
+        } = result_of(alloc, image, config, budget, number, observed)?;
+        findings.add(text, printed, number)?;
         findings.note_end(end, number)?;
         greatest = greater(status, greatest);
         observer.progress(place + 1, findings.count());

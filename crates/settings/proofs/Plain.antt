@@ -352,15 +352,16 @@ hunt_are : (file : Text) (words : List Text) → HasFile (codes "hunt") file wor
     IsPlain s words
 unfolding name_of row hunt_rows
 hunt_are file words named (asked.Hunt h) said =
-    let sizes = said.1.5 in
-    let budget = said.1.6 in
-    let runs = said.1.7 in
-    let start = said.1.8 in (
+    let sizes = said.1.6 in
+    let budget = said.1.7 in
+    let runs = said.1.8 in
+    let start = said.1.9 in (
       file_read file h.file.now words named said.1.0,
       no_text h.trace said.1.1,
-      unset h.overwrite said.1.2.0,
-      unset h.expect_one said.1.3.0,
-      unset h.quiet said.1.4.0,
+      no_text h.observe said.1.2,
+      unset h.overwrite said.1.3.0,
+      unset h.expect_one said.1.4.0,
+      unset h.quiet said.1.5.0,
       (sizes.0.0, sizes.1.0, sizes.2.0, sizes.3.0, sizes.4.0),
       budget.0,
       runs.0,
@@ -369,7 +370,7 @@ hunt_are file words named (asked.Hunt h) said =
 hunt_are file words named (asked.Trace d r) said = no_trace d (codes "hunt") refl said.0
 hunt_are file words named other said = apart (name_of other) (codes "hunt") refl said.0
 
--- `hunt FILE` gives the file, no trace, no flag, and the default of each number.
+-- `hunt FILE` gives the file, no trace, no list, no flag, and the default of each number.
 hunt_given : (file : Text) (words : List Text) → HasFile (codes "hunt") file words → GivePlain words
 hunt_given file words named = give _ words (codes "hunt") (hunt_rows file) (rw named.1 (hunt_met named.0 file named.2)) (hunt_are file words named)
 
@@ -436,21 +437,22 @@ explore_are : (file : Text) (words : List Text) → HasFile (codes "explore") fi
     → (name_of s ≡ codes "explore") × AreOf (explore_rows file) s → IsPlain s words
 unfolding name_of row explore_rows
 explore_are file words named (asked.Explore x) said =
-    let sizes = said.1.5 in
-    let states = said.1.6 in (
+    let sizes = said.1.6 in
+    let states = said.1.7 in (
       file_read file x.file.now words named said.1.0,
       no_text x.trace said.1.1,
-      unset x.each said.1.2.0,
-      unset x.every said.1.3.0,
-      unset x.quiet said.1.4.0,
+      no_text x.observe said.1.2,
+      unset x.each said.1.3.0,
+      unset x.every said.1.4.0,
+      unset x.quiet said.1.5.0,
       (sizes.0.0, sizes.1.0, sizes.2.0, sizes.3.0, sizes.4.0),
       states.0,
-      said.1.7,
+      said.1.8,
     )
 explore_are file words named (asked.Trace d r) said = no_trace d (codes "explore") refl said.0
 explore_are file words named other said = apart (name_of other) (codes "explore") refl said.0
 
--- `explore FILE` gives the file, no trace, no flag, no witness, and the default of each number.
+-- `explore FILE` gives the file, no trace, no list, no flag, no witness, and the default of each number.
 explore_given : (file : Text) (words : List Text) → HasFile (codes "explore") file words → GivePlain words
 explore_given file words named =
     give _ words (codes "explore") (explore_rows file) (rw named.1 (explore_met named.0 file named.2)) (explore_are file words named)

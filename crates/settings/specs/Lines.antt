@@ -92,12 +92,14 @@ GivesSession rows d = IsPath (codes "FILE") rows d.file.now
 abbrev pub GivesExplore : List Row → Explore → Type 0
 GivesExplore rows x = IsPath (codes "FILE") rows x.file.now
     × IsOption (codes "trace") rows (option_map (λ t. t.now) x.trace)
+    × IsOption (codes "observe") rows (option_map (λ list. list.now) x.observe)
     × IsFlag (codes "each") rows x.each × IsFlag (codes "every") rows x.every × IsFlag (codes "quiet") rows x.quiet
     × AreSizes rows x.sizes × IsNumber states rows x.states × IsChoice witness rows x.witness
 
 abbrev pub GivesHunt : List Row → Hunt → Type 0
 GivesHunt rows h = IsPath (codes "FILE") rows h.file.now
     × IsOption (codes "trace") rows (option_map (λ prefix. prefix.now) h.trace)
+    × IsOption (codes "observe") rows (option_map (λ list. list.now) h.observe)
     × IsFlag (codes "overwrite") rows h.overwrite × IsFlag (codes "expect-one") rows h.expect_one
     × IsFlag (codes "quiet") rows h.quiet × AreSizes rows h.sizes
     × IsNumber steps rows h.budget × IsNumber runs rows h.runs × IsNumber start rows h.start

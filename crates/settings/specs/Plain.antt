@@ -55,10 +55,10 @@ IsPlain (asked.Run r) words = HasFile (codes "run") r.file.now words
     × (r.trace ≡ None) × (r.sweep ≡ false) × (r.no_log ≡ false) × (r.quiet ≡ false)
     × AreUsual r.sizes × (r.budget ≡ 10000000) × (r.start ≡ 1)
 IsPlain (asked.Hunt h) words = HasFile (codes "hunt") h.file.now words
-    × (h.trace ≡ None) × (h.overwrite ≡ false) × (h.expect_one ≡ false) × (h.quiet ≡ false)
+    × (h.trace ≡ None) × (h.observe ≡ None) × (h.overwrite ≡ false) × (h.expect_one ≡ false) × (h.quiet ≡ false)
     × AreUsual h.sizes × (h.budget ≡ 100000) × (h.runs ≡ 1000) × (h.start ≡ 1)
 IsPlain (asked.Explore x) words = HasFile (codes "explore") x.file.now words
-    × (x.trace ≡ None) × (x.each ≡ false) × (x.every ≡ false) × (x.quiet ≡ false)
+    × (x.trace ≡ None) × (x.observe ≡ None) × (x.each ≡ false) × (x.every ≡ false) × (x.quiet ≡ false)
     × AreUsual x.sizes × (x.states ≡ 1000000) × (x.witness ≡ None)
 IsPlain (asked.Trace c r) words = HasTrace (trace_name c) r words
 IsPlain (asked.Order o) words = HasTrace (codes "order") o.replay words × TakesAll o

@@ -153,6 +153,8 @@ pub struct Explore<'a> {
     pub file: &'a str,
     /// Where to write the trace of a witness, if anywhere.
     pub trace: Option<&'a str>,
+    /// The list of the words by which results are observed, if given. It may be no list.
+    pub observe: Option<&'a str>,
     /// Whether to list every result. If not, one result stands for all that exchanges of alike processors make of it.
     pub each: bool,
     /// Whether to explore every `k` from 0 to 6, and print a line for each. If not, only `sizes.k` is explored.
@@ -175,6 +177,8 @@ pub struct Hunt<'a> {
     pub file: &'a str,
     /// The beginning of the names of the traces to write, if any.
     pub trace: Option<&'a str>,
+    /// The list of the words by which results are observed, if given. It may be no list.
+    pub observe: Option<&'a str>,
     /// Whether the traces may overwrite existing files.
     pub overwrite: bool,
     /// Whether all runs are expected to come to one result.

@@ -277,6 +277,7 @@ fn explore<'a>(matches: &ArgMatches<'a>) -> Explore<'a>
     Explore {
         file: path(matches, "FILE"),
         trace: option(matches, "trace"),
+        observe: option(matches, "observe"),
         each: flag(matches, "each"),
         every: flag(matches, "every"),
         quiet: flag(matches, "quiet"),
@@ -293,6 +294,7 @@ fn hunt<'a>(matches: &ArgMatches<'a>) -> Hunt<'a>
     Hunt {
         file: path(matches, "FILE"),
         trace: option(matches, "trace"),
+        observe: option(matches, "observe"),
         overwrite: flag(matches, "overwrite"),
         expect_one: flag(matches, "expect-one"),
         quiet: flag(matches, "quiet"),

@@ -27,6 +27,7 @@ use flat_machine::Config;
 use hunt_command::{Hunt as Hunted, HuntProgress, NoHuntProgress, hunt_command};
 use link::{LinkRead, LinkWrite, Meter};
 use machine_picture::Svg;
+use observed_words::ObservedWords;
 use processor_threads::Open;
 use run_command::{Progress, run_command, threaded_run_command, unlogged_run_command};
 use settings::{
@@ -361,12 +362,41 @@ fn explore_file<'a, R: Files + Clock + Eprint + AllocGlobal, W: LinkWrite, E: Wr
     if explore.witness.is_some() != explore.trace.is_some() {
         return Err(Refusal::Half);
     }
+    let words = words_of(rt.alloc(), explore.observe, &explore.sizes)?;
     let mut file = Meter::new(open_beside(rt, explore.file, explore.trace, reason)?);
     let mut trace = trace_to(rt, explore.trace, reason);
-    Ok(explore_image(rt, &mut file, explore, terminal, &mut trace, out, err))
+    let config = config_of(&explore.sizes);
+    let asked = Asked {
+        limit: explore.states,
+        each: explore.each,
+        witness: explore.witness.unwrap_or(0),
+        observed: words.as_ref(),
+    };
+    let shown = terminal && !explore.quiet;
+    let every = explore.every;
+    Ok(explore_image(
+        rt, &mut file, config, asked, every, shown, &mut trace, out, err,
+    ))
 }
 
-/// Explores an image. The progress of the search is reported on a terminal.
+/// The words that a list names, on a machine of these sizes, or None if no list is given.
+fn words_of<'a>(
+    alloc: Global,
+    list: Option<&'a str>,
+    sizes: &Sizes,
+) -> Result<Option<ObservedWords>, Refusal<'a>> {
+    let Some(list) = list else {
+        return Ok(None);
+    };
+    match ObservedWords::of_list(alloc, list, sizes.words) {
+        Ok(Some(words)) => Ok(Some(words)),
+        Ok(None) => Err(Refusal::NoList(list, sizes.words)),
+        Err(_) => Err(Refusal::Memory),
+    }
+}
+
+/// Explores an image, on a machine of one size or of every size. The progress of the search is shown, if it is asked
+/// for.
 fn explore_image<
     F: LinkRead,
     T: LinkWrite,
@@ -376,8 +406,10 @@ fn explore_image<
 >(
     rt: &R,
     file: &mut F,
-    explore: &Explore<'_>,
-    terminal: bool,
+    config: Config,
+    asked: Asked<'_>,
+    every: bool,
+    shown: bool,
     trace: &mut Option<T>,
     out: &mut W,
     err: &mut E,
@@ -387,11 +419,32 @@ fn explore_image<
     requires works { W.has_failed out.old ≡ false }
 {
     let alloc = rt.alloc();
-    if terminal && !explore.quiet {
+    if shown {
         let mut observer = SearchProgress::new(rt, rt);
-        explore_watched(alloc, file, explore, trace, &mut observer, out, err)
+        explore_watched(
+            alloc,
+            file,
+            config,
+            asked,
+            every,
+            trace,
+            &mut observer,
+            out,
+            err,
+        )
     } else {
-        explore_watched(alloc, file, explore, trace, &mut NoProgress, out, err)
+        let mut observer = NoProgress;
+        explore_watched(
+            alloc,
+            file,
+            config,
+            asked,
+            every,
+            trace,
+            &mut observer,
+            out,
+            err,
+        )
     }
 }
 
@@ -399,7 +452,9 @@ fn explore_image<
 fn explore_watched<F: LinkRead, T: LinkWrite, G: SearchObserver, W: LinkWrite, E: Write>(
     alloc: Global,
     file: &mut F,
-    explore: &Explore<'_>,
+    config: Config,
+    asked: Asked<'_>,
+    every: bool,
     trace: &mut Option<T>,
     observer: &mut G,
     out: &mut W,
@@ -409,13 +464,7 @@ fn explore_watched<F: LinkRead, T: LinkWrite, G: SearchObserver, W: LinkWrite, E
     requires saves { IsWorking T.has_failed trace.old }
     requires works { W.has_failed out.old ≡ false }
 {
-    let config = config_of(&explore.sizes);
-    let asked = Asked {
-        limit: explore.states,
-        each: explore.each,
-        witness: explore.witness.unwrap_or(0),
-    };
-    if explore.every {
+    if every {
         explore_every_size(alloc, file, config, asked, observer, out, err)
     } else {
         explore_command(alloc, file, config, asked, trace, observer, out, err)
@@ -434,6 +483,7 @@ fn hunt_file<'a, R: Files + Clock + Eprint + AllocGlobal, W: LinkWrite, E: Write
 ) -> Result<u8, Refusal<'a>>
     requires works { W.has_failed out.old ≡ false }
 {
+    let words = words_of(rt.alloc(), hunt.observe, &hunt.sizes)?;
     let mut file = Meter::new(open(rt, hunt.file, reason)?);
     let config = config_of(&hunt.sizes);
     let runs = Hunted {
@@ -441,6 +491,7 @@ fn hunt_file<'a, R: Files + Clock + Eprint + AllocGlobal, W: LinkWrite, E: Write
         runs: hunt.runs,
         start: hunt.start,
         expect_one: hunt.expect_one,
+        observed: words.as_ref(),
     };
     let alloc = rt.alloc();
     let mut traces = match hunt.trace {

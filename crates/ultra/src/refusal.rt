@@ -17,6 +17,10 @@ pub(crate) enum Refusal<'a> {
     Every,
     /// A run without a log is asked for on threads, or with a trace.
     NoLog,
+    /// This text is no list of shared words of a machine that has this many.
+    NoList(&'a str, u32),
+    /// There is no memory for what the command line asks for.
+    Memory,
 }
 
 impl Refusal<'_> {
@@ -32,8 +36,23 @@ impl Refusal<'_> {
             Refusal::Half => refuse("--witness and --trace go together", err),
             Refusal::Every => refuse("--every goes with neither --witness nor --trace", err),
             Refusal::NoLog => refuse("--no-log goes with --sweep, and not with --trace", err),
+            Refusal::NoList(list, words) => refuse_list(list, words, err),
+            Refusal::Memory => report_fault(Fault::Memory, err),
         }
     }
+}
+
+/// Reports that a text is no list of shared words of a machine that has this many, as the parser of the command line
+/// reports a wrong number, and returns the exit status.
+fn refuse_list<E: Write>(list: &str, words: u32, err: &mut E) -> u8 {
+    let last = words.saturating_sub(1);
+    // If standard error fails too, the exit status alone reports it.
+    let _ = writeln!(
+        err,
+        "error: invalid value '{list}' for '--observe <LIST>': not numbers and ranges in 0..={last}, the machine's shared \
+         words (--words)"
+    );
+    REFUSED
 }
 
 /// Reports what is wrong with the command line, and returns the exit status.

@@ -29,25 +29,27 @@ struct Ran {
 }
 
 /// A search up to exchanges of alike processors, without a witness.
-const fn up_to_exchanges(limit: u32) -> Asked {
+const fn up_to_exchanges(limit: u32) -> Asked<'static> {
     Asked {
         limit,
         each: false,
         witness: 0,
+        observed: None,
     }
 }
 
 /// A search that lists each result by itself, without a witness.
-const fn each(limit: u32) -> Asked {
+const fn each(limit: u32) -> Asked<'static> {
     Asked {
         limit,
         each: true,
         witness: 0,
+        observed: None,
     }
 }
 
 /// The outcome of exploring an image on a machine of this size.
-fn explore(alloc: Global, file: &[u8], config: Config, asked: Asked) -> Ran {
+fn explore(alloc: Global, file: &[u8], config: Config, asked: Asked<'_>) -> Ran {
     let mut out = Meter::new(Vec::new(alloc));
     let mut err = Vec::new(alloc);
     let mut trace: Option<Meter<Vec<u8>>> = None;
@@ -69,7 +71,7 @@ fn explore(alloc: Global, file: &[u8], config: Config, asked: Asked) -> Ran {
 }
 
 /// The outcome of exploring an image on machines of every size.
-fn explore_sizes(alloc: Global, file: &[u8], config: Config, asked: Asked) -> Ran {
+fn explore_sizes(alloc: Global, file: &[u8], config: Config, asked: Asked<'_>) -> Ran {
     let mut out = Meter::new(Vec::new(alloc));
     let mut err = Vec::new(alloc);
     let status = explore_every_size(

@@ -8,6 +8,7 @@ mod devices;
 use flat_machine::Config;
 use hunt_command::{Hunt, HuntObserver, Traces, UNEXPECTED, UNFINISHED, hunt_command};
 use link::Meter;
+use observed_words::ObservedWords;
 use std::alloc::{AllocError, AllocGlobal, Global};
 use std::io::Write;
 use std::process::Abort;
@@ -100,16 +101,17 @@ struct Ran {
 
 /// Hunts on this image, with a budget of 1,000 a run, and keeps the traces.
 fn hunted(image: &[u8], config: Config, start: u32, runs: u32, kept: Kept) -> Ran {
-    hunted_for(image, config, start, runs, kept, false)
+    hunted_for(image, config, start, runs, kept, None, false)
 }
 
-/// Hunts in the same way. It is said whether one result is expected.
+/// Hunts in the same way. It is said which words are observed, and whether one result is expected.
 fn hunted_for(
     image: &[u8],
     config: Config,
     start: u32,
     runs: u32,
     kept: Kept,
+    observed: Option<&ObservedWords>,
     expect_one: bool,
 ) -> Ran {
     let alloc = kept.alloc;
@@ -118,6 +120,7 @@ fn hunted_for(
         runs,
         start,
         expect_one,
+        observed,
     };
     let mut heard = Heard {
         runs: 0,
@@ -163,19 +166,19 @@ fn one_result(rt: HostRuntime) -> Result<(), Fail> {
         (
             "ecall",
             7,
-            "runs 3 first 7 over\nprocessor 0 halt 00 console -\n",
+            "runs 3 first 7 over\nprocessor 0 pc 00010000 halt 00 console -\n",
             0,
         ),
         (
             "addi x17, x0, 1\naddi x10, x0, 65\necall\nebreak",
             4_294_967_295,
-            "runs 3 first 4294967295 over\nprocessor 0 fault 8 console 41\n",
+            "runs 3 first 4294967295 over\nprocessor 0 pc 0001000c fault 8 console 41\n",
             1,
         ),
         (
             "lui x5, 0x80000\nsw x5, 4(x5)\nloop: jal x0, loop",
             0,
-            "runs 3 first 0 budget\nprocessor 0 run console -\nword 1 80000000\nunfinished 0 1 2\n",
+            "runs 3 first 0 budget\nprocessor 0 pc 00010008 run console -\nword 1 80000000\nunfinished 0 1 2\n",
             UNFINISHED,
         ),
     ] {
@@ -254,20 +257,32 @@ fn lost_add(rt: HostRuntime) -> Result<(), Fail> {
 }
 
 /// If one result is expected, more than one has a status of its own, but that of a fault or of an unfinished run comes
-/// before it.
+/// before it. Results that differ in words that are not observed are one.
 #[test]
 fn expected_results(rt: HostRuntime) -> Result<(), Fail> {
     let alloc = rt.alloc();
     let faults = format!(in alloc; "{SECOND}ebreak\nfirst: jal x0, first")?;
     let waits = format!(in alloc; "{SECOND}wait: jal x0, wait\nfirst: ecall")?;
-    for (text, results, status) in [
-        ("ecall", 1, 0),
-        (ADDS, 2, UNEXPECTED),
-        (faults.as_str(), 2, 1),
-        (waits.as_str(), 2, UNFINISHED),
+    let other = ObservedWords::of_list(alloc, "1-3,7", 8)?.ok_or("no list")?;
+    let first = ObservedWords::of_list(alloc, "2,0", 8)?.ok_or("no list")?;
+    for (text, observed, results, status) in [
+        ("ecall", None, 1, 0),
+        (ADDS, None, 2, UNEXPECTED),
+        (ADDS, Some(&first), 2, UNEXPECTED),
+        (ADDS, Some(&other), 1, 0),
+        (faults.as_str(), None, 2, 1),
+        (waits.as_str(), None, 2, UNFINISHED),
     ] {
         let image = image_of(alloc, text)?;
-        let ran = hunted_for(image.as_slice(), size(1), 1, 24, keeping(alloc), true);
+        let ran = hunted_for(
+            image.as_slice(),
+            size(1),
+            1,
+            24,
+            keeping(alloc),
+            observed,
+            true,
+        );
         assert_same!(rt; ran.heard.results, results);
         assert_same!(rt; ran.status, status);
         assert_same!(rt; ran.err.len(), 0);

@@ -86,6 +86,7 @@ complete -c ultra -n '__ultra_has_command run' -l help -d 'Print help'
 complete -c ultra -n '__ultra_wants_more run 1 --trace --k --c --b --r --words --budget --start' -F
 
 complete -c ultra -n '__ultra_has_command hunt' -l trace -r -F -d 'Write a trace for each result, for `ultra replay`, to PREFIX followed by the run\'s number and `.trace`'
+complete -c ultra -n '__ultra_has_command hunt' -l observe -x -d 'Words by which runs differ, as `0-3,8`; results have no others [default: all]'
 complete -c ultra -n '__ultra_has_command hunt' -l overwrite -d 'Overwrite traces that exist; without it the hunt is refused if one does'
 complete -c ultra -n '__ultra_has_command hunt' -l expect-one -d 'Expect all runs to come to one result; if they do not, the exit status says so'
 complete -c ultra -n '__ultra_has_command hunt' -l quiet -d 'Show no progress line on a terminal'
@@ -98,9 +99,10 @@ complete -c ultra -n '__ultra_has_command hunt' -l budget -x -d 'Steps that each
 complete -c ultra -n '__ultra_has_command hunt' -l runs -x -d 'Runs to take, 1 to 1000000 [default: 1000]'
 complete -c ultra -n '__ultra_has_command hunt' -l start -x -d 'Number of the first run, which decides its choices, 0 to 4294967295; the next run has the next number [default: 1]'
 complete -c ultra -n '__ultra_has_command hunt' -l help -d 'Print help'
-complete -c ultra -n '__ultra_wants_more hunt 1 --trace --k --c --b --r --words --budget --runs --start' -F
+complete -c ultra -n '__ultra_wants_more hunt 1 --trace --observe --k --c --b --r --words --budget --runs --start' -F
 
 complete -c ultra -n '__ultra_has_command explore' -l trace -r -F -d 'Where to write the steps to the result that --witness names, for `ultra replay`; opened after they are found'
+complete -c ultra -n '__ultra_has_command explore' -l observe -x -d 'Words by which results differ, as `0-3,8`; they are printed without others [default: all]'
 complete -c ultra -n '__ultra_has_command explore' -l each -d 'Print every result by itself; alike processors are not exchanged'
 complete -c ultra -n '__ultra_has_command explore' -l every -d 'Explore every k from 0 to 6, and print a line for each; not with --witness'
 complete -c ultra -n '__ultra_has_command explore' -l quiet -d 'Show no progress line on a terminal'
@@ -112,7 +114,7 @@ complete -c ultra -n '__ultra_has_command explore' -l words -x -d 'Shared words 
 complete -c ultra -n '__ultra_has_command explore' -l states -x -d 'Give up when this many states are found, 1 to 4294967295 [default: 1000000]'
 complete -c ultra -n '__ultra_has_command explore' -l witness -x -d 'Write the trace of a way to the result of this number, or with 0 to the first state without a way to an end; goes with --trace'
 complete -c ultra -n '__ultra_has_command explore' -l help -d 'Print help'
-complete -c ultra -n '__ultra_wants_more explore 1 --trace --k --c --b --r --words --states --witness' -F
+complete -c ultra -n '__ultra_wants_more explore 1 --trace --observe --k --c --b --r --words --states --witness' -F
 
 complete -c ultra -n '__ultra_has_command replay' -l words -x -d 'Shared words of four bytes that the machine has, 1 to 262144 [default: 1024]'
 complete -c ultra -n '__ultra_has_command replay' -l help -d 'Print help'

@@ -3,6 +3,7 @@
 use super::{config_of, each, up_to_exchanges};
 use explore_command::{Asked, NoProgress, explore_command};
 use link::Meter;
+use observed_words::ObservedWords;
 use std::alloc::Global;
 use std::test::Fail;
 use test_support::{assert_same, image_of, metered};
@@ -30,7 +31,7 @@ struct Ran {
 }
 
 /// Searches an image on 2^k processors for the result of this number.
-fn explored(alloc: Global, file: &[u8], k: u8, search: Asked, witness: u32) -> Ran {
+fn explored(alloc: Global, file: &[u8], k: u8, search: Asked<'_>, witness: u32) -> Ran {
     let mut out = Meter::new(Vec::new(alloc));
     let mut err = Vec::new(alloc);
     let mut trace = Some(Meter::new(Vec::new(alloc)));
@@ -67,12 +68,19 @@ fn replayed(alloc: Global, trace: &[u8], file: &[u8]) -> Vec<u8> {
 }
 
 /// Both sums have a witness: 2 if one processor adds after the other, and 1 if both load first. There is no third
-/// result, and no state is stuck. Up to exchanges, the sum of 1 is found first.
+/// result, and no state is stuck. Up to exchanges, the sum of 1 is found first. If the sum is not observed, there is no
+/// second result, and the witness of the first leads to the sum that is found first.
 #[test]
 fn results_are_come_to(rt: HostRuntime) -> Result<(), Fail> {
     let alloc = rt.alloc();
     let file = image_of(alloc, LOST)?;
+    let words = ObservedWords::of_list(alloc, "15,1-14", 16)?.ok_or("no list")?;
+    let apart = Asked {
+        observed: Some(&words),
+        ..each(100)
+    };
     for (number, search, sum) in [
+        (1, apart, "00000002"),
         (1, each(100), "00000002"),
         (2, each(100), "00000001"),
         (1, up_to_exchanges(100), "00000001"),
@@ -87,13 +95,28 @@ fn results_are_come_to(rt: HostRuntime) -> Result<(), Fail> {
         )?;
         assert_same!(rt; replayed(alloc, ran.trace.as_slice(), file.as_slice()).as_slice(), report.as_bytes());
     }
-    for (number, said) in [
-        (0, "error: an end can be reached from each state\n"),
-        (3, "error: there is no result 3\n"),
-        (4_294_967_295, "error: there is no result 4294967295\n"),
+    let all = [each(100), up_to_exchanges(100)];
+    for (number, searches, said) in [
+        (
+            0,
+            all.as_slice(),
+            "error: an end can be reached from each state\n",
+        ),
+        (3, all.as_slice(), "error: there is no result 3\n"),
+        (
+            4_294_967_295,
+            all.as_slice(),
+            "error: there is no result 4294967295\n",
+        ),
+        (
+            0,
+            [apart].as_slice(),
+            "error: an end can be reached from each state\n",
+        ),
+        (2, [apart].as_slice(), "error: there is no result 2\n"),
     ] {
-        for search in [each(100), up_to_exchanges(100)] {
-            let ran = explored(alloc, file.as_slice(), 1, search, number);
+        for search in searches {
+            let ran = explored(alloc, file.as_slice(), 1, *search, number);
             assert_same!(rt; ran.status, 2);
             assert_same!(rt; ran.out.len(), 0);
             assert_same!(rt; ran.trace.len(), 0);

@@ -7,13 +7,14 @@ use std::test::Fail;
 use test_support::{EBREAK, Sink, assert_same};
 
 /// The result of runs of `ebreak` on one processor.
-const STOPPED: &[u8] = b"runs 2 first 1 over\nprocessor 0 fault 8 console -\n";
+const STOPPED: &[u8] = b"runs 2 first 1 over\nprocessor 0 pc 00010000 fault 8 console -\n";
 
-const HUNT: Hunt = Hunt {
+const HUNT: Hunt<'static> = Hunt {
     budget: 10,
     runs: 2,
     start: 1,
     expect_one: false,
+    observed: None,
 };
 
 #[test]

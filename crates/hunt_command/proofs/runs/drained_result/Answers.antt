@@ -28,5 +28,6 @@ returns-clause-result c = λ opening steps replay_counted.
       tally = c.drain_counted.new.tally;
       replay_counted = c.in_ok-drain_counted.ensures.taken opening steps replay_counted;
       is = c.in_ok-text.ensures;
+      printed_is = c.in_ok-printed.ensures;
       exit = c.exit_status.ensures;
     }

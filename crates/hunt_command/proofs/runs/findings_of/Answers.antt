@@ -7,13 +7,13 @@ use Rattle.hunt_command.proofs.runs.findings_of.Goals as goal
 pub loop-place-init : goal.loop-place-init
 loop-place-init g c =
     rw c.new-findings.ensures
-    (record { found = none_found c.args.config c.args.image.now (most_of c.args.budget) c.args.start; noted = refl; low = omega arith })
+    (record { found = none_found _ c.args.config c.args.image.now (most_of c.args.budget) c.args.start; noted = refl; low = omega arith })
 
 pub loop-place-preserved : goal.loop-place-preserved
 loop-place-preserved g c =
     let i = c.loop-place.invariant in
     record {
-      found = one_observed _ _ _ _ _ _ _ _ _ _ _ _ i.found (search rules) c.in_ok-text.ensures.result c.in_ok-add.ensures c.in_ok-note_end.ensures
+      found = one_observed _ _ _ _ _ _ _ _ _ _ _ _ _ i.found (search rules) c.in_ok-text.ensures.result c.in_ok-add.ensures c.in_ok-note_end.ensures
           (search rules);
       noted = ap (λ (f : FindingsState). f.noted) c.in_ok-note_end.ensures
           ∙ (ap (λ (f : FindingsState). f.noted) c.in_ok-add.ensures ∙ ap (λ n. n + 1) i.noted);

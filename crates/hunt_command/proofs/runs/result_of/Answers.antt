@@ -1,5 +1,5 @@
 use Rattle.std.proofs.Common.{◌^◌, ◌∙◌, sym, ap, subst}
-use Rattle.std.specs.Prelude.{replicate, string_bytes}
+use Rattle.std.specs.Prelude.{option_map, replicate, string_bytes}
 use Rattle.flat_machine.specs.declared.config.Config.{Config}
 use Rattle.machine_steps.specs.Machines.{MachineLists}
 use Rattle.schedules.specs.Sweeps.{most_of}
@@ -37,9 +37,12 @@ returns-clause-result c =
     c.in_ok-end.ensures.asked.opening
     (c.in_ok-tally.ensures ∙ ap (λ n. record { shown = replicate n nothing_shown; observed = 0 })
     (c.processors.ensures ∙ ap (λ (d : Config). 2 ^ d.k) c.config.ensures.config)) c.in_ok-end.ensures.noted in
+    let observed = option_map (λ words. words.now) c.args.observed in
     let text = string_bytes c.in_ok-text.text in
-    result_of_drain c.args.config c.args.image.now (most_of c.args.budget) c.args.number m c.new-log.result log c.in_ok-end.end text c.in_ok-text.status
+    let printed = string_bytes c.in_ok-text.printed in
+    result_of_drain observed c.args.config c.args.image.now (most_of c.args.budget) c.args.number m c.new-log.result log c.in_ok-end.end text printed
+    c.in_ok-text.status
     c.in_ok-machine.ensures.opening c.new-log.ensures c.in_ok-end.ensures.asked
-    (subst (λ (n : MachineLists). IsDrainedTo log.opening log.steps n c.in_ok-end.end text c.in_ok-text.status) machine
+    (subst (λ (n : MachineLists). IsDrainedTo observed log.opening log.steps n c.in_ok-end.end text printed c.in_ok-text.status) machine
     (c.in_ok-text.ensures.result log.opening log.steps
     (subst (λ (n : MachineLists). IsReplayCounted log.opening log.steps n c.observed_run.new.tally) (sym machine) replay_counted)))

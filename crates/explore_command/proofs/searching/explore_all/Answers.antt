@@ -1,11 +1,11 @@
-use Rattle.std.proofs.Common.{◌<◌, ◌^◌, List, ℕ, not, ap, ap₂, subst, ◌∙◌}
+use Rattle.std.proofs.Common.{◌<◌, ◌^◌, List, ℕ, None, not, ap, ap₂, subst, ◌∙◌}
 use Rattle.flat_machine.specs.declared.config.Config.{Config}
 use Rattle.exploration.specs.Endings.{AreSingle}
 use Rattle.exploration.specs.local_reduction.Results.{FinalResult}
 use Rattle.explore_command.specs.Explorations.{IsExitOf, IsWitnessed, problem_of}
 use Rattle.trace_commands.specs.TraceReports.{trace_output}
 use Rattle.explore_command.specs.Lines.{results_lines}
-use Rattle.explore_command.proofs.searching.explore_machine.Goals as goal
+use Rattle.explore_command.proofs.searching.explore_all.Goals as goal
 
 pub returns-clause-lines : goal.returns-clause-lines
 returns-clause-lines g c =
@@ -26,6 +26,6 @@ returns-clause-lines g c =
       };
       lines = c.in_ok-text.ensures ∙ shown;
       exit = subst (λ rs. IsExitOf rs found.termination c.exit_status.result) c.as_slice-results.ensures.value c.exit_status.ensures.exit;
-      witnessed = subst (λ image. IsWitnessed (problem_of c.args.config image c.args.asked) found.results.items
+      witnessed = subst (λ image. IsWitnessed None (problem_of c.args.config image c.args.asked) found.results.items
           (trace_output g.T.Write.contents c.args.trace.now c.save_witness.new.trace)) c.image.ensures c.in_ok-save_witness.ensures.saved;
     }

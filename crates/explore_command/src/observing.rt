@@ -1,0 +1,117 @@
+//! The search of a machine whose results are observed by chosen words.
+//!
+//! A search keeps the way to the result of one number. Which result first has the wanted part is known only after the
+//! search, so a second search finds the way to it.
+
+ghost use Rattle.std.specs.Prelude.{◌≡◌, ◌≤◌, Bool, List, Some, IfErr, IfOk, OnOk, string_bytes};
+ghost use Rattle.exploration.specs.state_graph.Laws.{IsTerminationOf};
+ghost use Rattle.machine_steps.specs.Machines.{AreHome, IsIdle};
+ghost use Rattle.machine_steps.specs.Openings.{flat_state};
+ghost use Rattle.machine_steps.specs.Runs.{IsOpening};
+ghost use Rattle.trace_commands.specs.TraceReports.{IsWorking, trace_output};
+ghost use Rattle.explore_command.specs.Causes.{IsNotFound, IsNotLedTo, IsNotSearched};
+ghost use Rattle.explore_command.specs.Explorations.{AreExplored, AreResultsOf, IsWanted, problem_of};
+ghost use Rattle.explore_command.specs.Parts.{AreParts, texts_of};
+ghost use Rattle.trace_file.specs.Traces.{IsTrace, trace_of};
+
+use crate::command::Asked;
+use crate::parts::{Parts, parts_of, parts_text};
+use crate::refused::Refused;
+use crate::searching::{find_results, search_of};
+use crate::status::exit_status;
+use crate::witness::{has_witness, witness_on};
+use command_io::Fault;
+use exploration::{Explored, Search, SearchObserver};
+use flat_machine::Config;
+use link::LinkWrite;
+use machine_log::Logged;
+use machine_steps::Machine;
+use observed_words::ObservedWords;
+use std::alloc::Global;
+use trace_commands::save;
+
+/// The lines of the different observed parts of the results of a machine that has just opened, and the exit status.
+/// Writes the trace of a way to the first result that has the wanted part, if one is asked for.
+pub(crate) fn explore_observed<T: LinkWrite, G: SearchObserver>(
+    alloc: Global,
+    machine: &Machine,
+    config: Config,
+    asked: Asked<'_>,
+    words: &ObservedWords,
+    trace: &mut Option<T>,
+    observer: &mut G,
+) -> Result<(String, u8), Refused>
+    requires opens { IsOpening config machine.now.image machine.now }
+    requires words { machine.now.image.shared_words ≡ config.shared_words }
+    requires works { IsWorking T.has_failed trace.old }
+    ensures lines { IfOk result (λ done. AreExplored (Some words.now) (problem_of config machine.now.image asked.entry)
+        (trace_output T.contents trace.old trace.new) (string_bytes done.0) done.1) }
+    ensures low { IfOk result (λ done. done.1 ≤ 1) }
+    ensures refused { IfErr result
+        (IsNotFound (Some words.now) (problem_of config machine.now.image asked.entry)
+        (trace_output T.contents trace.old trace.new)) }
+{
+    let found = find_results(alloc, machine, search_of(asked, false), observer)?;
+    let results = found.results.as_slice();
+    let classes = found.classes.as_slice();
+    let parts = parts_of(alloc, results, words)?;
+    let text = parts_text(alloc, &parts, classes, found.states, found.termination)?;
+    if trace.is_some() {
+        let log = wanted_log(alloc, machine, config, asked, &found, &parts, observer)?;
+        save(trace, &config, log.steps())?;
+    }
+    Ok((text, exit_status(results, found.termination)))
+}
+
+/// The log of a way to the first result that has the wanted part.
+fn wanted_log<G: SearchObserver>(
+    alloc: Global,
+    machine: &Machine,
+    config: Config,
+    asked: Asked<'_>,
+    found: &Explored,
+    parts: &Parts,
+    observer: &mut G,
+) -> Result<Logged, Refused>
+    requires opens { IsOpening config machine.now.image machine.now }
+    requires words { machine.now.image.shared_words ≡ config.shared_words }
+    requires all { AreResultsOf machine.now found.now.classes.items found.now.results.items }
+    requires fact { IsTerminationOf (flat_state machine.now) found.now.termination }
+    ensures wanted { IfOk result (λ log. (marks : List Bool) →
+        AreParts marks found.now.results.items (texts_of parts.now.texts.keys) parts.now.firsts.items
+        → IsWanted (Some marks) (problem_of config machine.now.image asked.entry) found.now.results.items log.steps) }
+    ensures trace { IfOk result (λ log. IsTrace (trace_of config log.steps)) }
+    ensures refused { IfErr result (λ refused. (marks : List Bool) →
+        AreParts marks found.now.results.items (texts_of parts.now.texts.keys) parts.now.firsts.items
+        → IsNotLedTo (Some marks) (problem_of config machine.now.image asked.entry) refused) }
+{
+    if !has_witness(parts.count(), found.termination, asked.witness) {
+        return Err(Refused::Unknown);
+    }
+    let Some(number) = parts.first_with(asked.witness) else {
+        return Err(Refused::Missed);
+    };
+    let way = way_to(alloc, machine, asked, number, observer)?;
+    let (image, way) = (machine.image(), way.as_slice());
+    witness_on(alloc, image, config, found, way, number, asked.limit)
+}
+
+/// The way to the result of this number, or for 0 to a state from which no end can be reached.
+fn way_to<G: SearchObserver>(
+    alloc: Global,
+    machine: &Machine,
+    asked: Asked<'_>,
+    number: u32,
+    observer: &mut G,
+) -> Result<Vec<u8>, Fault>
+    requires idle { IsIdle machine.now }
+    requires home { AreHome machine.now }
+    ensures refused { IfErr result (IsNotSearched (flat_state machine.now) asked.entry.limit) }
+{
+    let search = Search {
+        wanted: Some(number),
+        ..search_of(asked, false)
+    };
+    let Explored { way, .. } = find_results(alloc, machine, search, observer)?;
+    Ok(way)
+}
