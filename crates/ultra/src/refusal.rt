@@ -17,6 +17,10 @@ pub(crate) enum Refusal<'a> {
     Every,
     /// A run without a log is asked for on threads, or with a trace.
     NoLog,
+    /// Standard input is to be read for two purposes.
+    InputTwice,
+    /// A trace is to be written to standard output.
+    PrintedTrace,
 }
 
 impl Refusal<'_> {
@@ -32,6 +36,8 @@ impl Refusal<'_> {
             Refusal::Half => refuse("--witness and --trace go together", err),
             Refusal::Every => refuse("--every goes with neither --witness nor --trace", err),
             Refusal::NoLog => refuse("--no-log goes with --sweep, and not with --trace", err),
+            Refusal::InputTwice => refuse("standard input is asked for twice", err),
+            Refusal::PrintedTrace => refuse("a trace is not written to standard output", err),
         }
     }
 }
