@@ -78,14 +78,23 @@ finds_the_late_reset() {
 }
 check 'the session of docs/DEBUGGER.md finds what is wrong with a barrier' finds_the_late_reset
 
+# makes_a_session: writes the lines of a session and its replies.
+makes_a_session() {
+    printf '%s\n' 'write 0 80000000 2a' 'set 0 5 7' 'step 1' cont 'mem 0 80000000 4' 'reg 0 5' 'reg 1 20' 'state 1' quit >"$room/lines"
+    printf '%s\n' ok ok 'at 1' halted 2a000000 00000007 00010008 'halt 00' ok >"$room/replies"
+}
+
+# ends_the_session TRACE: the trace of that session replays to what it showed last.
+ends_the_session() {
+    diff <(printf 'processor %d pc 00010008 halt 00 retired 2 console -\n' 0 1 && echo 'word 0 0000002a') <(./ultra replay "$1" "$room/three.elf")
+}
+
 # A session is saved as a trace. The trace replays to what the session showed last, and its order begins with the
 # debugger's writes. If OUT cannot be written, that is reported after the session; if OUT is FILE, it is refused.
 saves_a_session() {
-    printf '%s\n' 'write 0 80000000 2a' 'set 0 5 7' 'step 1' cont 'mem 0 80000000 4' 'reg 0 5' 'reg 1 20' 'state 1' quit >"$room/lines"
-    printf '%s\n' ok ok 'at 1' halted 2a000000 00000007 00010008 'halt 00' ok >"$room/replies"
+    makes_a_session
     diff "$room/replies" <(debugs 0 --k 1 --trace "$room/session.trace" "$room/three.elf" <"$room/lines") &&
-        diff <(printf 'processor %d pc 00010008 halt 00 retired 2 console -\n' 0 1 && echo 'word 0 0000002a') \
-            <(./ultra replay "$room/session.trace" "$room/three.elf") &&
+        ends_the_session "$room/session.trace" &&
         diff <(printf '%s\n' '0 - poke 80000000 2a word 0 00000000 0000002a' '1 0 poke x5 00000007') \
             <(./ultra order "$room/session.trace" "$room/three.elf" | head -n 2) || return 1
     local port debugger
@@ -95,6 +104,35 @@ saves_a_session() {
         ends 2 'error: OUT is the same file as FILE' ./ultra debug --trace "$room/same.elf" "$room/same.elf" && cmp "$room/three.elf" "$room/same.elf"
 }
 check 'a saved session replays to what it showed, and OUT that cannot be written or is FILE is reported' saves_a_session
+
+# Over standard input and output the replies are those over a connection, and no port is announced. The session ends at
+# `quit` or at the end of the input. An image from standard input leaves no input for the session.
+talks_over_stdio() {
+    makes_a_session
+    diff "$room/replies" <(./ultra debug --stdio --k 1 --trace "$room/session.trace" "$room/three.elf" <"$room/lines") &&
+        ends_the_session "$room/session.trace" &&
+        diff <(echo 00010000) <(echo 'reg 0 20' | ./ultra debug --stdio "$room/three.elf") || return 1
+    if [ -e /dev/full ]; then
+        local ended=0
+        echo quit | ./ultra debug --stdio "$room/three.elf" 2>"$room/err" >/dev/full || ended=$?
+        [ "$ended" -eq 3 ] && diff <(printf '%s\n' 'ultra: link' "  standard output: $no_space_left") "$room/err" || return 1
+    fi
+    ends_with_code 3 link "standard input: $is_a_folder" ./ultra debug --stdio "$room/three.elf" <"$room" &&
+        ends 2 'error: standard input is asked for twice' ./ultra debug --stdio - <"$room/three.elf"
+}
+check 'a session over standard input and output is the one over a connection' talks_over_stdio
+
+# With --port 0 the host chooses a port, which is announced, and at which the debugger listens.
+listens_where_the_host_chooses() {
+    local port debugger
+    : >"$room/listening"
+    ./ultra debug --port 0 "$room/three.elf" >"$room/listening" 2>"$room/complaint" &
+    debugger=$!
+    while kill -0 "$debugger" 2>/dev/null && ! read -r _ port <"$room/listening"; do sleep 0.02; done
+    [ "$port" -gt 0 ] && exec 8<>"/dev/tcp/127.0.0.1/$port" && echo quit >&8 && diff <(echo ok) <(timeout 60 cat <&8) && exec 8>&- &&
+        ends_debugging 0 ''
+}
+check 'with --port 0 a debugger announces the port that the host chooses' listens_where_the_host_chooses
 
 # A port on which another debugger listens.
 finds_its_port_taken() {

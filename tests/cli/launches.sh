@@ -24,6 +24,29 @@ passes_its_input_on() {
 }
 check 'the launcher passes standard input to the program' passes_its_input_on
 
+# `-` is standard input where a file is read, and standard output for the image that `asm` writes.
+takes_a_hyphen() {
+    local text=examples/explore/counter.s command
+    assembles_to "$text" "$room/hyphen.elf" && ./ultra asm - - <"$text" | cmp "$room/hyphen.elf" - &&
+        ./ultra run --sweep --k 1 --trace "$room/hyphen.trace" - <"$room/hyphen.elf" >"$room/report" &&
+        diff "$room/report" <(./ultra replay "$room/hyphen.trace" - <"$room/hyphen.elf") &&
+        diff "$room/report" <(./ultra replay - "$room/hyphen.elf" <"$room/hyphen.trace") &&
+        diff examples/tickets.out <(with_status ./ultra words - <examples/tickets.hex 2>&1) || return 1
+    for command in check dis 'run --sweep' 'explore --k 1' 'hunt --runs 3'; do
+        # shellcheck disable=SC2086
+        diff <(./ultra $command "$room/hyphen.elf" 2>&1) <(./ultra $command - <"$room/hyphen.elf" 2>&1 | sed "s|standard input|$room/hyphen.elf|") || return 1
+    done
+}
+check 'with - a command reads standard input, and asm writes to standard output' takes_a_hyphen
+
+refuses_a_hyphen() {
+    ends_with_code 2 'A1 line 1' 'standard input' ./ultra asm - "$room/none.elf" <<<junk &&
+        ends_with_code 3 link "standard input: $is_a_folder" ./ultra words - <"$room" &&
+        ends 2 'error: standard input is asked for twice' ./ultra order - - </dev/null &&
+        ends 2 'error: a trace is not written to standard output' ./ultra run --trace - "$room/ebreak.elf"
+}
+check 'a fault of standard input names it, and it is read for one purpose alone' refuses_a_hyphen
+
 # ---- where and how
 
 # A launch from another folder, by a link, with a path relative to that folder, in which nothing is written.

@@ -36,9 +36,14 @@ for it in examples/algorithms/{,wrong/}*.s; do
     check "$it ends as worked out by hand on 1 to 16 processors without combining" ends_as_worked_out "$it" 0 4
 done
 
+# spends COMMAND ..: the command uses up its budget, prints nothing, and names the option that reports the run.
+spends() {
+    ends_with_code 4 budget '--unfinished prints where the processors stand' "$@"
+}
+
 # The waiting processors keep the queues of their module full, so the last one never arrives.
 starves_a_barrier() {
-    ends 4 'ultra: budget' ./ultra run --sweep --k 5 --b 0 "$room/barrier.elf" &&
+    spends ./ultra run --sweep --k 5 --b 0 "$room/barrier.elf" &&
         ./ultra run --sweep --k 5 --b 1 "$room/barrier.elf" >"$room/out"
 }
 check 'without combining a barrier of 32 processors starves: budget, status 4' starves_a_barrier
@@ -81,10 +86,23 @@ check 'a run reports the fault of a processor, with status 1' reports_a_fault
 # A run whose budget is used up, in steps of the sweep or in rounds of a thread, leaves no report and no trace.
 spends_its_budget() {
     rm -f "$room/none.trace"
-    ends 4 'ultra: budget' ./ultra run --sweep --budget 100 --trace "$room/none.trace" "$room/example.elf" &&
-        ends 4 'ultra: budget' ./ultra run --budget 100 --trace "$room/none.trace" "$room/example.elf" && [ ! -e "$room/none.trace" ]
+    spends ./ultra run --sweep --budget 100 --trace "$room/none.trace" "$room/example.elf" &&
+        spends ./ultra run --budget 100 --trace "$room/none.trace" "$room/example.elf" && [ ! -e "$room/none.trace" ]
 }
 check 'a run reports a used-up budget: budget, status 4, and no trace' spends_its_budget
+
+# With --unfinished the report comes before the fault of the budget, and the trace, if there is one, replays to it.
+reports_an_unfinished_run() {
+    local how ended
+    for how in '--sweep --no-log' "--sweep --trace $room/spent.trace" "--trace $room/spent.trace"; do
+        ended=0
+        # shellcheck disable=SC2086
+        ./ultra run $how --unfinished --budget 100 "$room/example.elf" >"$room/spent" 2>"$room/err" || ended=$?
+        [ "$ended" -eq 4 ] && diff <(echo 'ultra: budget') "$room/err" && grep '^processor 3 pc 000100.* run retired ' "$room/spent" || return 1
+        [ ! -e "$room/spent.trace" ] || ./ultra replay "$room/spent.trace" "$room/example.elf" | diff "$room/spent" - || return 1
+    done
+}
+check 'with --unfinished a run whose budget is used up is reported, and its trace replays to the report' reports_an_unfinished_run
 
 # ---- without a log
 
@@ -127,8 +145,8 @@ loop: mul x6, x6, x7
  ecall
 END
     ./ultra asm "$room/multiplies.s" "$room/multiplies.elf" &&
-        ends 4 'ultra: budget' ./ultra run --sweep --k 0 "$room/multiplies.elf" &&
-        ends 4 'ultra: budget' ./ultra run --sweep --no-log --k 0 --budget 6000000 "$room/multiplies.elf" &&
+        spends ./ultra run --sweep --k 0 "$room/multiplies.elf" &&
+        spends ./ultra run --sweep --no-log --k 0 --budget 6000000 "$room/multiplies.elf" &&
         ./ultra run --sweep --no-log --k 0 "$room/multiplies.elf" >"$room/out" 2>"$room/err" && diff /dev/null "$room/err" &&
         diff <(printf 'processor 0 pc 00010028 halt 00 retired %d console -\nword 0 00030001\n' $((5 + 3 * ((1 << 21) + 3) + 2))) "$room/out"
 }

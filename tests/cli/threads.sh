@@ -78,14 +78,15 @@ check 'a run on threads reports that its log is full: L2, status 4, and no trace
 # second. On a terminal a line shows the progress and is erased before the fault is printed. With --quiet there is none.
 shows_progress_of_a_run() {
     local ended=0 line='\\rultra: [0-9]+ rounds, [0-9]+ instructions retired\\x1b\[K' gone='\\r\\x1b\[K'
+    local spent='ultra: budget\r\n  --unfinished prints where the processors stand\r\n'
     printf '%s\n' ' lui x5, 0x80000' 'loop: lw x6, 0(x5)' ' jal x0, loop' >"$room/reads.s"
     assembles_to "$room/reads.s" "$room/reads.elf" || return 1
     tests/tools/on_a_terminal.py 1.5 crates/ultra/out/ultra run --k 6 --budget 30000 "$room/reads.elf" >"$room/out" || ended=$?
     cat "$room/out"
-    [ "$ended" -eq 4 ] && grep -Eqx "($line)+${gone}ultra: budget\\\\r\\\\n" "$room/out" || return 1
+    [ "$ended" -eq 4 ] && grep -Eqx "($line)+${gone}${spent//\\/\\\\}" "$room/out" || return 1
     ended=0
     tests/tools/on_a_terminal.py 1.5 crates/ultra/out/ultra run --quiet --k 6 --budget 30000 "$room/reads.elf" >"$room/out" || ended=$?
-    [ "$ended" -eq 4 ] && diff <(printf '%s\n' 'ultra: budget\r\n') "$room/out"
+    [ "$ended" -eq 4 ] && diff <(printf '%s\n' "$spent") "$room/out"
 }
 if command -v python3 >/dev/null; then
     check 'on a terminal a line shows the progress of a run on threads, except with --quiet' shows_progress_of_a_run

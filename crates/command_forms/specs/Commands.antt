@@ -50,7 +50,7 @@ steps = record { bounds = record { name = codes "budget"; low = 1; high = 400000
 
 -- the port at which the program waits for a debugger
 abbrev pub port : Ranged
-port = record { bounds = record { name = codes "port"; low = 1; high = 65535 }; default = 3333 }
+port = record { bounds = record { name = codes "port"; low = 0; high = 65535 }; default = 3333 }
 
 -- the number of states at which an exploration gives up
 abbrev pub states : Ranged
@@ -136,8 +136,8 @@ with_sizes a = with_number shared_words (with_number combinations
 unfoldable pub run_command : App
 run_command =
     with_number start (with_number budget (with_sizes
-    (with_rule (with_rule (with_rule (with_rule (with_file (new_app (codes "run"))) (option (codes "trace")))
-    (flag (codes "sweep"))) (flag (codes "no-log"))) (flag (codes "quiet")))))
+    (with_rule (with_rule (with_rule (with_rule (with_rule (with_file (new_app (codes "run"))) (option (codes "trace")))
+    (flag (codes "sweep"))) (flag (codes "no-log"))) (flag (codes "unfinished"))) (flag (codes "quiet")))))
 
 -- a trace, the image of its run, and the number of shared words
 abbrev pub replaying : Text → App
@@ -168,7 +168,7 @@ story_command = choosing (codes "story")
 
 unfoldable pub debug_command : App
 debug_command = with_number port (with_number steps (with_sizes
-    (with_rule (with_file (new_app (codes "debug"))) (option (codes "trace")))))
+    (with_rule (with_rule (with_file (new_app (codes "debug"))) (option (codes "trace"))) (flag (codes "stdio")))))
 
 unfoldable pub picture_command : App
 picture_command = with_rule (replaying (codes "picture")) (number step)

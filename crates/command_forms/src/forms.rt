@@ -166,6 +166,10 @@ const RUN: CommandForm = CommandForm {
             help: "With --sweep, keep no log of the steps, so that --budget may be up to 4000000000 of them; not with --trace",
         },
         Argument::Flag {
+            name: "unfinished",
+            help: "Print the report, and write the trace, also if the budget ends the run",
+        },
+        Argument::Flag {
             name: "quiet",
             help: "Show no progress line on a terminal",
         },
@@ -306,6 +310,10 @@ const DEBUG: CommandForm = CommandForm {
             name: "trace",
             value: "OUT",
             help: "Where to write the steps of the session, for `ultra replay`; opened after the session is over",
+        },
+        Argument::Flag {
+            name: "stdio",
+            help: "Serve the session over standard input and output; no port is opened",
         },
         Argument::Number(STAGES),
         Argument::Number(QUEUE),

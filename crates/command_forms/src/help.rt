@@ -56,16 +56,19 @@ starve while the network is full.
 With --no-log too, the steps are not kept. The report is the same, and the run may take 4000000000
 steps, but no trace of it can be written.
 
+With --unfinished a run that uses up its budget is drained and reported like another one, and its trace
+is written. Then `budget` is reported, and the exit status is 4.
+
 The report has a line for each processor, `processor P pc VVVVVVVV STATUS retired N console HEX`:
 its number, its pc in hex, `run`, `halt HH` (HH is what it halted with, in hex) or `fault N`, how
 many instructions it has retired, and the bytes it sent to the console in hex, or `-` for none.
 Then `word I VVVVVVVV` is shared word I in hex, for each that is not zero.
 
 A fault is reported on standard error, and then there is no report: `ultra: I1` to `I8` a refused
-image, `K1` a size out of the machine's limits, `budget` used up while a processor runs, `L2` more than
-4194304 steps on threads, `L4` a core on loan not taken back, `Start` a thread cannot be started,
-`link` FILE cannot be opened or standard output cannot be written, `I9` FILE cannot be read, `X5` OUT
-cannot be written, `memory`.
+image, `K1` a size out of the machine's limits, `budget` used up while a processor runs, unless it is
+reported with --unfinished, `L2` more than 4194304 steps on threads, `L4` a core on loan not taken back,
+`Start` a thread cannot be started, `link` FILE cannot be opened or standard output cannot be written,
+`I9` FILE cannot be read, `X5` OUT cannot be written, `memory`.
 
 Exit status: 0 done, 1 a fault stopped a processor, 2 a refused image or command line, 3 a file or
 standard output failed, 4 out of memory, no room for the steps, no thread, or the budget is used up.";
@@ -141,7 +144,8 @@ that is refused is answered by its error: `E01` form, `E02` address, `E03` proce
 `E05` no room in the trace, `E06` out of memory. `cont` asks for room for all of --budget before it
 begins, so after long runs it is refused (`E05`): a smaller --budget lets it run for longer.
 
-Any program on this computer may connect, and the first connection gets the session. With --trace the
+Any program on this computer may connect, and the first connection gets the session. With --stdio there
+is no connection: lines come from standard input, and answers go to standard output. With --trace the
 steps of the session, and what the debugger wrote, are saved when it is over, however it ended.
 
 Exit status: 0 done, 1 a fault had stopped a processor at the end, 2 a refused image or command line,

@@ -80,9 +80,9 @@ pub const STEPS: NumberOption = NumberOption {
 pub const PORT: NumberOption = NumberOption {
     name: "port",
     default: 3333,
-    low: 1,
+    low: 0,
     high: 65_535,
-    help: "Port of 127.0.0.1 for the debugger, 1 to 65535 [default: 3333]",
+    help: "Port of 127.0.0.1 for the debugger, 0 to 65535; with 0 the host chooses a free one [default: 3333]",
 };
 
 /// The most steps of each run of a hunt.

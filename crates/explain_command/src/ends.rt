@@ -21,17 +21,21 @@ output failed, what was printed is a beginning of the whole.
         name: "budget",
         meaning: "the budget is used up, a processor still runs, and no fault has stopped one",
         advice: "\
-`ultra run` and `ultra words` report it, and print no report; no trace is written. Exit status 4.
+`ultra run` and `ultra words` report it, and print no report; no trace is written. With `--unfinished`
+`ultra run` prints the report first, and writes the trace. Exit status 4 in each case.
 
 Usual causes: a loop that does not end; a processor that waits for something that no other does; more
 work than the budget allows, which is ten million rounds of each thread of `ultra run`, 4,000,000
 steps of `ultra run --sweep` and a million instructions of `ultra words`. With `--b 0` the sweep is
 not fair: if processors wait in a loop and fill the network, another can starve.
 
-What to do: if a processor starves, try `--b 1`, `--c 8` or a pause in the loop; if the work is too
-much, fewer processors (`--k`). A smaller `--budget` reports a loop without end sooner.
+What to do: look where the processors stand, with `--unfinished`: the `pc` of one that waits is in its
+loop. With `--trace` too, `ultra order` and `ultra story` show what they did last. If a processor
+starves, try `--b 1`, `--c 8` or a pause in the loop; if the work is too much, fewer processors
+(`--k`). A smaller `--budget` reports a loop without end sooner.
 
     ultra run --sweep --k 5 --b 1 program.elf
+    ultra run --unfinished --budget 1000 --trace last.trace program.elf
 ",
     },
     Topic {

@@ -1,10 +1,11 @@
 -- What the passes of a run on threads show: each processor has stopped, no reference is open, and the bytes sent to the
 -- consoles are those that the processors wrote.
-use Rattle.std.proofs.Common.{◌≡◌, inl, inr, ℕ, ◌^◌, ◌<◌, false, List, [], ◌∷◌, ◌++◌, length, map, append_assoc, refl, sym, ap, ◌∙◌, subst, arith}
+use Rattle.std.proofs.Common.{◌≡◌, inl, inr, ℕ, ◌^◌, ◌<◌, Bool, false, true≢false, List, [], ◌∷◌, ◌++◌, length, map, append_assoc}
+use Rattle.std.proofs.Common.{refl, sym, ap, ◌∙◌, subst, arith}
 use Rattle.std.specs.Prelude.{Option, Some, None, slice_get, slice_index_or}
 use Rattle.std.proofs.lemmas.List.{append-nil, length-map}
 use Rattle.std.specs.Option.{option_map}
-use Rattle.std.proofs.lemmas.Option.{get_or_from_slice_get, none-some, slice_get-get_or, slice_get-map}
+use Rattle.std.proofs.lemmas.Option.{get_or_from_slice_get, slice_get-get_or, slice_get-map}
 use Rattle.flat_machine.specs.declared.config.Config.{Config}
 use Rattle.flat_machine.specs.declared.event.Event.{Event}
 use Rattle.flat_machine.specs.declared.event.Event.TheVariants as event
@@ -27,11 +28,11 @@ use Rattle.processor_threads.specs.console_monitor.Ends.{held_of}
 use Rattle.processor_threads.specs.Consoles.{console_bytes, console_of}
 use Rattle.processor_threads.specs.Endings.{EndsWithStop, IsOfMemory, WereMade}
 use Rattle.processor_threads.specs.declared.fault.RunFault.{RunFault}
-use Rattle.processor_threads.specs.declared.fault.RunFault.TheVariants as run
 use Rattle.command_io.specs.Events.{shown_by, shown_from, with_event}
 use Rattle.command_io.specs.Tallies.{ShownBy, nothing_shown, with_byte}
 use Rattle.trace_commands.specs.CountedReplays.{AreConsoles, events_in}
-use Rattle.run_command.specs.ThreadRuns.{EndInStop, HasEnded}
+use Rattle.processor_threads.specs.Faults.{is_of_host}
+use Rattle.run_command.specs.ThreadRuns.{EndInStop, HasEnded, IsOfThreads}
 
 -- ---- the console bytes of events
 
@@ -148,10 +149,22 @@ has_ended listed shut serialized fact opening first count none all log is kept h
       heard = consoles_are listed shut serialized fact log kept hs every fit stopped consoles sent;
     }
 
--- If a run has no fault, its passes were made.
-pub were_made : (fault : Option RunFault) (hs : List Held) → fault ≡ None → (hs ≡ [] → IsOfMemory fault) → WereMade hs
+-- If the log of a run on threads began without steps, threads have taken all that it has.
+pub of_threads : (opening : MachineLists) (first : List Step) (count : ℕ) → first ≡ [] → (log : Log) → log.opening ≡ opening → IsWellFormed log →
+    (hs : List Held) → Fits opening first count log.steps (rows_of hs) → IsOfThreads opening log
+of_threads opening first count none log is kept hs fits =
+    let fit : Fits log.opening [] count log.steps (rows_of hs) =
+    subst (λ (x : MachineLists × List Step). Fits x.0 x.1 count log.steps (rows_of hs)) (λ i. (sym is i, none i)) fits in
+    record { opening_is = is; kept = kept; no_pokes = fit.no_pokes; named = fit.named }
+
+abbrev pub is_host : Option RunFault → Bool
+is_host None = false
+is_host (Some fault) = is_of_host fault
+
+-- If a run has no fault of the host, its passes were made.
+pub were_made : (fault : Option RunFault) (hs : List Held) → is_host fault ≡ false → (hs ≡ [] → IsOfMemory fault) → WereMade hs
 were_made fault hs none refused nothing = by (refused nothing)
   where
     by : IsOfMemory fault → ⊥
-    by (inl memory) = none-some run.Memory (sym none ∙ memory)
-    by (inr console) = none-some run.Console (sym none ∙ console)
+    by (inl memory) = true≢false (sym (ap is_host memory) ∙ none)
+    by (inr console) = true≢false (sym (ap is_host console) ∙ none)

@@ -16,7 +16,7 @@ use Rattle.machine_steps.specs.Machines.{MachineLists, machine_of, IsStep}
 use Rattle.machine_steps.proofs.Lemmas.{replay_begins}
 use Rattle.machine_log.specs.Logs.{Log, HasTaken, entered}
 use Rattle.machine_log.proofs.Lemmas.{entered_moving}
-use Rattle.command_io.specs.Tallies.{TallyState, nothing_shown, noted_after}
+use Rattle.command_io.specs.Tallies.{TallyState, nothing_shown}
 use Rattle.trace_commands.specs.CountedReplays.{HasRoom, IsTallied}
 use Rattle.trace_commands.specs.InMemory.{IsReplayInMemory}
 use Rattle.trace_commands.proofs.Lemmas.{all_replayed, was_made}

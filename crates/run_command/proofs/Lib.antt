@@ -1,3 +1,4 @@
+pub mod Budgets
 pub mod Running
 pub mod OneRun
 pub mod Consoles

@@ -102,8 +102,8 @@ module _ (one_layout : OneLayout) (one_log : OneLog) (one_report : OneReport) (c
       IsReportedRun (by_sweep (sweep_run c budget (known_input file))) others other another → (steps ≡ others) × (text ≡ other) × (status ≡ another)
   one_run budget a b =
       over_alike one_layout one_log one_report c file (most_of budget) steps others text other status another
-      (record { budget = budget; image = a.image; log = a.log; is = a.is.over; entered = a.entered; report = a.report })
-      (record { budget = budget; image = b.image; log = b.log; is = b.is.over; entered = b.entered; report = b.report })
+      (record { budget = budget; image = a.image; log = a.log; is = a.is.ended; entered = a.entered; report = a.report })
+      (record { budget = budget; image = b.image; log = b.log; is = b.is.ended; entered = b.entered; report = b.report })
 
   -- So have a run whose log is kept and one whose log is not, whatever their budgets.
   pub same_run : (budget larger : ℕ) → IsReportedRun (by_sweep (sweep_run c budget (known_input file))) steps text status →
@@ -115,7 +115,7 @@ module _ (one_layout : OneLayout) (one_log : OneLog) (one_report : OneReport) (c
         budget = budget;
         image = a.image;
         log = a.log;
-        is = over_within (most_of budget) most (sweep_run c budget (known_input file)) a.image a.log (omega arith) a.is.over;
+        is = over_within (most_of budget) most (sweep_run c budget (known_input file)) a.image a.log (omega arith) a.is.ended;
         entered = a.entered;
         report = a.report;
       })

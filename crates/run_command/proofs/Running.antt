@@ -10,12 +10,9 @@ use Rattle.machine_steps.specs.Runs.{IsOpening}
 use Rattle.machine_log.specs.Logs.{Log, IsWellFormed}
 use Rattle.schedules.specs.Sweeps.{IsSwept, most_of, opened}
 use Rattle.schedules.specs.declared.sweeping.SweepEnd.{SweepEnd}
-use Rattle.schedules.specs.declared.sweeping.SweepEnd.TheVariants.{Budget}
-use Rattle.command_io.specs.declared.fault.Fault.{Fault}
-use Rattle.command_io.specs.declared.fault.Fault.TheVariants as fault
 use Rattle.trace_commands.proofs.Lemmas.{is_spelled}
 use Rattle.command_io.specs.Links.{Input}
-use Rattle.run_command.specs.SweepRuns.{IsNotOver, IsRunOf, RunItselfFails, SweepRun, sweep_run}
+use Rattle.run_command.specs.SweepRuns.{IsRunOf, sweep_run}
 
 module _ (c : Config) (budget : ℕ) (file : Input) (image : ImageContents) (meant : IsImageOf c.shared_words file.bytes image) (m : MachineLists)
     (opens : IsOpening c image m) (old log : Log) (starts : old ≡ opened m) (kept : IsWellFormed log) (end : SweepEnd)
@@ -43,22 +40,3 @@ module _ (c : Config) (budget : ℕ) (file : Input) (image : ImageContents) (mea
       is_spelled c log.steps (subst IsWithinLimits config_is kept.sound.limits) kept.room
       (subst (λ (d : Config). HaveRecords d.k log.steps) config_is
       (records (subst (λ (l : Log). HaveRecords l.machine.config.k l.steps) (sym starts) (λ p d inside. absurd (omega (arith, inside))))))
-
--- If the sweep of a log is not over, there is no run, for the same fault.
-pub not_over : (run : SweepRun) (image : ImageContents) (old log : Log) → (IsSwept (most_of run.budget) old Budget log → IsRunOf run Budget image log) →
-    (f : Fault) → IsNotOver run.budget old log f → RunItselfFails run f
-not_over run image old log spent fault.Budget p = (image, log, spent p)
-not_over run image old log spent fault.Memory p = tt
-not_over run image old log spent (fault.Image e) p = absurd p
-not_over run image old log spent (fault.Line n) p = absurd p
-not_over run image old log spent (fault.Text e) p = absurd p
-not_over run image old log spent fault.NotUtf8 p = absurd p
-not_over run image old log spent (fault.Trace e) p = absurd p
-not_over run image old log spent fault.Size p = absurd p
-not_over run image old log spent (fault.Stalled n) p = absurd p
-not_over run image old log spent fault.Full p = absurd p
-not_over run image old log spent fault.Loan p = absurd p
-not_over run image old log spent fault.Start p = absurd p
-not_over run image old log spent fault.States p = absurd p
-not_over run image old log spent fault.Alone p = absurd p
-not_over run image old log spent fault.Link p = absurd p

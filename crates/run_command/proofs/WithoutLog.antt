@@ -1,5 +1,5 @@
 -- A machine that keeps no log has one all the same: it is that of a run of the image.
-use Rattle.std.proofs.Common.{◌≡◌, ℕ, ◌+◌, ◌++◌, List, length, Option, Some, refl, sym, ap, ◌∙◌, subst, arith}
+use Rattle.std.proofs.Common.{◌≡◌, inl, inr, ℕ, ◌+◌, ◌++◌, Bool, true, false, true≢false, List, Option, Some, refl, sym, subst, arith}
 use Rattle.flat_machine.specs.declared.config.Config.{Config}
 use Rattle.elf_image.specs.Files.{IsImageOf}
 use Rattle.elf_image.specs.Images.{ImageContents}
@@ -17,10 +17,12 @@ use Rattle.command_io.specs.Links.{Input, Output}
 use Rattle.command_io.specs.Tallies.{TallyState}
 use Rattle.trace_commands.specs.Causes.{RunFails}
 use Rattle.trace_commands.specs.InMemory.{IsReplayInMemory}
-use Rattle.trace_commands.specs.TraceReports.{IsReportOf, IsReportedRun, IsRunReport}
+use Rattle.trace_commands.specs.TraceReports.{AskedRun, IsReportOf, IsRunReport, IsSomeRunReport}
 use Rattle.run_command.specs.CountedMachines.{CountedModel, IsCountedLog, IsDrainedLog}
-use Rattle.run_command.specs.SweepRuns.{IsCountedRun, IsNotCounted, IsRunWithin, IsSomeReport, IsSweptTo, RunFailsWithin, log_of, most_unlogged}
-use Rattle.run_command.specs.SweepRuns.{no_trace, sweep_run, without_log}
+use Rattle.command_io.specs.Printing.{PrintsPrefix}
+use Rattle.run_command.specs.SweepRuns.{FailsBefore, IsCountedRun, IsNotCounted, IsRunWithin, IsSomeReport, IsSweptTo, RunFailsWithin, SweepRun}
+use Rattle.run_command.specs.SweepRuns.{ended_without_log, log_of, most_unlogged, no_trace, sweep_run, unfinished_without_log, without_log}
+use Rattle.run_command.specs.UnfinishedRuns.{EndsInFault, is_reported}
 
 -- ---- the machine
 
@@ -45,13 +47,9 @@ module _ (most limit : ℕ) (opening : MachineLists) (end : SweepEnd) (counted :
     idle = d.idle;
   }
 
-  -- If the sweep was over and there was memory to count, the machine is that of a counted run.
-  pub counted_run : (t : TallyState) → tally ≡ Some t → end ≡ Over → IsCountedRun most opening m t
-  counted_run t there over = record {
-    steps = steps;
-    counted = in_memory.counted t there;
-    swept = subst (λ e. IsSwept most (opened opening) e (log_of opening steps m)) over swept;
-  }
+  -- If there was memory to count, the machine is that of a counted run.
+  pub counted_run : (t : TallyState) → tally ≡ Some t → IsCountedRun most opening end m t
+  counted_run t there = record { steps = steps; counted = in_memory.counted t there; swept = swept }
 
   -- In any case the machine has followed the sweep to this end.
   pub is_swept : IsSweptTo most opening end
@@ -69,9 +67,9 @@ module _ (c : Config) (budget : ℕ) (file : Input) (image : ImageContents) (mea
   run_within end taken new replay swept = record { meant = meant; whole = record { opens = opens; replay = replay; swept = swept } }
 
   -- The report of a counted run is that of a run of the image.
-  pub is_reported : (new : MachineLists) (tally : TallyState) (text : List ℕ) (status : ℕ) (r : IsCountedRun most m new tally) →
-      IsReportOf c image r.steps text status → IsSomeReport (without_log (sweep_run c budget file)) text status
-  is_reported new tally text status r report = (
+  pub run_is_reported : (end : SweepEnd) (new : MachineLists) (tally : TallyState) (text : List ℕ) (status : ℕ) (r : IsCountedRun most m end new tally) →
+      IsReportOf c image r.steps text status → IsSomeReport (ended_without_log end (sweep_run c budget file)) text status
+  run_is_reported Over new tally text status r report = (
     r.steps,
     record {
       image = image;
@@ -81,33 +79,60 @@ module _ (c : Config) (budget : ℕ) (file : Input) (image : ImageContents) (mea
       report = report;
     },
   )
+  run_is_reported Budget new tally text status r report = (
+    r.steps,
+    record {
+      image = image;
+      log = log_of m r.steps new;
+      is = run_within Budget r.steps new r.counted.replay r.swept;
+      entered = refl;
+      report = report;
+    },
+  )
 
-  -- If the machine has not followed the sweep until it was over, there is no run, for the same fault.
-  pub not_counted : (f : Fault) → IsNotCounted most m f → RunFailsWithin most (sweep_run c budget file) f
-  not_counted fault.Budget p = (image, log_of m p.steps p.machine, run_within Budget p.steps p.machine p.replay p.swept)
-  not_counted fault.Memory p = tt
-  not_counted (fault.Image e) p = absurd p
-  not_counted (fault.Line n) p = absurd p
-  not_counted (fault.Text e) p = absurd p
-  not_counted fault.NotUtf8 p = absurd p
-  not_counted (fault.Trace e) p = absurd p
-  not_counted fault.Size p = absurd p
-  not_counted (fault.Stalled n) p = absurd p
-  not_counted fault.Full p = absurd p
-  not_counted fault.Loan p = absurd p
-  not_counted fault.Start p = absurd p
-  not_counted fault.States p = absurd p
-  not_counted fault.Alone p = absurd p
-  not_counted fault.Link p = absurd p
+  module _ (both : Bool) where
+    cause_is : (f : Fault) → IsNotCounted both most m f → RunFailsWithin most (sweep_run c budget file) f
+    cause_is fault.Budget p =
+        let swept = p.1 in
+        (image, log_of m swept.steps swept.machine, run_within Budget swept.steps swept.machine swept.replay swept.swept)
+    cause_is fault.Memory p = tt
+    cause_is (fault.Image e) p = absurd p
+    cause_is (fault.Line n) p = absurd p
+    cause_is (fault.Text e) p = absurd p
+    cause_is fault.NotUtf8 p = absurd p
+    cause_is (fault.Trace e) p = absurd p
+    cause_is fault.Size p = absurd p
+    cause_is (fault.Stalled n) p = absurd p
+    cause_is fault.Full p = absurd p
+    cause_is fault.Loan p = absurd p
+    cause_is fault.Start p = absurd p
+    cause_is fault.States p = absurd p
+    cause_is fault.Alone p = absurd p
+    cause_is fault.Link p = absurd p
+
+    -- If the run is not counted, there is no report, for the same fault.
+    pub not_counted : (f : Fault) → IsNotCounted both most m f → FailsBefore both most (sweep_run c budget file) f
+    not_counted f p = record {
+      cause = cause_is f p;
+      budget = λ e. let spent : IsNotCounted both most m fault.Budget = subst (IsNotCounted both most m) e p in spent.0;
+    }
 
 -- ---- the command
 
-module _ (c : Config) (budget : ℕ) (file : Input) where
-  -- The report of the run is one of a command that is asked for no trace.
-  pub run_report : (text : List ℕ) (status : ℕ) → IsSomeReport (without_log (sweep_run c budget file)) text status →
-      IsRunReport (without_log (sweep_run c budget file)) no_trace status text
-  run_report text status r = record { steps = r.0; reported = r.1; saved = tt }
+-- The report of a run is one of a command that is asked for no trace.
+pub run_report : (run : AskedRun) (text : List ℕ) (status : ℕ) → IsSomeReport run text status → IsRunReport run no_trace status text
+run_report run text status r = record { steps = r.0; reported = r.1; saved = tt }
 
+-- If a beginning of the report of a run that is to be reported is printed, the command ends with the fault of the output.
+pub cut_ends : (run : SweepRun) (out : Output) (both : Bool) (end : SweepEnd) → is_reported both end ≡ true →
+    PrintsPrefix (IsSomeRunReport (ended_without_log end run) no_trace) out.old out.new →
+    EndsInFault both (without_log run) (unfinished_without_log run) no_trace out fault.Link
+cut_ends run out false Over wanted p = p
+cut_ends run out true Over wanted p = inl p
+cut_ends run out true Budget wanted p = inr p
+cut_ends run out false Budget wanted p = absurd (true≢false (sym wanted))
+
+module _ (c : Config) (budget : ℕ) (file : Input) where
   -- If there is no run, the command fails with the same fault.
   pub run_fails : (out : Output) (f : Fault) → RunFailsWithin (most_unlogged budget) (sweep_run c budget file) f →
       RunFails (without_log (sweep_run c budget file)) no_trace out f

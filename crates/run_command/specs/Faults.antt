@@ -14,11 +14,10 @@ fault_of run.Start = fault.Start
 -- A thread is cancelled only after another has a fault, which is then reported.
 fault_of run.Cancelled = fault.Memory
 
--- A run on threads can end with this fault.
+-- A run on threads that is not reported can end with this fault. One that a budget has ended may be.
 abbrev pub IsOfRun : Fault → Type 0
 IsOfRun fault.Memory = Unit {0}
 IsOfRun fault.Full = Unit {0}
 IsOfRun fault.Loan = Unit {0}
-IsOfRun fault.Budget = Unit {0}
 IsOfRun fault.Start = Unit {0}
 IsOfRun other = ⊥

@@ -1,5 +1,5 @@
 -- A run of the image in a file by the sweep, and why there may be none.
-use Rattle.std.specs.Prelude.{◌≡◌, ℕ, min, List, None}
+use Rattle.std.specs.Prelude.{◌≡◌, ℕ, Bool, true, false, min, List, None}
 use Rattle.flat_machine.specs.declared.config.Config.{Config}
 use Rattle.flat_machine.specs.Limits.{IsWithinLimits}
 use Rattle.elf_image.specs.Files.{IsImageOf, IsImageRefusal}
@@ -18,6 +18,7 @@ use Rattle.command_io.specs.Links.{Input}
 use Rattle.command_io.specs.Tallies.{TallyState}
 use Rattle.trace_commands.specs.CountedReplays.{IsReplayCounted}
 use Rattle.trace_commands.specs.TraceReports.{AskedRun, IsReportedRun, TraceOutput}
+use Rattle.run_command.specs.UnfinishedRuns.{AskedRuns, is_reported}
 
 -- A run by the sweep, as it is asked for: the machine's size, the number of steps that it may take, and the image's
 -- file.
@@ -39,14 +40,14 @@ pub record IsRunWithin (most : ℕ) (run : SweepRun) (end : SweepEnd) (image : I
 abbrev pub IsRunOf : SweepRun → SweepEnd → ImageContents → Log → Type 0
 IsRunOf run = IsRunWithin (most_of run.budget) run
 
--- The run was over at the end of the sweep, and a trace file can spell the steps of its log.
-pub record IsFinishedRun (run : SweepRun) (image : ImageContents) (log : Log) : Type 0 where
-  pub over : IsRunOf run Over image log
+-- The run has come to this end, and a trace file can spell the steps of its log.
+pub record IsEndedRun (run : SweepRun) (end : SweepEnd) (image : ImageContents) (log : Log) : Type 0 where
+  pub ended : IsRunOf run end image log
   pub trace : IsTrace (trace_of run.config log.steps)
 
 -- This is the log of such a run, for some image.
-abbrev pub IsSomeFinishedRun : SweepRun → Log → Type 0
-IsSomeFinishedRun run log = (image : ImageContents) × IsFinishedRun run image log
+abbrev pub IsSomeEndedRun : SweepRun → SweepEnd → Log → Type 0
+IsSomeEndedRun run end log = (image : ImageContents) × IsEndedRun run end image log
 
 -- Why there is no such run of at most `most` steps: the image is refused; the machine's size is out of limits; or all
 -- these steps are taken, a processor still runs, and no fault has stopped one. Nothing is said about a lack of memory.
@@ -62,14 +63,27 @@ RunFailsWithin most run other = ⊥
 abbrev pub RunItselfFails : SweepRun → Fault → Type 0
 RunItselfFails run = RunFailsWithin (most_of run.budget) run
 
--- such a run, as a command reports it
+-- a run that is over, as a command reports it
 abbrev pub by_sweep : SweepRun → AskedRun
 by_sweep run = record {
   config = run.config;
   file = run.file;
-  is_run = IsFinishedRun run;
+  is_run = IsEndedRun run Over;
   is_not_run = RunItselfFails run;
 }
+
+-- one that its budget has ended, as a command reports it; `by_sweep` says why there may be no run
+abbrev pub unfinished_by_sweep : SweepRun → AskedRun
+unfinished_by_sweep run = record {
+  config = run.config;
+  file = run.file;
+  is_run = IsEndedRun run Budget;
+  is_not_run = λ f. f ≡ fault.Memory;
+}
+
+-- both, and whether the second is reported, too
+abbrev pub runs_by_sweep : (both : Bool) → SweepRun → AskedRuns
+runs_by_sweep both run = record { over = by_sweep run; unfinished = unfinished_by_sweep run; both = both }
 
 -- ---- a run whose log is not kept
 
@@ -77,7 +91,7 @@ by_sweep run = record {
 abbrev pub most_unlogged : (budget : ℕ) → ℕ
 most_unlogged budget = min budget 4000000000
 
--- such a run, as a command reports it: it has a log, which is not kept
+-- a run that is over, as a command reports it: it has a log, which is not kept
 abbrev pub without_log : SweepRun → AskedRun
 without_log run = record {
   config = run.config;
@@ -85,6 +99,24 @@ without_log run = record {
   is_run = IsRunWithin (most_unlogged run.budget) run Over;
   is_not_run = RunFailsWithin (most_unlogged run.budget) run;
 }
+
+-- one that its budget has ended, as a command reports it; `without_log` says why there may be no run
+abbrev pub unfinished_without_log : SweepRun → AskedRun
+unfinished_without_log run = record {
+  config = run.config;
+  file = run.file;
+  is_run = IsRunWithin (most_unlogged run.budget) run Budget;
+  is_not_run = λ f. f ≡ fault.Memory;
+}
+
+-- both, and whether the second is reported, too
+abbrev pub runs_without_log : (both : Bool) → SweepRun → AskedRuns
+runs_without_log both run = record { over = without_log run; unfinished = unfinished_without_log run; both = both }
+
+-- the run that has come to this end
+abbrev pub ended_without_log : SweepEnd → SweepRun → AskedRun
+ended_without_log Over = without_log
+ended_without_log Budget = unfinished_without_log
 
 -- no trace is asked for
 abbrev pub no_trace : TraceOutput (Unit {0})
@@ -96,22 +128,17 @@ IsSomeReport run text status = (steps : List Step) × IsReportedRun run steps te
 
 -- ---- from the machine's opening on
 
--- Why the sweep is not over: the budget is used up; or there is no memory for the steps, and none is taken.
-abbrev pub IsNotOver : (budget : ℕ) → (old new : Log) → Fault → Type 0
-IsNotOver budget old new fault.Budget = IsSwept (most_of budget) old Budget new
-IsNotOver budget old new fault.Memory = new ≡ old
-IsNotOver budget old new other = ⊥
-
 -- the log of a machine that has taken these steps since its opening
 abbrev pub log_of : (opening : MachineLists) → (steps : List Step) → MachineLists → Log
 log_of opening steps m = record { opening = opening; steps = steps; machine = m }
 
--- The machine has followed the sweep until it was over, for at most `most` steps, and was then drained. The tally has
--- what its processors have shown.
-pub record IsCountedRun (most : ℕ) (opening m : MachineLists) (tally : TallyState) : Type 0 where
+-- The machine has followed the sweep to this end, for at most `most` steps, and was then drained. The tally has what
+-- its processors have shown.
+pub record IsCountedRun (most : ℕ) (opening : MachineLists) (end : SweepEnd) (m : MachineLists)
+    (tally : TallyState) : Type 0 where
   pub steps : List Step
   pub counted : IsReplayCounted opening steps m tally
-  pub swept : IsSwept most (opened opening) Over (log_of opening steps m)
+  pub swept : IsSwept most (opened opening) end (log_of opening steps m)
 
 -- Some machine has followed the sweep to this end, for at most `most` steps, and was then drained.
 pub record IsSweptTo (most : ℕ) (opening : MachineLists) (end : SweepEnd) : Type 0 where
@@ -120,9 +147,15 @@ pub record IsSweptTo (most : ℕ) (opening : MachineLists) (end : SweepEnd) : Ty
   pub replay : IsReplay opening steps machine
   pub swept : IsSwept most (opened opening) end (log_of opening steps machine)
 
--- Why there is no counted run: the sweep is not over after `most` steps; or it is over within them, and there was no
--- memory to count what the processors showed.
-abbrev pub IsNotCounted : (most : ℕ) → (opening : MachineLists) → Fault → Type 0
-IsNotCounted most opening fault.Budget = IsSweptTo most opening Budget
-IsNotCounted most opening fault.Memory = IsSweptTo most opening Over
-IsNotCounted most opening other = ⊥
+-- Why there is no counted run: the sweep is not over after `most` steps, and an unfinished run is not reported; or the
+-- run is to be reported, and there was no memory to count what the processors showed.
+abbrev pub IsNotCounted : (both : Bool) → (most : ℕ) → (opening : MachineLists) → Fault → Type 0
+IsNotCounted both most opening fault.Budget = (both ≡ false) × IsSweptTo most opening Budget
+IsNotCounted both most opening fault.Memory =
+    (end : SweepEnd) × (is_reported both end ≡ true) × IsSweptTo most opening end
+IsNotCounted both most opening other = ⊥
+
+-- Why there is no report: the machine or its run fails, and the budget only if an unfinished run is not reported.
+pub record FailsBefore (both : Bool) (most : ℕ) (run : SweepRun) (f : Fault) : Type 0 where
+  pub cause : RunFailsWithin most run f
+  pub budget : f ≡ fault.Budget → both ≡ false

@@ -1,5 +1,5 @@
 -- What a run on threads leaves.
-use Rattle.std.specs.Prelude.{◌≡◌, ℕ, ◌^◌, ◌<◌, true, List, [], ◌∷◌, ◌++◌}
+use Rattle.std.specs.Prelude.{◌≡◌, ℕ, ◌^◌, ◌<◌, Bool, true, List, [], ◌∷◌, ◌++◌}
 use Rattle.flat_machine.specs.declared.config.Config.{Config}
 use Rattle.flat_machine.specs.declared.event.Cause.{Cause}
 use Rattle.flat_machine.specs.declared.event.Event.{Event}
@@ -8,6 +8,7 @@ use Rattle.flat_machine.specs.Limits.{IsWithinLimits}
 use Rattle.elf_image.specs.Files.{IsImageOf, IsImageRefusal}
 use Rattle.elf_image.specs.Images.{ImageContents}
 use Rattle.schedules.specs.trace_file.Traces.{IsTrace, trace_of}
+use Rattle.machine_steps.specs.Draining.{drain_steps}
 use Rattle.machine_steps.specs.Machines.{MachineLists, IsIdle}
 use Rattle.machine_steps.specs.Runs.{IsOpening}
 use Rattle.machine_log.specs.Logs.{Log, IsWellFormed}
@@ -17,6 +18,7 @@ use Rattle.command_io.specs.declared.fault.Fault.TheVariants as fault
 use Rattle.command_io.specs.Links.{Input}
 use Rattle.trace_commands.specs.CountedReplays.{AreConsoles, events_in}
 use Rattle.trace_commands.specs.TraceReports.{AskedRun}
+use Rattle.run_command.specs.UnfinishedRuns.{AskedRuns}
 
 -- The last event is a stop.
 pub record EndInStop (events : List Event) : Type 0 where
@@ -61,6 +63,43 @@ IsSomeThreaded run log consoles = (image : ImageContents) × IsThreaded run imag
 abbrev pub IsThreadedLog : ThreadedRun → ImageContents → Log → Type 0
 IsThreadedLog run image log = (consoles : List (List ℕ)) × IsThreaded run image log consoles
 
+-- ---- a run that the budget of a thread has ended
+
+-- Threads have taken the steps of the log, from the machine's opening on: none of them is a poke or names a place that
+-- the machine does not have.
+pub record IsOfThreads (opening : MachineLists) (log : Log) : Type 0 where
+  pub opening_is : log.opening ≡ opening
+  pub kept : IsWellFormed log
+  pub no_pokes : no_poke log.steps ≡ true
+  pub named : all_within log.opening.config.k log.steps ≡ true
+
+-- Threads have taken the steps of the log, on the machine of this size that opens on the file's image.
+pub record IsThreadsLog (run : ThreadedRun) (image : ImageContents) (log : Log) : Type 0 where
+  pub meant : IsImageOf run.config.shared_words run.file.bytes image
+  pub opening : MachineLists
+  pub opens : IsOpening run.config image opening
+  pub steps_are : IsOfThreads opening log
+
+-- The same, for some image.
+abbrev pub IsSomeThreadsLog : ThreadedRun → Log → Type 0
+IsSomeThreadsLog run log = (image : ImageContents) × IsThreadsLog run image log
+
+-- The log has the steps of one before it, and those of a drain after them. No reference is open.
+pub record IsDrainedAfter (before log : Log) : Type 0 where
+  pub opening : log.opening ≡ before.opening
+  pub kept : IsWellFormed log
+  pub steps : log.steps ≡ before.steps ++ drain_steps before.machine
+  pub idle : IsIdle log.machine
+
+-- The log of an unfinished run: the steps that threads have taken, and those of a drain. A trace file can spell them.
+pub record IsUnfinished (run : ThreadedRun) (image : ImageContents) (log : Log) : Type 0 where
+  pub before : Log
+  pub taken : IsThreadsLog run image before
+  pub drained : IsDrainedAfter before log
+  pub trace : IsTrace (trace_of run.config log.steps)
+
+-- ---- what a command is asked for
+
 -- A machine of this size opens on the image in the file.
 pub record HasBegun (run : ThreadedRun) : Type 0 where
   pub image : ImageContents
@@ -81,7 +120,7 @@ IsNotThreaded run fault.Budget = HasBegun run
 IsNotThreaded run fault.Start = HasBegun run
 IsNotThreaded run other = ⊥
 
--- such a run, as a command reports it
+-- a run that has ended, as a command reports it
 abbrev pub on_threads : ThreadedRun → AskedRun
 on_threads run = record {
   config = run.config;
@@ -89,3 +128,16 @@ on_threads run = record {
   is_run = IsThreadedLog run;
   is_not_run = IsNotThreaded run;
 }
+
+-- one that the budget of a thread has ended, as a command reports it; `on_threads` says why there may be no run
+abbrev pub unfinished_on_threads : ThreadedRun → AskedRun
+unfinished_on_threads run = record {
+  config = run.config;
+  file = run.file;
+  is_run = IsUnfinished run;
+  is_not_run = λ f. f ≡ fault.Memory;
+}
+
+-- both, and whether the second is reported, too
+abbrev pub runs_on_threads : (both : Bool) → ThreadedRun → AskedRuns
+runs_on_threads both run = record { over = on_threads run; unfinished = unfinished_on_threads run; both = both }

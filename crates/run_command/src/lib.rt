@@ -6,6 +6,8 @@
 //!
 //! The others report the log of the run as `ultra replay` does (`trace_commands`). For a run on threads, the log has
 //! the steps in the order in which the threads took them, and the console bytes are those that the threads sent.
+//!
+//! A run that its budget ends is reported only if that is asked for. Then the fault of the budget is reported, too.
 #![tactic(auto)]
 
 mod counted;
@@ -14,6 +16,7 @@ mod progress;
 mod run;
 mod sweep;
 mod threads;
+mod unfinished;
 mod unlogged;
 
 pub use progress::Progress;

@@ -1,12 +1,14 @@
 //! Runs an image on threads.
 
-ghost use Rattle.std.specs.Prelude.{◌≡◌, ◌^◌, ◌↔◌, [], IfErr, IfOk, IsErrOf, false, map, true, vec_len};
+ghost use Rattle.std.specs.Prelude.{◌≡◌, ◌^◌, ◌↔◌, ◌⊎◌, [], IfErr, IfOk, IfSome, IsErrOf, None, false, map, true};
+ghost use Rattle.std.specs.Prelude.{vec_len};
 ghost use Rattle.std.specs.List.{range_with_len};
 ghost use Rattle.schedules.specs.Choices.{first_state};
 ghost use Rattle.processor_threads.specs.Consoles.{bytes_of};
 ghost use Rattle.command_io.specs.Links.{input};
 ghost use Rattle.run_command.specs.Faults.{IsOfRun, fault_of};
-ghost use Rattle.run_command.specs.ThreadRuns.{HasEnded, IsNotThreaded, IsSomeThreaded, threaded_run};
+ghost use Rattle.run_command.specs.ThreadRuns.{HasEnded, IsDrainedAfter, IsNotThreaded, IsOfThreads, IsSomeThreaded};
+ghost use Rattle.run_command.specs.ThreadRuns.{IsSomeThreadsLog, threaded_run};
 
 use command_io::{Fault, image_of, machine_of};
 use elf_image::ImageError;
@@ -14,7 +16,7 @@ use flat_machine::Config;
 use ghost_map::NewTable;
 use link::LinkRead;
 use machine_lock::{PassState, Run};
-use machine_log::Logged;
+use machine_log::{LockRefusal, Logged};
 use processor_threads::{Gate, RunFault, run_threads};
 use schedules::Shuffled;
 use std::alloc::{AllocError, Global};
@@ -22,12 +24,12 @@ use std::marker::Brand;
 use std::sync::Wait;
 use std::thread::Threads;
 
-/// A run in which each processor has stopped.
+/// A run that has ended: each processor has stopped, or the budget of a thread is used up.
 #[derive(Drop)]
-pub(crate) struct Finished {
+pub(crate) struct RunEnd {
     pub(crate) log: Logged,
-    /// The bytes that each processor's thread has sent to the console.
-    pub(crate) consoles: Vec<Vec<u8>>,
+    /// The bytes that each processor's thread has sent to the console; None if the budget of a thread is used up.
+    pub(crate) consoles: Option<Vec<Vec<u8>>>,
 }
 
 /// Reads an image, and runs it on threads, on a machine of this size. Each thread has at most this many rounds, and
@@ -36,7 +38,8 @@ pub(crate) struct Finished {
 /// # Errors
 ///
 /// [`Fault::Image`] with [`ImageError::Link`] exactly if a read of the file fails, and with another error if the file
-/// is refused; [`Fault::Size`] if the size is out of limits; the fault of the run; and [`Fault::Memory`].
+/// is refused; [`Fault::Size`] if the size is out of limits; the fault of the run, except that of a budget; and
+/// [`Fault::Memory`].
 pub(crate) fn run_to_log<F: LinkRead, G: Gate + Sync, R: Threads + Wait + Sync>(
     rt: &R,
     alloc: Global,
@@ -45,13 +48,16 @@ pub(crate) fn run_to_log<F: LinkRead, G: Gate + Sync, R: Threads + Wait + Sync>(
     start: u32,
     gate: &G,
     budget: u32,
-) -> Result<Finished, Fault>
+) -> Result<RunEnd, Fault>
     requires reads { F.has_failed file.old ≡ false }
-    ensures run_to_log { IfOk result
-        (λ f. IsSomeThreaded (threaded_run config (input F.remaining F.has_failed file.old file.new)) f.log
-        (map bytes_of f.consoles.items)) }
+    ensures run_to_log { IfOk result (λ e. IfSome e.consoles
+        (λ cs. IsSomeThreaded (threaded_run config (input F.remaining F.has_failed file.old file.new)) e.log
+        (map bytes_of cs.items))) }
+    ensures unfinished { IfOk result (λ e. e.consoles ≡ None →
+        IsSomeThreadsLog (threaded_run config (input F.remaining F.has_failed file.old file.new)) e.log) }
     ensures refused { IfErr result
         (IsNotThreaded (threaded_run config (input F.remaining F.has_failed file.old file.new))) }
+    ensures in_time { IsErrOf result Fault.Budget → ⊥ }
     ensures unread { IsErrOf result (Fault.Image ImageError.Link) ↔ (F.has_failed file.new ≡ true) }
 {
     let image = image_of(alloc, file, &config)?;
@@ -82,13 +88,14 @@ fn run_on_threads<N: Run + Send + Sync, G: Gate + Sync, R: Threads + Wait + Sync
     arbiters: Vec<Shuffled>,
     gate: &G,
     budget: u32,
-) -> Result<Finished, Fault>
+) -> Result<RunEnd, Fault>
     requires room { room ≡ N.table }
     requires opening { log.opening ≡ N.opening }
     requires first { (log.steps ≡ []) × (N.first ≡ []) }
     requires count { N.count ≡ 2 ^ N.opening.config.k }
     requires arbiters { vec_len arbiters ≡ N.count }
-    ensures ended { IfOk result (λ f. HasEnded N.opening f.log (map bytes_of f.consoles.items)) }
+    ensures ended { IfOk result (λ e. IfSome e.consoles (λ cs. HasEnded N.opening e.log (map bytes_of cs.items))) }
+    ensures unfinished { IfOk result (λ e. e.consoles ≡ None → IsOfThreads N.opening e.log) }
     ensures fault { IfErr result IsOfRun }
 {
     let ended = run_threads::<N, Shuffled, G, R>(rt, alloc, room, log, arbiters, gate, budget);
@@ -97,11 +104,33 @@ fn run_on_threads<N: Run + Send + Sync, G: Gate + Sync, R: Threads + Wait + Sync
     machine_lock::laws::events_are_listed();
     machine_lock::laws::stopped_are_shut();
     match ended.fault {
-        None => Ok(Finished {
+        None => Ok(RunEnd {
             log: ended.logged,
-            consoles: ended.consoles,
+            consoles: Some(ended.consoles),
+        }),
+        Some(RunFault::Budget) => Ok(RunEnd {
+            log: ended.logged,
+            consoles: None,
         }),
         Some(fault) => Err(fault_of(fault)),
+    }
+}
+
+/// The log after steps that complete all open references.
+///
+/// # Errors
+///
+/// [`Fault::Full`] if the log has no room for the most steps that this may take, otherwise [`Fault::Memory`].
+pub(crate) fn drained(mut log: Logged) -> Result<Logged, Fault>
+    ensures drained { IfOk result (IsDrainedAfter log) }
+    ensures refused { IfErr result (λ fault. (fault ≡ Fault.Full) ⊎ (fault ≡ Fault.Memory)) }
+{
+    let count = log.drain();
+    machine_log::laws::log_is_well_formed(&log);
+    match count {
+        Ok(_) => Ok(log),
+        Err(LockRefusal::Full) => Err(Fault::Full),
+        Err(_) => Err(Fault::Memory),
     }
 }
 

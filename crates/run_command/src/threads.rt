@@ -1,14 +1,15 @@
 //! `ultra run` on threads: from the bytes of an image to the report of its run.
 
-ghost use Rattle.std.specs.Prelude.{◌≡◌, ◌≤◌, ◌↔◌, true, false, IfOk, IfErr, IsErrOf, OnErr};
-ghost use Rattle.trace_commands.specs.Causes.{RunCommandFails, RunFails};
+ghost use Rattle.std.specs.Prelude.{◌≡◌, ◌≤◌, ◌↔◌, ◌⊎◌, true, false, IfOk, IfErr, IsErrOf};
 ghost use Rattle.trace_commands.specs.TraceReports.{IsWorking, PrintsRun, trace_output};
 ghost use Rattle.command_io.specs.FaultTexts.{IsReported};
 ghost use Rattle.command_io.specs.Links.{input, output};
 ghost use Rattle.command_io.specs.Printing.{ReportsCause};
-ghost use Rattle.run_command.specs.ThreadRuns.{on_threads, threaded_run};
+ghost use Rattle.run_command.specs.ThreadRuns.{on_threads, runs_on_threads, threaded_run};
+ghost use Rattle.run_command.specs.UnfinishedRuns.{IsSilentBut, PrintsUnfinished, RunCommandEnds, RunsEndIn};
 
-use crate::run::run_to_log;
+use crate::run::{RunEnd, drained, run_to_log};
+use crate::unfinished::print_unfinished;
 use command_io::{Fault, report_outcome};
 use elf_image::ImageError;
 use flat_machine::Config;
@@ -33,6 +34,9 @@ use trace_commands::print_run;
 /// that of the fault reported on standard error. Faults are checked in this order: of the image, of the machine's size,
 /// of the run, of the trace, of the report. A run has a fault if it is out of memory, if its log is full, or if a
 /// thread uses up its budget or fails to start.
+///
+/// With `unfinished`, a run that a thread's budget has ended is drained and reported like one in which all have stopped,
+/// and then the fault of the budget is reported, if there was no other.
 pub fn threaded_run_command<
     F: LinkRead,
     T: LinkWrite,
@@ -48,6 +52,7 @@ pub fn threaded_run_command<
     start: u32,
     gate: &G,
     budget: u32,
+    unfinished: bool,
     trace: &mut Option<T>,
     out: &mut W,
     err: &mut E,
@@ -58,16 +63,21 @@ pub fn threaded_run_command<
     ensures reported { result ≤ 1 →
         PrintsRun (on_threads (threaded_run config (input F.remaining F.has_failed file.old file.new)))
         (trace_output T.contents trace.old trace.new) (output W.contents W.has_failed out.old out.new) result }
-    ensures fault { 2 ≤ result → ReportsCause
-        (RunCommandFails (on_threads (threaded_run config (input F.remaining F.has_failed file.old file.new)))
+    ensures fault { 2 ≤ result → ReportsCause (RunCommandEnds
+        (runs_on_threads unfinished (threaded_run config (input F.remaining F.has_failed file.old file.new)))
         (trace_output T.contents trace.old trace.new) (output W.contents W.has_failed out.old out.new))
         (IsReported (E.contents err.old) (E.contents err.new)) result }
     ensures unread { F.has_failed file.new ≡ true → result ≡ 3 }
     ensures failed { W.has_failed out.new ≡ true → result ≡ 3 }
-    ensures silent { 2 ≤ result → W.has_failed out.new ≡ false → out.new ≡ out.old }
+    ensures silent { 2 ≤ result → W.has_failed out.new ≡ false → (out.new ≡ out.old) ⊎ PrintsUnfinished
+        (runs_on_threads unfinished (threaded_run config (input F.remaining F.has_failed file.old file.new)))
+        (trace_output T.contents trace.old trace.new) (output W.contents W.has_failed out.old out.new)
+        (IsReported (E.contents err.old) (E.contents err.new)) }
     ensures quiet { result ≤ 1 → err.new ≡ err.old }
 {
-    let outcome = execute(rt, alloc, file, config, start, gate, budget, trace, out);
+    let outcome = execute(
+        rt, alloc, file, config, start, gate, budget, unfinished, trace, out,
+    );
     report_outcome(outcome, err)
 }
 
@@ -80,6 +90,7 @@ fn execute<F: LinkRead, T: LinkWrite, W: LinkWrite, G: Gate + Sync, R: Threads +
     start: u32,
     gate: &G,
     budget: u32,
+    unfinished: bool,
     trace: &mut Option<T>,
     out: &mut W,
 ) -> Result<u8, Fault>
@@ -89,15 +100,21 @@ fn execute<F: LinkRead, T: LinkWrite, W: LinkWrite, G: Gate + Sync, R: Threads +
     ensures reported { IfOk result
         (PrintsRun (on_threads (threaded_run config (input F.remaining F.has_failed file.old file.new)))
         (trace_output T.contents trace.old trace.new) (output W.contents W.has_failed out.old out.new)) }
-    ensures fault { IfErr result
-        (RunFails (on_threads (threaded_run config (input F.remaining F.has_failed file.old file.new)))
+    ensures fault { IfErr result (RunsEndIn
+        (runs_on_threads unfinished (threaded_run config (input F.remaining F.has_failed file.old file.new)))
         (trace_output T.contents trace.old trace.new) (output W.contents W.has_failed out.old out.new)) }
     ensures unread { IsErrOf result (Fault.Image ImageError.Link) ↔ (F.has_failed file.new ≡ true) }
     ensures failed { IsErrOf result Fault.Link ↔ (W.has_failed out.new ≡ true) }
     ensures low { IfOk result (λ status. status ≤ 1) }
-    ensures silent { OnErr result (W.has_failed out.new ≡ false → out.new ≡ out.old) }
+    ensures silent { IfErr result (IsSilentBut unfinished (W.has_failed out.new ≡ false → out.new ≡ out.old)) }
 {
-    let finished = run_to_log(rt, alloc, file, config, start, gate, budget)?;
-    let consoles = finished.consoles.as_slice();
-    print_run(alloc, &finished.log, Some(consoles), trace, out)
+    let RunEnd { log, consoles } = run_to_log(rt, alloc, file, config, start, gate, budget)?;
+    match consoles {
+        Some(consoles) => print_run(alloc, &log, Some(consoles.as_slice()), trace, out),
+        None if unfinished => {
+            let log = drained(log)?;
+            Err(print_unfinished(alloc, &log, trace, out))
+        }
+        None => Err(Fault::Budget),
+    }
 }

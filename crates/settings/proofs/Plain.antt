@@ -171,23 +171,20 @@ unset : (b : Bool) → (b ≡ true → Some (codes "false") ≡ Some (codes "tru
 unset false f = refl
 unset true f = let bad : Some (codes "false") ≡ Some (codes "true") = f refl in cc
 
--- ---- the commands with one file and no flag: `words FILE`, `check FILE` and `debug FILE`
+-- ---- the commands with one file and no option: `words FILE` and `check FILE`
 
 data FileCommand : Type 0 where
   OfWords : FileCommand
   OfCheck : FileCommand
-  OfDebug : FileCommand
 
 abbrev file_command : FileCommand → Text
 file_command OfWords = codes "words"
 file_command OfCheck = codes "check"
-file_command OfDebug = codes "debug"
 
 file_met : (c : FileCommand) (program file : Text) → IsNoOption file → Meets (program ∷ file_command c ∷ file ∷ []) (file_command c) (file_rows file)
 unfolding row file_rows clap_on_literals commands
 file_met OfWords program file h = rw (no_hyphens file h, no_hyphen file h, no_hyphen file h) (refl, refl)
 file_met OfCheck program file h = rw (no_hyphens file h, no_hyphen file h, no_hyphen file h) (refl, refl)
-file_met OfDebug program file h = rw (no_hyphens file h, no_hyphen file h, no_hyphen file h) (refl, refl)
 
 file_are : (c : FileCommand) (file : Text) (words : List Text) → HasFile (file_command c) file words → (s : Settings)
     → (name_of s ≡ file_command c) × AreOf (file_rows file) s → IsPlain s words
@@ -198,15 +195,8 @@ file_are OfWords file words named other said = apart (name_of other) (codes "wor
 file_are OfCheck file words named (asked.Check c) said = file_read file c.file.now words named said.1
 file_are OfCheck file words named (asked.Trace d r) said = no_trace d (codes "check") refl said.0
 file_are OfCheck file words named other said = apart (name_of other) (codes "check") refl said.0
-file_are OfDebug file words named (asked.Debug d) said =
-    let sizes = said.1.2 in
-    let budget = said.1.3 in
-    let port = said.1.4 in
-    (file_read file d.file.now words named said.1.0, no_text d.trace said.1.1, (sizes.0.0, sizes.1.0, sizes.2.0, sizes.3.0, sizes.4.0), budget.0, port.0)
-file_are OfDebug file words named (asked.Trace d r) said = no_trace d (codes "debug") refl said.0
-file_are OfDebug file words named other said = apart (name_of other) (codes "debug") refl said.0
 
--- The words give the command's file, no trace, and the default of each number.
+-- The words give the command's file.
 file_given : (c : FileCommand) (file : Text) (words : List Text) → HasFile (file_command c) file words → GivePlain words
 file_given c file words named = give _ words (file_command c) (file_rows file) (rw named.1 (file_met c named.0 file named.2)) (file_are c file words named)
 
@@ -308,7 +298,8 @@ dis_given file words named = give _ words (codes "dis") (dis_rows file) (rw name
 run_rows : (file : Text) → List Row
 run_rows file =
     row (codes "FILE") file CommandLine ∷ row (codes "sweep") (codes "false") DefaultValue
-    ∷ row (codes "no-log") (codes "false") DefaultValue ∷ row (codes "quiet") (codes "false") DefaultValue ∷ []
+    ∷ row (codes "no-log") (codes "false") DefaultValue ∷ row (codes "unfinished") (codes "false") DefaultValue
+    ∷ row (codes "quiet") (codes "false") DefaultValue ∷ []
 
 run_met : (program file : Text) → IsNoOption file → Meets (program ∷ codes "run" ∷ file ∷ []) (codes "run") (run_rows file)
 unfolding row run_rows clap_on_literals commands
@@ -318,14 +309,15 @@ run_are : (file : Text) (words : List Text) → HasFile (codes "run") file words
     IsPlain s words
 unfolding name_of row run_rows
 run_are file words named (asked.Run r) said =
-    let sizes = said.1.5 in
-    let budget = said.1.6 in
-    let start = said.1.7 in (
+    let sizes = said.1.6 in
+    let budget = said.1.7 in
+    let start = said.1.8 in (
       file_read file r.file.now words named said.1.0,
       no_text r.trace said.1.1,
       unset r.sweep said.1.2.0,
       unset r.no_log said.1.3.0,
-      unset r.quiet said.1.4.0,
+      unset r.unfinished said.1.4.0,
+      unset r.quiet said.1.5.0,
       (sizes.0.0, sizes.1.0, sizes.2.0, sizes.3.0, sizes.4.0),
       budget.0,
       start.0,
@@ -373,6 +365,37 @@ hunt_are file words named other said = apart (name_of other) (codes "hunt") refl
 -- `hunt FILE` gives the file, no trace, no list, no flag, and the default of each number.
 hunt_given : (file : Text) (words : List Text) → HasFile (codes "hunt") file words → GivePlain words
 hunt_given file words named = give _ words (codes "hunt") (hunt_rows file) (rw named.1 (hunt_met named.0 file named.2)) (hunt_are file words named)
+
+-- ---- `debug FILE`
+
+debug_rows : (file : Text) → List Row
+debug_rows file = row (codes "FILE") file CommandLine ∷ row (codes "stdio") (codes "false") DefaultValue ∷ []
+
+debug_met : (program file : Text) → IsNoOption file → Meets (program ∷ codes "debug" ∷ file ∷ []) (codes "debug") (debug_rows file)
+unfolding row debug_rows clap_on_literals commands
+debug_met program file h = rw (no_hyphens file h, no_hyphen file h, no_hyphen file h) (refl, refl)
+
+debug_are : (file : Text) (words : List Text) → HasFile (codes "debug") file words → (s : Settings)
+    → (name_of s ≡ codes "debug") × AreOf (debug_rows file) s → IsPlain s words
+unfolding name_of row debug_rows
+debug_are file words named (asked.Debug d) said =
+    let sizes = said.1.3 in
+    let budget = said.1.4 in
+    let port = said.1.5 in (
+      file_read file d.file.now words named said.1.0,
+      no_text d.trace said.1.1,
+      unset d.stdio said.1.2.0,
+      (sizes.0.0, sizes.1.0, sizes.2.0, sizes.3.0, sizes.4.0),
+      budget.0,
+      port.0,
+    )
+debug_are file words named (asked.Trace d r) said = no_trace d (codes "debug") refl said.0
+debug_are file words named other said = apart (name_of other) (codes "debug") refl said.0
+
+-- `debug FILE` gives the file, no trace, no flag, and the default of each number.
+debug_given : (file : Text) (words : List Text) → HasFile (codes "debug") file words → GivePlain words
+debug_given file words named =
+    give _ words (codes "debug") (debug_rows file) (rw named.1 (debug_met named.0 file named.2)) (debug_are file words named)
 
 -- ---- `explain [CODE]..`
 
@@ -472,5 +495,5 @@ plain_given (asked.Trace c r) words said = trace_given (Alone c) r.trace.now r.f
 plain_given (asked.Order o) words said = trace_given OfOrder o.replay.trace.now o.replay.file.now words said.0.0
 plain_given (asked.Story o) words said = trace_given OfStory o.replay.trace.now o.replay.file.now words said.0.0
 plain_given (asked.Picture p) words said = trace_given OfPicture p.replay.trace.now p.replay.file.now words said.0.0
-plain_given (asked.Debug d) words said = file_given OfDebug d.file.now words said.0
+plain_given (asked.Debug d) words said = debug_given d.file.now words said.0
 plain_given (asked.Explain e) words said = explain_given (texts_of e.words.items) words said

@@ -67,7 +67,8 @@ GivesDis rows d = IsPath (codes "FILE") rows d.file.now × IsFlag (codes "commen
 abbrev pub GivesRun : List Row → Run → Type 0
 GivesRun rows r = IsPath (codes "FILE") rows r.file.now
     × IsOption (codes "trace") rows (option_map (λ t. t.now) r.trace) × IsFlag (codes "sweep") rows r.sweep
-    × IsFlag (codes "no-log") rows r.no_log × IsFlag (codes "quiet") rows r.quiet × AreSizes rows r.sizes
+    × IsFlag (codes "no-log") rows r.no_log × IsFlag (codes "unfinished") rows r.unfinished
+    × IsFlag (codes "quiet") rows r.quiet × AreSizes rows r.sizes
     × IsNumber budget rows r.budget × IsNumber start rows r.start
 
 abbrev pub GivesReplay : List Row → Replay → Type 0
@@ -86,8 +87,8 @@ GivesPicture rows p = GivesReplay rows p.replay × IsChoice step rows p.step
 
 abbrev pub GivesSession : List Row → Session → Type 0
 GivesSession rows d = IsPath (codes "FILE") rows d.file.now
-    × IsOption (codes "trace") rows (option_map (λ t. t.now) d.trace) × AreSizes rows d.sizes
-    × IsNumber steps rows d.budget × IsNumber port rows d.port
+    × IsOption (codes "trace") rows (option_map (λ t. t.now) d.trace) × IsFlag (codes "stdio") rows d.stdio
+    × AreSizes rows d.sizes × IsNumber steps rows d.budget × IsNumber port rows d.port
 
 abbrev pub GivesExplore : List Row → Explore → Type 0
 GivesExplore rows x = IsPath (codes "FILE") rows x.file.now

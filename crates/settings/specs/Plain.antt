@@ -52,7 +52,7 @@ IsPlain (asked.Check c) words = HasFile (codes "check") c.file.now words
 IsPlain (asked.Asm a) words = HasFiles (codes "asm") a.file.now a.out.now words
 IsPlain (asked.Dis d) words = HasFile (codes "dis") d.file.now words × (d.comments ≡ false) × (d.words ≡ 1024)
 IsPlain (asked.Run r) words = HasFile (codes "run") r.file.now words
-    × (r.trace ≡ None) × (r.sweep ≡ false) × (r.no_log ≡ false) × (r.quiet ≡ false)
+    × (r.trace ≡ None) × (r.sweep ≡ false) × (r.no_log ≡ false) × (r.unfinished ≡ false) × (r.quiet ≡ false)
     × AreUsual r.sizes × (r.budget ≡ 10000000) × (r.start ≡ 1)
 IsPlain (asked.Hunt h) words = HasFile (codes "hunt") h.file.now words
     × (h.trace ≡ None) × (h.observe ≡ None) × (h.overwrite ≡ false) × (h.expect_one ≡ false) × (h.quiet ≡ false)
@@ -65,5 +65,5 @@ IsPlain (asked.Order o) words = HasTrace (codes "order") o.replay words × Takes
 IsPlain (asked.Story o) words = HasTrace (codes "story") o.replay words × TakesAll o
 IsPlain (asked.Picture p) words = HasTrace (codes "picture") p.replay words × (p.step ≡ None)
 IsPlain (asked.Debug d) words = HasFile (codes "debug") d.file.now words
-    × (d.trace ≡ None) × AreUsual d.sizes × (d.budget ≡ 100000) × (d.port ≡ 3333)
+    × (d.trace ≡ None) × (d.stdio ≡ false) × AreUsual d.sizes × (d.budget ≡ 100000) × (d.port ≡ 3333)
 IsPlain (asked.Explain e) words = HasOthers (codes "explain") (texts_of e.words.items) words

@@ -79,6 +79,8 @@ pub struct Run<'a> {
     pub sweep: bool,
     /// Whether the run keeps no log of its steps.
     pub no_log: bool,
+    /// Whether a run that its budget ends is reported, too.
+    pub unfinished: bool,
     /// Whether to leave out reports of the run's progress.
     pub quiet: bool,
     /// The sizes of the machine.
@@ -138,11 +140,13 @@ pub struct Session<'a> {
     pub file: &'a str,
     /// Where to write the trace of the session, if anywhere.
     pub trace: Option<&'a str>,
+    /// Whether the session is served over standard input and output. If not, it is served at a port.
+    pub stdio: bool,
     /// The sizes of the machine.
     pub sizes: Sizes,
     /// How many steps one command of the debugger may take, from 1 to 4,000,000.
     pub budget: u32,
-    /// The port on which to wait for the debugger, from 1.
+    /// The port on which to wait for the debugger; with 0 the host chooses a free one.
     pub port: u16,
 }
 

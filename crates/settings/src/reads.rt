@@ -184,6 +184,7 @@ fn run<'a>(matches: &ArgMatches<'a>) -> Run<'a>
         trace: option(matches, "trace"),
         sweep: flag(matches, "sweep"),
         no_log: flag(matches, "no-log"),
+        unfinished: flag(matches, "unfinished"),
         quiet: flag(matches, "quiet"),
         sizes: sizes(matches),
         budget: number(matches, BUDGET),
@@ -264,6 +265,7 @@ fn session<'a>(matches: &ArgMatches<'a>) -> Session<'a>
     Session {
         file: path(matches, "FILE"),
         trace: option(matches, "trace"),
+        stdio: flag(matches, "stdio"),
         sizes: sizes(matches),
         budget: number(matches, STEPS),
         port: short(matches, PORT),

@@ -1,4 +1,4 @@
-//! Files of this machine.
+//! Files of this machine, and standard input.
 
 ghost use Rattle.std.specs.Prelude.{◌≡◌, false, IfOk};
 ghost use Rattle.trace_commands.specs.TraceReports.{IsWorking};
@@ -7,17 +7,46 @@ use crate::refusal::Refusal;
 use crate::reports::{Explained, Reason};
 use command_io::{CreateAt, OnFirstWrite};
 use link::{Link, Meter};
+use settings::Replay;
+use std::io::{Input, Read};
 use std::os::unix::fs::MetadataExt;
 use std::rt::Files;
 use std::{fs, io};
 
+/// The path that stands for standard input if it is read, and for standard output if it is written.
+pub(crate) const STANDARD: &str = "-";
+
+/// What a command reads.
+#[derive(Drop)]
+pub(crate) enum Source<F, I> {
+    File(F),
+    StandardInput(I),
+}
+
+impl<F: Read, I: Read> Read for Source<F, I> {
+    fn read(&mut self, buf: &mut [u8]) -> io::Result<usize> {
+        match self {
+            Source::File(file) => file.read(buf),
+            Source::StandardInput(input) => input.read(buf),
+        }
+    }
+}
+
+/// Opens the source at a path.
+fn source_at<R: Files + Input>(rt: &R, path: &str) -> io::Result<Source<R::File, R::Reader>> {
+    if path == STANDARD {
+        return Ok(Source::StandardInput(rt.reader()));
+    }
+    Ok(Source::File(fs::open(rt, path)?))
+}
+
 /// Opens a file to read it. A read that fails leaves its error in `reason`.
-pub(crate) fn open<'a, 'r, R: Files>(
-    files: &R,
+pub(crate) fn open<'a, 'r, R: Files + Input>(
+    rt: &R,
     path: &'a str,
     reason: &'r Reason,
-) -> Result<Explained<'r, R::File>, Refusal<'a>> {
-    match fs::open(files, path) {
+) -> Result<Explained<'r, Source<R::File, R::Reader>>, Refusal<'a>> {
+    match source_at(rt, path) {
         Ok(device) => Ok(Explained { device, reason }),
         Err(error) => Err(Refusal::Closed(path, error)),
     }
@@ -25,14 +54,15 @@ pub(crate) fn open<'a, 'r, R: Files>(
 
 /// Opens the image of a trace's run. If it cannot be opened, the error is left in `reason`, and the command reports it
 /// after what is wrong with the trace.
-pub(crate) fn open_image<'r, R: Files>(
-    files: &R,
+pub(crate) fn open_image<'r, R: Files + Input>(
+    rt: &R,
     path: &str,
     reason: &'r Reason,
-) -> io::Result<Meter<Explained<'r, R::File>>>
-    ensures { IfOk result (λ file. ⟦<Meter<Explained<'r, R::File>> as Link>⟧.has_failed file ≡ false) }
+) -> io::Result<Meter<Explained<'r, Source<R::File, R::Reader>>>>
+    ensures { IfOk result (λ file.
+        ⟦<Meter<Explained<'r, Source<R::File, R::Reader>>> as Link>⟧.has_failed file ≡ false) }
 {
-    match fs::open(files, path) {
+    match source_at(rt, path) {
         Ok(device) => Ok(Meter::new(Explained { device, reason })),
         Err(error) => {
             reason.set(Some(error));
@@ -41,17 +71,39 @@ pub(crate) fn open_image<'r, R: Files>(
     }
 }
 
+/// Refuses to read both a trace and the image of its run from standard input.
+pub(crate) fn read_once<'a>(replay: &Replay<'a>) -> Result<(), Refusal<'a>> {
+    if replay.trace == STANDARD && replay.file == STANDARD {
+        return Err(Refusal::InputTwice);
+    }
+    Ok(())
+}
+
 /// Opens a file to read it, unless it is OUT, which is to be written.
-pub(crate) fn open_beside<'a, 'r, R: Files>(
-    files: &R,
+pub(crate) fn open_beside<'a, 'r, R: Files + Input>(
+    rt: &R,
     path: &'a str,
     out: Option<&str>,
     reason: &'r Reason,
-) -> Result<Explained<'r, R::File>, Refusal<'a>> {
-    if out.is_some_and(|out| are_one_file(files, path, out)) {
+) -> Result<Explained<'r, Source<R::File, R::Reader>>, Refusal<'a>> {
+    if path != STANDARD && out.is_some_and(|out| are_one_file(rt, path, out)) {
         return Err(Refusal::SameFile);
     }
-    open(files, path, reason)
+    open(rt, path, reason)
+}
+
+/// Opens a file to read it, unless it is that of the trace, which is to be written. No trace goes to standard output,
+/// since a report is printed there.
+pub(crate) fn open_beside_trace<'a, 'r, R: Files + Input>(
+    rt: &R,
+    path: &'a str,
+    trace: Option<&str>,
+    reason: &'r Reason,
+) -> Result<Explained<'r, Source<R::File, R::Reader>>, Refusal<'a>> {
+    if trace.is_some_and(|trace| trace == STANDARD) {
+        return Err(Refusal::PrintedTrace);
+    }
+    open_beside(rt, path, trace, reason)
 }
 
 /// A writer to OUT, which the first write opens. A write that fails leaves its error in `reason`.

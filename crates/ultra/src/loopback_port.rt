@@ -45,7 +45,9 @@ impl<R: Net, W: Write> LoopbackPort<'_, R, W> {
     /// The two sides of the one connection.
     fn streams(&mut self) -> io::Result<(R::Stream, R::Stream)> {
         let listener = TcpListener::bind(self.net, loopback(self.port))?;
-        let Ok(()) = announce_on(self.out, self.port) else {
+        // If the port asked for is 0, the host has chosen another.
+        let port = listener.local_addr()?.port();
+        let Ok(()) = announce_on(self.out, port) else {
             return Err(ErrorKind::Other.into());
         };
         self.out.flush()?;

@@ -8,17 +8,21 @@ mod files;
 mod loopback_port;
 mod refusal;
 mod reports;
+mod standard_streams;
 mod traces;
 
-use crate::files::{open, open_beside, open_image, trace_to, writer_to};
+use crate::files::{
+    STANDARD, open, open_beside, open_beside_trace, open_image, read_once, trace_to, writer_to,
+};
 use crate::loopback_port::LoopbackPort;
 use crate::refusal::{Refusal, refuse};
 use crate::reports::{Explained, Place, Reason, Reports, place_of, report_place};
+use crate::standard_streams::StandardStreams;
 use crate::traces::TraceFiles;
 use asm_commands::{asm_command, check_command, dis_command};
 use clap::Error;
 use command_io::{DONE, Fault, LINK_FAILED, SPENT, report_fault};
-use debug_session::debug_command;
+use debug_session::{Connect, debug_command};
 use explain_command::{all_topics, explain_command};
 use explore_command::{
     Asked, NoProgress, SearchObserver, SearchProgress, explore_command, explore_every_size,
@@ -28,14 +32,14 @@ use hunt_command::{Hunt as Hunted, HuntProgress, NoHuntProgress, hunt_command};
 use link::{LinkRead, LinkWrite, Meter};
 use machine_picture::Svg;
 use observed_words::ObservedWords;
-use processor_threads::Open;
+use processor_threads::{Gate, Open};
 use run_command::{Progress, run_command, threaded_run_command, unlogged_run_command};
 use settings::{
     Explore, Hunt, Lines, Replay, Run, Session, Settings, Sizes, TraceCommand, settings, status_of,
 };
 use std::alloc::{AllocError, Global};
 use std::env;
-use std::io::{self, ErrorKind, IsTerminal, Read, Write};
+use std::io::{self, ErrorKind, Input, IsTerminal, Read, Write};
 use std::net::Net;
 use std::process::ExitCode;
 use std::rt::{Env, Files};
@@ -68,7 +72,7 @@ fn main(rt: HostRuntime) -> ExitCode {
 /// Does what the command line asks for, and returns the exit status. `terminal` says whether standard error is a
 /// terminal. A call that fails leaves its error in `reason`.
 fn carry_out<
-    R: Env + Files + Net + Threads + Wait + Clock + Eprint + Sync + AllocGlobal,
+    R: Env + Files + Input + Net + Threads + Wait + Clock + Eprint + Sync + AllocGlobal,
     W: LinkWrite,
     E: Write,
 >(rt: &R, terminal: bool, reason: &Reason, out: &mut W, err: &mut E) -> u8
@@ -87,7 +91,7 @@ fn carry_out<
 
 /// Does what the words of a command line ask for.
 fn carry_out_words<
-    R: Files + Net + Threads + Wait + Clock + Eprint + Sync + AllocGlobal,
+    R: Files + Input + Net + Threads + Wait + Clock + Eprint + Sync + AllocGlobal,
     W: LinkWrite,
     E: Write,
 >(rt: &R, arguments: &[String], terminal: bool, reason: &Reason, out: &mut W, err: &mut E) -> u8
@@ -104,7 +108,7 @@ fn carry_out_words<
 
 /// Does what settings ask for, and reports in a second line which file is at fault.
 fn execute_and_report<
-    R: Files + Net + Threads + Wait + Clock + Eprint + Sync + AllocGlobal,
+    R: Files + Input + Net + Threads + Wait + Clock + Eprint + Sync + AllocGlobal,
     W: LinkWrite,
     E: Write,
 >(rt: &R, settings: &Settings<'_>, terminal: bool, reason: &Reason, out: &mut W, err: &mut E) -> u8
@@ -136,7 +140,7 @@ fn execute_and_report<
 /// Does what settings ask for.
 fn execute<
     'a,
-    R: Files + Net + Threads + Wait + Clock + Eprint + Sync + AllocGlobal,
+    R: Files + Input + Net + Threads + Wait + Clock + Eprint + Sync + AllocGlobal,
     W: LinkWrite,
     E: Write,
 >(
@@ -160,6 +164,10 @@ fn execute<
             Ok(check_command(alloc, &mut file, out, err))
         }
         Settings::Asm(asm) => {
+            if asm.out == STANDARD {
+                let mut file = Meter::new(open(rt, asm.file, reason)?);
+                return Ok(asm_command(alloc, &mut file, out, err));
+            }
             let mut file = Meter::new(open_beside(rt, asm.file, Some(asm.out), reason)?);
             let mut image = writer_to(rt, asm.out, reason);
             Ok(asm_command(alloc, &mut file, &mut image, err))
@@ -201,7 +209,7 @@ fn execute<
 
 /// Opens a trace, and then the image of its run, and reports on its steps. If the image cannot be opened, the command
 /// reports it after what is wrong with the trace.
-fn tell_steps<'a, A: TraceReport, R: Files + AllocGlobal, W: LinkWrite, E: Write>(
+fn tell_steps<'a, A: TraceReport, R: Files + Input + AllocGlobal, W: LinkWrite, E: Write>(
     rt: &R,
     replay: &Replay<'a>,
     trace_report: &A,
@@ -211,6 +219,7 @@ fn tell_steps<'a, A: TraceReport, R: Files + AllocGlobal, W: LinkWrite, E: Write
 ) -> Result<u8, Refusal<'a>>
     requires works { W.has_failed out.old ≡ false }
 {
+    read_once(replay)?;
     let mut trace = Meter::new(open(rt, replay.trace, reason)?);
     let mut file = open_image(rt, replay.file, reason);
     let words = replay.words;
@@ -244,7 +253,7 @@ fn choice_of(lines: &Lines<'_>) -> Choice
 
 /// Opens a trace, and then the image of its run, and prints the chosen lines of its steps, as [`tell_steps`] prints a
 /// report.
-fn tell_lines<'a, A: TraceReport, R: Files + AllocGlobal, W: LinkWrite, E: Write>(
+fn tell_lines<'a, A: TraceReport, R: Files + Input + AllocGlobal, W: LinkWrite, E: Write>(
     rt: &R,
     lines: &Lines<'a>,
     trace_report: &A,
@@ -254,6 +263,7 @@ fn tell_lines<'a, A: TraceReport, R: Files + AllocGlobal, W: LinkWrite, E: Write
 ) -> Result<u8, Refusal<'a>>
     requires works { W.has_failed out.old ≡ false }
 {
+    read_once(&lines.replay)?;
     let mut trace = Meter::new(open(rt, lines.replay.trace, reason)?);
     let mut file = open_image(rt, lines.replay.file, reason);
     Ok(lines_command(
@@ -271,7 +281,7 @@ fn tell_lines<'a, A: TraceReport, R: Files + AllocGlobal, W: LinkWrite, E: Write
 /// Does what `run FILE` asks for. The first write to OUT opens it.
 fn run_file<
     'a,
-    R: Files + Threads + Wait + Clock + Eprint + Sync + AllocGlobal,
+    R: Files + Input + Threads + Wait + Clock + Eprint + Sync + AllocGlobal,
     W: LinkWrite,
     E: Write,
 >(
@@ -287,7 +297,7 @@ fn run_file<
     if run.no_log && (!run.sweep || run.trace.is_some()) {
         return Err(Refusal::NoLog);
     }
-    let mut file = Meter::new(open_beside(rt, run.file, run.trace, reason)?);
+    let mut file = Meter::new(open_beside_trace(rt, run.file, run.trace, reason)?);
     let mut trace = trace_to(rt, run.trace, reason);
     Ok(run_image(rt, &mut file, run, terminal, &mut trace, out, err))
 }
@@ -315,19 +325,59 @@ fn run_image<
     let alloc = rt.alloc();
     let config = config_of(&run.sizes);
     if run.no_log {
-        unlogged_run_command(alloc, file, config, run.budget, out, err)
+        unlogged_run_command(alloc, file, config, run.budget, run.unfinished, out, err)
     } else if run.sweep {
-        run_command(alloc, file, config, run.budget, trace, out, err)
+        run_command(
+            alloc,
+            file,
+            config,
+            run.budget,
+            run.unfinished,
+            trace,
+            out,
+            err,
+        )
     } else if terminal && !run.quiet {
-        let gate = Progress::new(rt, rt);
-        threaded_run_command(
-            rt, alloc, file, config, run.start, &gate, run.budget, trace, out, err,
-        )
+        run_on_threads(rt, file, run, &Progress::new(rt, rt), trace, out, err)
     } else {
-        threaded_run_command(
-            rt, alloc, file, config, run.start, &Open, run.budget, trace, out, err,
-        )
+        run_on_threads(rt, file, run, &Open, trace, out, err)
     }
+}
+
+/// Runs an image on threads, which pass the gate.
+fn run_on_threads<
+    F: LinkRead,
+    T: LinkWrite,
+    G: Gate + Sync,
+    R: Threads + Wait + Sync + AllocGlobal,
+    W: LinkWrite,
+    E: Write,
+>(
+    rt: &R,
+    file: &mut F,
+    run: &Run<'_>,
+    gate: &G,
+    trace: &mut Option<T>,
+    out: &mut W,
+    err: &mut E,
+) -> u8
+    requires reads { F.has_failed file.old ≡ false }
+    requires saves { IsWorking T.has_failed trace.old }
+    requires works { W.has_failed out.old ≡ false }
+{
+    threaded_run_command(
+        rt,
+        rt.alloc(),
+        file,
+        config_of(&run.sizes),
+        run.start,
+        gate,
+        run.budget,
+        run.unfinished,
+        trace,
+        out,
+        err,
+    )
 }
 
 /// The size of the machine, from that of the command line.
@@ -346,7 +396,7 @@ fn config_of(sizes: &Sizes) -> Config
 }
 
 /// Does what `explore FILE` asks for. The first write to OUT opens it.
-fn explore_file<'a, R: Files + Clock + Eprint + AllocGlobal, W: LinkWrite, E: Write>(
+fn explore_file<'a, R: Files + Input + Clock + Eprint + AllocGlobal, W: LinkWrite, E: Write>(
     rt: &R,
     explore: &Explore<'a>,
     terminal: bool,
@@ -363,7 +413,7 @@ fn explore_file<'a, R: Files + Clock + Eprint + AllocGlobal, W: LinkWrite, E: Wr
         return Err(Refusal::Half);
     }
     let words = words_of(rt.alloc(), explore.observe, &explore.sizes)?;
-    let mut file = Meter::new(open_beside(rt, explore.file, explore.trace, reason)?);
+    let mut file = Meter::new(open_beside_trace(rt, explore.file, explore.trace, reason)?);
     let mut trace = trace_to(rt, explore.trace, reason);
     let config = config_of(&explore.sizes);
     let asked = Asked {
@@ -473,7 +523,7 @@ fn explore_watched<F: LinkRead, T: LinkWrite, G: SearchObserver, W: LinkWrite, E
 
 /// Does what `hunt FILE` asks for. The first write to a trace opens it. The progress of the hunt is reported on a
 /// terminal.
-fn hunt_file<'a, R: Files + Clock + Eprint + AllocGlobal, W: LinkWrite, E: Write>(
+fn hunt_file<'a, R: Files + Input + Clock + Eprint + AllocGlobal, W: LinkWrite, E: Write>(
     rt: &R,
     hunt: &Hunt<'a>,
     terminal: bool,
@@ -531,23 +581,45 @@ fn hunt_file<'a, R: Files + Clock + Eprint + AllocGlobal, W: LinkWrite, E: Write
     })
 }
 
-/// Does what `debug FILE` asks for. The first write to OUT opens it.
-fn debug_file<'a, R: Files + Net + Wait + AllocGlobal, W: Write, E: Write>(
+/// Does what `debug FILE` asks for, over standard input and output or at a port.
+fn debug_file<'a, R: Files + Input + Net + Wait + AllocGlobal, W: Write, E: Write>(
     rt: &R,
     session: &Session<'a>,
     reason: &Reason,
     out: &mut W,
     err: &mut E,
 ) -> Result<u8, Refusal<'a>> {
-    let mut file = Meter::new(open_beside(rt, session.file, session.trace, reason)?);
-    let config = config_of(&session.sizes);
-    let mut trace = trace_to(rt, session.trace, reason);
+    if session.stdio {
+        if session.file == STANDARD {
+            return Err(Refusal::InputTwice);
+        }
+        let mut streams = StandardStreams {
+            rt,
+            reason,
+            out: Some(out),
+        };
+        return debug_over(rt, session, &mut streams, reason, err);
+    }
     let mut loopback_port = LoopbackPort {
         net: rt,
         port: session.port,
         reason,
         out,
     };
+    debug_over(rt, session, &mut loopback_port, reason, err)
+}
+
+/// Serves the session over the link that `door` gives. The first write to OUT opens it.
+fn debug_over<'a, C: Connect, R: Files + Input + Wait + AllocGlobal, E: Write>(
+    rt: &R,
+    session: &Session<'a>,
+    door: &mut C,
+    reason: &Reason,
+    err: &mut E,
+) -> Result<u8, Refusal<'a>> {
+    let mut file = Meter::new(open_beside_trace(rt, session.file, session.trace, reason)?);
+    let config = config_of(&session.sizes);
+    let mut trace = trace_to(rt, session.trace, reason);
     let budget = session.budget;
     Ok(debug_command(
         rt,
@@ -555,7 +627,7 @@ fn debug_file<'a, R: Files + Net + Wait + AllocGlobal, W: Write, E: Write>(
         &mut file,
         config,
         budget,
-        &mut loopback_port,
+        door,
         &mut trace,
         err,
     ))

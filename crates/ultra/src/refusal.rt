@@ -21,6 +21,10 @@ pub(crate) enum Refusal<'a> {
     NoList(&'a str, u32),
     /// There is no memory for what the command line asks for.
     Memory,
+    /// Standard input is to be read for two purposes.
+    InputTwice,
+    /// A trace is to be written to standard output.
+    PrintedTrace,
 }
 
 impl Refusal<'_> {
@@ -38,6 +42,8 @@ impl Refusal<'_> {
             Refusal::NoLog => refuse("--no-log goes with --sweep, and not with --trace", err),
             Refusal::NoList(list, words) => refuse_list(list, words, err),
             Refusal::Memory => report_fault(Fault::Memory, err),
+            Refusal::InputTwice => refuse("standard input is asked for twice", err),
+            Refusal::PrintedTrace => refuse("a trace is not written to standard output", err),
         }
     }
 }

@@ -1,5 +1,6 @@
 //! What is reported of files: which of them is at fault, and the system's error.
 
+use crate::files::STANDARD;
 use settings::{Replay, Settings};
 use std::cell::Cell;
 use std::fmt::{self, Display};
@@ -77,17 +78,22 @@ impl<E: Write> Write for Reports<'_, E> {
 /// What is at fault.
 #[derive(Clone, Copy, Debug, PartialEq, Eq, Drop)]
 pub(crate) enum Place<'a> {
+    /// The file at this path, or standard input.
     File(&'a str),
     Port(u16),
     StandardOutput,
+    /// The budget of a run that is not reported. Its line says by which option it is.
+    Budget,
 }
 
 impl Display for Place<'_> {
     fn fmt<W: fmt::Write>(&self, f: &mut fmt::Formatter<W>) -> fmt::Result {
         match self {
+            Place::File(path) if *path == STANDARD => write!(f, "standard input"),
             Place::File(path) => write!(f, "{path}"),
             Place::Port(number) => write!(f, "port {number}"),
             Place::StandardOutput => write!(f, "standard output"),
+            Place::Budget => write!(f, "--unfinished prints where the processors stand"),
         }
     }
 }
@@ -102,7 +108,7 @@ pub(crate) fn report_place<E: Write>(place: Place<'_>, reason: Option<io::Error>
 }
 
 /// What is at fault by the first letter of a code: a text (A, V), an image (I), a trace (X), or what cannot be opened
-/// or read (`link`). None for other codes, which concern no file.
+/// or read (`link`); or the budget of a run. None for other codes, which concern no file.
 pub(crate) fn place_of<'a>(settings: &Settings<'a>, letter: u8) -> Option<Place<'a>> {
     match (letter, settings) {
         (b'V' | b'l', Settings::Words(words)) => Some(Place::File(words.file)),
@@ -113,10 +119,12 @@ pub(crate) fn place_of<'a>(settings: &Settings<'a>, letter: u8) -> Option<Place<
         (b'I', Settings::Dis(dis)) => Some(Place::File(dis.file)),
         (b'I', Settings::Run(run)) => Some(Place::File(run.file)),
         (b'X', Settings::Run(run)) => file(run.trace),
+        (b'b', Settings::Run(run)) if !run.unfinished => Some(Place::Budget),
         (b'I', Settings::Explore(explore)) => Some(Place::File(explore.file)),
         (b'X', Settings::Explore(explore)) => file(explore.trace),
         (b'I', Settings::Hunt(hunt)) => Some(Place::File(hunt.file)),
         (b'I', Settings::Debug(session)) => Some(Place::File(session.file)),
+        (b'l', Settings::Debug(session)) if session.stdio => Some(Place::File(STANDARD)),
         (b'l', Settings::Debug(session)) => Some(Place::Port(session.port)),
         (_, Settings::Trace(_, replay)) => place_of_replay(replay, letter),
         (_, Settings::Order(lines) | Settings::Story(lines)) => place_of_replay(

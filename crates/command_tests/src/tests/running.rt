@@ -30,13 +30,20 @@ struct Ran {
     trace: Vec<u8>,
 }
 
-/// Runs an image, with a trace.
+/// Runs an image, with a trace. A run that its budget ends is not reported.
 fn run(alloc: Global, image: &[u8], config: Config, budget: u32) -> Ran {
+    run_to(alloc, image, config, budget, false)
+}
+
+/// Runs an image, with a trace. `unfinished` says whether a run that its budget ends is reported, too.
+fn run_to(alloc: Global, image: &[u8], config: Config, budget: u32, unfinished: bool) -> Ran {
     let mut out = Meter::new(Vec::new(alloc));
     let mut err = Vec::new(alloc);
     let mut trace = Some(Meter::new(Vec::new(alloc)));
     let image = &mut Meter::new(image);
-    let status = run_command(alloc, image, config, budget, &mut trace, &mut out, &mut err);
+    let status = run_command(
+        alloc, image, config, budget, unfinished, &mut trace, &mut out, &mut err,
+    );
     let trace = match trace {
         Some(trace) => trace.device,
         None => Vec::new(alloc),

@@ -2,11 +2,13 @@
 
 /// Ways to ask for `debug`.
 pub const TAKEN: &str = r#"$ ultra debug a.elf
-Debug(Session { file: "a.elf", trace: None, sizes: Sizes { k: 2, c: 4, b: 4, r: 1, words: 1024 }, budget: 100000, port: 3333 })
+Debug(Session { file: "a.elf", trace: None, stdio: false, sizes: Sizes { k: 2, c: 4, b: 4, r: 1, words: 1024 }, budget: 100000, port: 3333 })
 $ ultra debug --port 1 a.elf --trace late.trace --budget 4000000
-Debug(Session { file: "a.elf", trace: Some("late.trace"), sizes: Sizes { k: 2, c: 4, b: 4, r: 1, words: 1024 }, budget: 4000000, port: 1 })
+Debug(Session { file: "a.elf", trace: Some("late.trace"), stdio: false, sizes: Sizes { k: 2, c: 4, b: 4, r: 1, words: 1024 }, budget: 4000000, port: 1 })
+$ ultra debug --stdio a.elf --port 0
+Debug(Session { file: "a.elf", trace: None, stdio: true, sizes: Sizes { k: 2, c: 4, b: 4, r: 1, words: 1024 }, budget: 100000, port: 0 })
 $ ultra debug a.elf --port=65535 --k 0 --c 16 --b 0 --r 2 --words 262144 --budget 1
-Debug(Session { file: "a.elf", trace: None, sizes: Sizes { k: 0, c: 16, b: 0, r: 2, words: 262144 }, budget: 1, port: 65535 })
+Debug(Session { file: "a.elf", trace: None, stdio: false, sizes: Sizes { k: 0, c: 16, b: 0, r: 2, words: 262144 }, budget: 1, port: 65535 })
 "#;
 
 /// Parts of the help.
@@ -16,7 +18,7 @@ DisplayHelp
 Usage: ultra debug [OPTIONS] <FILE>
 $ ultra help debug
 DisplayHelp
---port <NUMBER>    Port of 127.0.0.1 for the debugger, 1 to 65535 [default: 3333]
+--port <NUMBER>    Port of 127.0.0.1 for the debugger, 0 to 65535; with 0 the host chooses a free one [default: 3333]
 $ ultra debug --help
 DisplayHelp
 --trace <OUT>      Where to write the steps of the session, for `ultra replay`; opened after the session is over

@@ -90,8 +90,8 @@ static OUT_OF_RANGE: [(&str, &str, &str, &str); 36] = [
         "0",
         "1..=262144",
     ),
-    ("debug a.elf --port 0", "--port", "0", "1..=65535"),
-    ("debug a.elf --port 65536", "--port", "65536", "1..=65535"),
+    ("debug a.elf --port=-1", "--port", "-1", "0..=65535"),
+    ("debug a.elf --port 65536", "--port", "65536", "0..=65535"),
     ("debug a.elf --budget 0", "--budget", "0", "1..=4000000"),
     (
         "debug a.elf --budget 4000001",

@@ -91,7 +91,7 @@ fn images_are_run_and_replayed(rt: HostRuntime) -> Result<(), Fail> {
     let mut trace = Some(Meter::new(Vec::new(alloc)));
     ran!(Vec::new(alloc), Vec::new(alloc), |out, err| {
         let file = &mut Meter::new(file.as_slice());
-        run_command(alloc, file, size(0), 100, &mut trace, out, err)
+        run_command(alloc, file, size(0), 100, false, &mut trace, out, err)
     })
     .comes_to(0, REPORT.as_bytes(), "")?;
     if let Some(trace) = &trace {

@@ -38,6 +38,17 @@ fn run<R: Threads + Wait + Sync>(
     run_from(rt, alloc, &Open, 1, image, config, budget)
 }
 
+/// Runs an image with start 1, and with a trace. A run that its budget ends is reported, too.
+fn run_unfinished<R: Threads + Wait + Sync>(
+    rt: &R,
+    alloc: Global,
+    image: &[u8],
+    config: Config,
+    budget: u32,
+) -> Ran {
+    run_to(rt, alloc, &Open, 1, image, config, budget, true)
+}
+
 /// Runs an image with this start and this gate, and with a trace.
 fn run_from<G: Gate + Sync, R: Threads + Wait + Sync>(
     rt: &R,
@@ -48,12 +59,26 @@ fn run_from<G: Gate + Sync, R: Threads + Wait + Sync>(
     config: Config,
     budget: u32,
 ) -> Ran {
+    run_to(rt, alloc, gate, start, image, config, budget, false)
+}
+
+/// The same. `unfinished` says whether a run that its budget ends is reported, too.
+fn run_to<G: Gate + Sync, R: Threads + Wait + Sync>(
+    rt: &R,
+    alloc: Global,
+    gate: &G,
+    start: u32,
+    image: &[u8],
+    config: Config,
+    budget: u32,
+    unfinished: bool,
+) -> Ran {
     let mut out = Meter::new(Vec::new(alloc));
     let mut err = Vec::new(alloc);
     let mut trace = Some(Meter::new(Vec::new(alloc)));
     let image = &mut Meter::new(image);
     let status = threaded_run_command(
-        rt, alloc, image, config, start, gate, budget, &mut trace, &mut out, &mut err,
+        rt, alloc, image, config, start, gate, budget, unfinished, &mut trace, &mut out, &mut err,
     );
     let trace = match trace {
         Some(trace) => trace.device,

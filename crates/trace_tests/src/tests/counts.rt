@@ -107,6 +107,7 @@ fn hot_spot(alloc: Global, image: &[u8], b: u8) -> Result<Vec<u8>, Fail> {
         &mut Meter::new(image),
         config,
         20_000,
+        false,
         &mut trace,
         &mut out,
         &mut Vec::new(alloc),

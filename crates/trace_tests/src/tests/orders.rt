@@ -298,6 +298,7 @@ fn each_add_goes_on_from_the_last(rt: HostRuntime) -> Result<(), Fail> {
         &mut Meter::new(image.as_slice()),
         config,
         200_000,
+        false,
         &mut trace,
         &mut Meter::new(Vec::new(alloc)),
         &mut Vec::new(alloc),

@@ -74,6 +74,7 @@ complete -c ultra -n '__ultra_wants_more dis 1 --words' -F
 complete -c ultra -n '__ultra_has_command run' -l trace -r -F -d 'Where to write the steps of the run, for `ultra replay`; opened after the run is over'
 complete -c ultra -n '__ultra_has_command run' -l sweep -d 'Run by the sweep, on one thread: every run gives the same result'
 complete -c ultra -n '__ultra_has_command run' -l no-log -d 'With --sweep, keep no log of the steps, so that --budget may be up to 4000000000 of them; not with --trace'
+complete -c ultra -n '__ultra_has_command run' -l unfinished -d 'Print the report, and write the trace, also if the budget ends the run'
 complete -c ultra -n '__ultra_has_command run' -l quiet -d 'Show no progress line on a terminal'
 complete -c ultra -n '__ultra_has_command run' -l k -x -a '0 1 2 3 4 5 6' -d 'Stages of the network, 0 to 6; the machine has 2^k processors and 2^k memory modules [default: 2]'
 complete -c ultra -n '__ultra_has_command run' -l c -x -a '2 3 4 5 6 7 8 9 10 11 12 13 14 15 16' -d 'Messages that a queue of a switch holds, 2 to 16 [default: 4]'
@@ -146,13 +147,14 @@ complete -c ultra -n '__ultra_has_command picture' -l help -d 'Print help'
 complete -c ultra -n '__ultra_wants_more picture 2 --words --step' -F
 
 complete -c ultra -n '__ultra_has_command debug' -l trace -r -F -d 'Where to write the steps of the session, for `ultra replay`; opened after the session is over'
+complete -c ultra -n '__ultra_has_command debug' -l stdio -d 'Serve the session over standard input and output; no port is opened'
 complete -c ultra -n '__ultra_has_command debug' -l k -x -a '0 1 2 3 4 5 6' -d 'Stages of the network, 0 to 6; the machine has 2^k processors and 2^k memory modules [default: 2]'
 complete -c ultra -n '__ultra_has_command debug' -l c -x -a '2 3 4 5 6 7 8 9 10 11 12 13 14 15 16' -d 'Messages that a queue of a switch holds, 2 to 16 [default: 4]'
 complete -c ultra -n '__ultra_has_command debug' -l b -x -a '0 1 2 3 4 5 6 7 8 9 10 11 12 13 14 15 16' -d 'Records of combined requests that an output of a switch holds, 0 to 16; with 0 nothing is combined [default: 4]'
 complete -c ultra -n '__ultra_has_command debug' -l r -x -a '1 2 3' -d 'Times that a request in a queue of a switch is combined, 1 to 3, and fewer than --c [default: 1]'
 complete -c ultra -n '__ultra_has_command debug' -l words -x -d 'Shared words of four bytes that the machine has, 1 to 262144 [default: 1024]'
 complete -c ultra -n '__ultra_has_command debug' -l budget -x -d 'Steps that one `cont` may take, 1 to 4000000 [default: 100000]'
-complete -c ultra -n '__ultra_has_command debug' -l port -x -d 'Port of 127.0.0.1 for the debugger, 1 to 65535 [default: 3333]'
+complete -c ultra -n '__ultra_has_command debug' -l port -x -d 'Port of 127.0.0.1 for the debugger, 0 to 65535; with 0 the host chooses a free one [default: 3333]'
 complete -c ultra -n '__ultra_has_command debug' -l help -d 'Print help'
 complete -c ultra -n '__ultra_wants_more debug 1 --trace --k --c --b --r --words --budget --port' -F
 

@@ -45,7 +45,16 @@ fn run_over<R: Read + Drop, T: LinkWrite>(
 {
     let (mut out, mut err) = (failing_link(alloc, fails_at), empty_sink(alloc, 0));
     let file = &mut Meter::new(file);
-    let status = run_command(alloc, file, size(0), AMPLE, trace, &mut out, &mut err);
+    let status = run_command(
+        alloc,
+        file,
+        size(0),
+        AMPLE,
+        false,
+        trace,
+        &mut out,
+        &mut err,
+    );
     Ran {
         status,
         out: out.device.bytes,
@@ -184,6 +193,7 @@ fn fault_that_cannot_be_told(rt: HostRuntime) {
         image,
         size(0),
         AMPLE,
+        false,
         &mut trace,
         &mut out,
         &mut Deaf,

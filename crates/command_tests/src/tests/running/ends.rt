@@ -1,6 +1,7 @@
 //! How runs end, and which faults are reported if there is no report.
 
-use super::{AMPLE, Ran, replay, run, run_text};
+use super::unlogged::run as run_unlogged;
+use super::{AMPLE, Ran, replay, run, run_text, run_to};
 use command_io::Fault;
 use flat_machine::Config;
 use link::Meter;
@@ -37,6 +38,59 @@ fn run_without_end(rt: HostRuntime) -> Result<(), Fail> {
     for budget in [1, 1000] {
         let ran = run_text(rt.alloc(), "jal x0, 0", size(1), budget)?;
         assert_told(&rt, &ran, "ultra: budget\n", 4);
+    }
+    Ok(())
+}
+
+/// A text, the number of stages, the budget, what an unfinished run of it prints, and how many steps its trace has. The
+/// reference of the third is issued in the last step of the budget, and a drain completes it: a service, and the turn
+/// that takes the reply.
+static UNFINISHED: [(&str, u8, u32, &str, usize); 3] = [
+    (
+        "addi x1, x0, 1\necall",
+        0,
+        1,
+        "processor 0 pc 00010004 run retired 1 console -\n",
+        1,
+    ),
+    (
+        "jal x0, 0",
+        1,
+        5,
+        "processor 0 pc 00010000 run retired 3 console -
+processor 1 pc 00010000 run retired 2 console -
+",
+        5,
+    ),
+    (
+        "lui x5, 0x80000\namoadd.w x6, x5, (x5)\necall",
+        0,
+        2,
+        "processor 0 pc 00010008 run retired 2 console -
+word 0 80000000
+",
+        4,
+    ),
+];
+
+/// If it is asked for, the report of an unfinished run is printed before the fault of its budget, with a log and
+/// without, and its trace replays to the report.
+#[test]
+fn unfinished_runs(rt: HostRuntime) -> Result<(), Fail> {
+    let alloc = rt.alloc();
+    for (text, k, budget, report, steps) in UNFINISHED {
+        let image = image_of(alloc, text)?;
+        let ran = run_to(alloc, image.as_slice(), size(k), budget, true);
+        let unlogged = run_unlogged(alloc, image.as_slice(), size(k), budget, true);
+        for ran in [&ran, &unlogged] {
+            assert_same!(rt; ran.out.as_slice(), report.as_bytes(), text);
+            assert_same!(rt; ran.err.as_slice(), b"ultra: budget\n".as_slice(), text);
+            assert_same!(rt; ran.status, 4, text);
+        }
+        assert_same!(rt; ran.trace.len(), 12 + 12 * steps, text);
+        let replayed = replay(alloc, ran.trace.as_slice(), Ok(image.as_slice()), 1024);
+        assert_same!(rt; replayed.out.as_slice(), report.as_bytes(), text);
+        assert_same!(rt; replayed.status, 0, text);
     }
     Ok(())
 }
@@ -216,6 +270,7 @@ fn statuses_of_faults(rt: HostRuntime) {
         &mut Meter::new(Endless),
         size(0),
         AMPLE,
+        false,
         &mut trace,
         &mut out,
         &mut err,

@@ -19,7 +19,16 @@ fn run_is_short_of_memory(rt: HostRuntime) -> Result<(), Fail> {
     let mut out = Meter::new(Sink::new(Vec::with_capacity(alloc, 64)?, 0));
     let mut err = Sink::new(Vec::with_capacity(alloc, 64)?, 0);
     let file = &mut Meter::new(EBREAK.as_slice());
-    let status = run_command(alloc, file, size(0), AMPLE, &mut trace, &mut out, &mut err);
+    let status = run_command(
+        alloc,
+        file,
+        size(0),
+        AMPLE,
+        true,
+        &mut trace,
+        &mut out,
+        &mut err,
+    );
     let written = trace.as_ref().map(|trace| trace.device.bytes.as_slice());
     if status == 1 {
         assert_same!(rt; written, Some(ONE_TURN.as_slice()));
@@ -49,7 +58,7 @@ fn unlogged_run_is_short_of_memory(rt: HostRuntime) -> Result<(), Fail> {
     let mut out = Meter::new(Sink::new(Vec::with_capacity(alloc, 64)?, 0));
     let mut err = Sink::new(Vec::with_capacity(alloc, 64)?, 0);
     let file = &mut Meter::new(image.as_slice());
-    let status = unlogged_run_command(alloc, file, size(0), AMPLE, &mut out, &mut err);
+    let status = unlogged_run_command(alloc, file, size(0), AMPLE, true, &mut out, &mut err);
     if status == 0 {
         assert_same!(rt; out.device.bytes.as_slice(), report.as_bytes());
         assert_same!(rt; err.bytes.len(), 0);

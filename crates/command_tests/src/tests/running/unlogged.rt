@@ -8,12 +8,18 @@ use std::alloc::Global;
 use std::test::Fail;
 use test_support::{EBREAK, HUNDRED_ADDS, assert_same, image_of, report_of_hundred_adds, size};
 
-/// Runs an image.
-fn run(alloc: Global, image: &[u8], config: Config, budget: u32) -> Ran {
+/// Runs an image. `unfinished` says whether a run that its budget ends is reported, too.
+pub(super) fn run(
+    alloc: Global,
+    image: &[u8],
+    config: Config,
+    budget: u32,
+    unfinished: bool,
+) -> Ran {
     let mut out = Meter::new(Vec::new(alloc));
     let mut err = Vec::new(alloc);
     let image = &mut Meter::new(image);
-    let status = unlogged_run_command(alloc, image, config, budget, &mut out, &mut err);
+    let status = unlogged_run_command(alloc, image, config, budget, unfinished, &mut out, &mut err);
     Ran {
         status,
         out: out.device,
@@ -109,7 +115,7 @@ fn prints_reports(rt: HostRuntime) -> Result<(), Fail> {
     let alloc = rt.alloc();
     for (text, k, budget, printed, reported, status) in RUNS {
         let image = image_of(alloc, text)?;
-        let ran = run(alloc, image.as_slice(), size(k), budget);
+        let ran = run(alloc, image.as_slice(), size(k), budget, false);
         assert_same!(rt; ran.out.as_slice(), printed.as_bytes(), text);
         assert_same!(rt; ran.err.as_slice(), reported.as_bytes(), text);
         assert_same!(rt; ran.status, status, text);
@@ -123,7 +129,7 @@ fn hundred_adds(rt: HostRuntime) -> Result<(), Fail> {
     let image = image_of(alloc, HUNDRED_ADDS)?;
     for (k, processors, sum) in [(0, 1u8, "00000064"), (6, 64, "00001900")] {
         let report = report_of_hundred_adds(alloc, processors, sum)?;
-        let ran = run(alloc, image.as_slice(), size(k), AMPLE);
+        let ran = run(alloc, image.as_slice(), size(k), AMPLE, true);
         assert_same!(rt; ran.out.as_slice(), report.as_bytes(), k);
         assert_same!(rt; ran.err.len(), 0, k);
         assert_same!(rt; ran.status, 0, k);
@@ -135,7 +141,7 @@ fn hundred_adds(rt: HostRuntime) -> Result<(), Fail> {
 fn refuses_an_image(rt: HostRuntime) {
     let alloc = rt.alloc();
     for cut in 0..84 {
-        let ran = run(alloc, &EBREAK[..cut], size(0), AMPLE);
+        let ran = run(alloc, &EBREAK[..cut], size(0), AMPLE, true);
         assert_same!(rt; ran.out.len(), 0, cut);
         assert_same!(rt; ran.err.as_slice(), b"ultra: I1\n".as_slice(), cut);
         assert_same!(rt; ran.status, 2, cut);

@@ -1,35 +1,67 @@
-use Rattle.std.proofs.Common.{refl}
+use Rattle.std.proofs.Common.{refl, subst, sym}
 use Rattle.std.proofs.lemmas.Result.{IfOk-weaker, IfErr-weaker}
 use Rattle.command_io.specs.Links.{input, output}
 use Rattle.trace_commands.specs.TraceReports.{trace_output}
-use Rattle.trace_commands.proofs.Lemmas.{can_be_reported, no_run, run_printed}
-use Rattle.run_command.specs.SweepRuns.{by_sweep, sweep_run}
+use Rattle.trace_commands.proofs.Lemmas.{can_be_reported, run_printed}
+use Rattle.run_command.specs.SweepRuns.{IsSomeEndedRun, by_sweep, sweep_run, unfinished_by_sweep}
+use Rattle.run_command.specs.UnfinishedRuns.{EndsInFault}
+use Rattle.run_command.proofs.Budgets.{as_error, over_ends, printed_ends, silent_but, silent_of}
 use Rattle.run_command.proofs.sweep.execute.Goals as goal
 
 pub print_run-requires-clause-ready : goal.print_run-requires-clause-ready
 print_run-requires-clause-ready g c =
     let r = c.in_ok-log.ensures.run_to_log in
-    let run = r.1.over.whole in
-    can_be_reported c.args.config r.0 c.in_ok-log.log run.opens run.replay r.1.over.meant.words run.swept.idle r.1.trace
+    let run = r.1.ended.whole in
+    can_be_reported c.args.config r.0 c.in_ok-log.log run.opens run.replay r.1.ended.meant.words run.swept.idle r.1.trace
 
-pub returns-clause-reported : goal.returns-clause-reported
-returns-clause-reported g c =
+pub print_unfinished-requires-clause-ready : goal.print_unfinished-requires-clause-ready
+print_unfinished-requires-clause-ready g c =
     let r = c.in_ok-log.ensures.run_to_log in
-    let run = r.1.over.whole in
+    let run = r.1.ended.whole in
+    can_be_reported c.args.config r.0 c.in_ok-log.log run.opens run.replay r.1.ended.meant.words run.swept.idle r.1.trace
+
+pub returns-in-Over-clause-reported : goal.returns-in-Over-clause-reported
+returns-in-Over-clause-reported g c =
+    let file = (input {R = g.row.R.Denot} g.R.Read.remaining g.R.Link.has_failed c.args.file.now c.run_to_log.new.file) in
+    let asked = sweep_run c.args.config c.args.budget file in
+    let r = subst (λ e. IsSomeEndedRun asked e c.in_ok-log.log) c.in-Over.is c.in_ok-log.ensures.run_to_log in
+    let run = r.1.ended.whole in
     IfOk-weaker c.print_run.result _ _
-    (run_printed c.args.config r.0 c.in_ok-log.log run.opens run.replay (by_sweep (sweep_run c.args.config c.args.budget
-    (input {R = g.row.R.Denot} g.R.Read.remaining g.R.Link.has_failed c.args.file.now c.run_to_log.new.file))) refl r.1
+    (run_printed c.args.config r.0 c.in_ok-log.log run.opens run.replay (by_sweep asked) refl r.1
     (trace_output {T = g.row.T.Denot} g.T.Write.contents c.args.trace.now c.print_run.new.trace)
     (output {W = g.row.W.Denot} g.W.Write.contents g.W.Link.has_failed c.args.out.now c.print_run.new.out))
     c.print_run.ensures.reported
 
-pub returns-clause-fault : goal.returns-clause-fault
-returns-clause-fault g c =
-    let r = c.in_ok-log.ensures.run_to_log in
-    let run = r.1.over.whole in
+pub returns-in-Over-clause-fault : goal.returns-in-Over-clause-fault
+returns-in-Over-clause-fault g c =
+    let file = (input {R = g.row.R.Denot} g.R.Read.remaining g.R.Link.has_failed c.args.file.now c.run_to_log.new.file) in
+    let asked = sweep_run c.args.config c.args.budget file in
+    let r = subst (λ e. IsSomeEndedRun asked e c.in_ok-log.log) c.in-Over.is c.in_ok-log.ensures.run_to_log in
+    let run = r.1.ended.whole in
     IfErr-weaker c.print_run.result _ _
-    (no_run c.args.config r.0 c.in_ok-log.log run.opens run.replay (by_sweep (sweep_run c.args.config c.args.budget
-    (input {R = g.row.R.Denot} g.R.Read.remaining g.R.Link.has_failed c.args.file.now c.run_to_log.new.file))) refl r.1
+    (over_ends c.args.config r.0 c.in_ok-log.log run.opens run.replay (by_sweep asked) (unfinished_by_sweep asked)
     (trace_output {T = g.row.T.Denot} g.T.Write.contents c.args.trace.now c.print_run.new.trace)
-    (output {W = g.row.W.Denot} g.W.Write.contents g.W.Link.has_failed c.args.out.now c.print_run.new.out) tt)
+    (output {W = g.row.W.Denot} g.W.Write.contents g.W.Link.has_failed c.args.out.now c.print_run.new.out) c.args.unfinished refl r.1 tt)
     c.print_run.ensures.fault
+
+pub returns-in-Over-clause-silent : goal.returns-in-Over-clause-silent
+returns-in-Over-clause-silent g c = silent_of c.print_run.result c.args.unfinished _ c.print_run.ensures.silent
+
+pub returns-in-Budget-clause-fault : goal.returns-in-Budget-clause-fault
+returns-in-Budget-clause-fault g c =
+    let file = (input {R = g.row.R.Denot} g.R.Read.remaining g.R.Link.has_failed c.args.file.now c.run_to_log.new.file) in
+    let asked = sweep_run c.args.config c.args.budget file in
+    let r = subst (λ e. IsSomeEndedRun asked e c.in_ok-log.log) c.in-Budget.is c.in_ok-log.ensures.run_to_log in
+    let run = r.1.ended.whole in
+    let trace = trace_output {T = g.row.T.Denot} g.T.Write.contents c.args.trace.now c.print_unfinished.new.trace in
+    let out = output {W = g.row.W.Denot} g.W.Write.contents g.W.Link.has_failed c.args.out.now c.print_unfinished.new.out in
+    subst (λ b. EndsInFault b (by_sweep asked) (unfinished_by_sweep asked) trace out c.print_unfinished.result) (sym c.if-unfinished.true)
+    (printed_ends c.args.config r.0 c.in_ok-log.log run.opens run.replay (by_sweep asked) (unfinished_by_sweep asked) trace out refl r.1 refl
+    c.print_unfinished.result c.print_unfinished.ensures.fault)
+
+pub returns-in-Budget-clause-failed : goal.returns-in-Budget-clause-failed
+returns-in-Budget-clause-failed g c = as_error _ c.print_unfinished.result _ _ refl c.print_unfinished.ensures.failed
+
+pub returns-in-Budget-clause-silent : goal.returns-in-Budget-clause-silent
+returns-in-Budget-clause-silent g c =
+    silent_but c.args.unfinished _ c.print_unfinished.result c.if-unfinished.true c.print_unfinished.ensures.silent

@@ -1,5 +1,6 @@
 use Rattle.std.proofs.lemmas.Result.{IfErr-at_err, IfOk-at_ok}
 use Rattle.command_io.proofs.Lemmas.{of_link, reports_with}
+use Rattle.run_command.proofs.Budgets.{silent_or_printed}
 use Rattle.run_command.proofs.sweep.run_command.Goals as goal
 
 pub returns-clause-reported : goal.returns-clause-reported
@@ -16,3 +17,9 @@ returns-clause-fault g c high =
       unprinted = of_link outcome f _ _ is e.failed;
     })
     (c.report_outcome.ensures.fault high)
+
+pub returns-clause-silent : goal.returns-clause-silent
+returns-clause-silent g c high =
+    let e = c.execute-outcome.ensures in
+    let known = c.report_outcome.ensures.fault high in
+    silent_or_printed _ _ _ _ known.refusal (IfErr-at_err _ known.cause e.fault) known.reported (IfErr-at_err _ known.cause e.silent)

@@ -3,8 +3,8 @@ use Rattle.std.proofs.lemmas.Result.{err_from_is_err_and}
 use Rattle.machine_steps.proofs.Lemmas.{run_home}
 use Rattle.command_io.specs.Links.{input}
 use Rattle.run_command.specs.SweepRuns.{most_unlogged}
-use Rattle.run_command.proofs.Sizes.{not_run}
-use Rattle.run_command.proofs.WithoutLog.{is_reported, not_counted}
+use Rattle.run_command.proofs.Sizes.{fails_before}
+use Rattle.run_command.proofs.WithoutLog.{not_counted, run_is_reported}
 use Rattle.run_command.proofs.unlogged.report_run.Goals as goal
 
 pub returns-in_err-machine-clause-refused : goal.returns-in_err-machine-clause-refused
@@ -12,8 +12,8 @@ returns-in_err-machine-clause-refused g c =
     let file = (input {R = g.row.R.Denot} g.R.Read.remaining g.R.Link.has_failed c.args.file.now c.image_of.new.file) in
     let p = err_from_is_err_and c.from_residual-in_err-machine.result c.from_residual-in_err-machine.ensures.1 in
     rw (p.1, p.2)
-    (not_run c.args.config file c.in_ok-image.image c.in_ok-image.ensures.image (most_unlogged c.args.budget) c.args.budget c.in_err-machine.field-0.0
-    c.in_err-machine.ensures.refused)
+    (fails_before c.args.config file c.in_ok-image.image c.in_ok-image.ensures.image c.args.unfinished (most_unlogged c.args.budget) c.args.budget
+    c.in_err-machine.field-0.0 c.in_err-machine.ensures.refused)
 
 pub returns-in_err-machine-2-clause-refused : goal.returns-in_err-machine-2-clause-refused
 returns-in_err-machine-2-clause-refused g c =
@@ -21,7 +21,7 @@ returns-in_err-machine-2-clause-refused g c =
     let p = err_from_is_err_and c.from_residual-in_err-machine-2.result c.from_residual-in_err-machine-2.ensures.1 in
     rw (p.1, p.2)
     (not_counted c.args.config c.args.budget file c.in_ok-image.image c.in_ok-image.ensures.image c.in_ok-machine.machine
-    c.in_ok-machine.ensures.opening c.in_err-machine-2.field-0.0 c.in_err-machine-2.ensures.refused)
+    c.in_ok-machine.ensures.opening c.args.unfinished c.in_err-machine-2.field-0.0 c.in_err-machine-2.ensures.refused)
 
 pub report_with_status-requires-clause-home : goal.report_with_status-requires-clause-home
 report_with_status-requires-clause-home g c =
@@ -35,7 +35,6 @@ returns-clause-reported g c =
     let opening = c.in_ok-machine.machine in
     let opens = c.in_ok-machine.ensures.opening in
     let run = c.in_ok-machine-2.ensures.counted in
-    let done = c.in_ok-report_with_status.field-0 in
-    is_reported c.args.config c.args.budget file image c.in_ok-image.ensures.image opening opens c.in_ok-machine-2.machine c.in_ok-machine-2.tally
-    (string_bytes done.0) done.1 run
-    (c.in_ok-report_with_status.ensures.report c.args.config image run.steps opening opens c.machine_is_well_formed.ensures run.counted run.swept.idle)
+    run_is_reported c.args.config c.args.budget file image c.in_ok-image.ensures.image opening opens c.in_ok-machine-2.end c.in_ok-machine-2.machine
+    c.in_ok-machine-2.tally (string_bytes c.in_ok-text.text) c.in_ok-text.status run
+    (c.in_ok-text.ensures.report c.args.config image run.steps opening opens c.machine_is_well_formed.ensures run.counted run.swept.idle)

@@ -1,7 +1,7 @@
-use Rattle.std.proofs.Common.{◌≡◌, ◌≤◌, refl, rules, arith}
+use Rattle.std.proofs.Common.{◌≡◌, ◌≤◌, ◌∙◌, rules, arith, subst, sym}
 use Rattle.schedules.specs.Sweeps.{opened}
-use Rattle.schedules.specs.declared.sweeping.SweepEnd.TheVariants.{Budget, Over}
-use Rattle.run_command.specs.SweepRuns.{most_unlogged}
+use Rattle.run_command.specs.SweepRuns.{IsSweptTo, most_unlogged}
+use Rattle.run_command.proofs.Budgets.{not_reported}
 use Rattle.run_command.proofs.WithoutLog.{counted_run, is_swept}
 use Rattle.run_command.proofs.unlogged.run_to_end.Goals as goal
 
@@ -15,21 +15,26 @@ drained-machine-requires c =
     let count = f.1.count in
     let most : c.min-most.result ≤ 4000000000 = search rules in omega (arith, few, count, most)
 
-pub returns-in-Budget-clause-refused : goal.returns-in-Budget-clause-refused
-returns-in-Budget-clause-refused c =
+pub returns-then-not-is_reported-clause-refused : goal.returns-then-not-is_reported-clause-refused
+returns-then-not-is_reported-clause-refused c =
     let same : c.min-most.result ≡ most_unlogged c.args.budget = search rules in
-    is_swept (most_unlogged c.args.budget) c.min-most.result c.args.machine Budget c.follow-end.new.taker c.drained-machine.result.0
-    c.drained-machine.result.1 same (c.in-Budget.ensures.followed (opened c.args.machine) c.new-counted.ensures.log) c.drained-machine.ensures
+    let not = not_reported c.args.unfinished c.follow-end.result (sym c.is_reported.ensures ∙ c.if-not-is_reported.true) in
+    let swept = is_swept (most_unlogged c.args.budget) c.min-most.result c.args.machine c.follow-end.result c.follow-end.new.taker c.drained-machine.result.0
+    c.drained-machine.result.1 same (c.follow-end.ensures.followed (opened c.args.machine) c.new-counted.ensures.log) c.drained-machine.ensures in
+    (not.1, subst (IsSweptTo (most_unlogged c.args.budget) c.args.machine) not.0 swept)
 
 pub returns-in-Some-clause-counted : goal.returns-in-Some-clause-counted
 returns-in-Some-clause-counted c =
     let same : c.min-most.result ≡ most_unlogged c.args.budget = search rules in
-    counted_run (most_unlogged c.args.budget) c.min-most.result c.args.machine Over c.follow-end.new.taker c.drained-machine.result.0
-    c.drained-machine.result.1 same (c.in-Over.ensures.followed (opened c.args.machine) c.new-counted.ensures.log) c.drained-machine.ensures
-    c.in-Some.tally c.in-Some.is refl
+    counted_run (most_unlogged c.args.budget) c.min-most.result c.args.machine c.follow-end.result c.follow-end.new.taker c.drained-machine.result.0
+    c.drained-machine.result.1 same (c.follow-end.ensures.followed (opened c.args.machine) c.new-counted.ensures.log) c.drained-machine.ensures
+    c.in-Some.tally c.in-Some.is
 
 pub returns-in-None-clause-refused : goal.returns-in-None-clause-refused
 returns-in-None-clause-refused c =
-    let same : c.min-most.result ≡ most_unlogged c.args.budget = search rules in
-    is_swept (most_unlogged c.args.budget) c.min-most.result c.args.machine Over c.follow-end.new.taker c.drained-machine.result.0
-    c.drained-machine.result.1 same (c.in-Over.ensures.followed (opened c.args.machine) c.new-counted.ensures.log) c.drained-machine.ensures
+    let same : c.min-most.result ≡ most_unlogged c.args.budget = search rules in (
+      c.follow-end.result,
+      sym c.is_reported.ensures ∙ c.if-not-is_reported.false,
+      is_swept (most_unlogged c.args.budget) c.min-most.result c.args.machine c.follow-end.result c.follow-end.new.taker c.drained-machine.result.0
+          c.drained-machine.result.1 same (c.follow-end.ensures.followed (opened c.args.machine) c.new-counted.ensures.log) c.drained-machine.ensures,
+    )

@@ -2,7 +2,7 @@
 
 ghost use Rattle.std.specs.Prelude.{◌≡◌, false};
 
-use super::{AMPLE, Ran, run, run_from};
+use super::{AMPLE, Ran, replay, run, run_from, run_unfinished};
 use flat_machine::Config;
 use link::{Link, Meter};
 use processor_threads::{Gate, Open};
@@ -127,6 +127,41 @@ fn run_without_end(rt: HostRuntime) -> Result<(), Fail> {
     Ok(())
 }
 
+/// If it is asked for, the report of an unfinished run is printed before the fault of its budget, and its trace replays
+/// to the report. A round of the jump takes it 65 times. The reference of the second text is issued in its one round,
+/// and a drain completes it.
+#[test]
+fn unfinished_runs(rt: HostRuntime) -> Result<(), Fail> {
+    let alloc = rt.alloc();
+    for (text, k, budget, report) in [
+        (
+            "jal x0, 0",
+            1,
+            2,
+            "processor 0 pc 00010000 run retired 130 console -
+processor 1 pc 00010000 run retired 130 console -
+",
+        ),
+        (
+            "lui x5, 0x80000\namoadd.w x6, x5, (x5)\necall",
+            0,
+            1,
+            "processor 0 pc 00010008 run retired 2 console -
+word 0 80000000
+",
+        ),
+    ] {
+        let image = image_of(alloc, text)?;
+        let ran = run_unfinished(&rt, alloc, image.as_slice(), size(k), budget);
+        assert_same!(rt; ran.out.as_slice(), report.as_bytes(), text);
+        assert_same!(rt; ran.err.as_slice(), b"ultra: budget\n".as_slice(), text);
+        assert_same!(rt; ran.status, 4, text);
+        let replayed = replay(alloc, ran.trace.as_slice(), image.as_slice());
+        assert_same!(rt; replayed.out.as_slice(), report.as_bytes(), text);
+    }
+    Ok(())
+}
+
 #[test]
 fn refuses_an_image_and_a_size(rt: HostRuntime) {
     let alloc = rt.alloc();
@@ -173,6 +208,7 @@ fn tells_what_cannot_be_written(rt: HostRuntime) {
             1,
             &Open,
             AMPLE,
+            true,
             &mut trace,
             &mut out,
             &mut err,
@@ -200,6 +236,7 @@ fn is_short_of_memory(rt: HostRuntime) -> Result<(), Fail> {
         1,
         &Open,
         AMPLE,
+        true,
         &mut trace,
         &mut out,
         &mut err,

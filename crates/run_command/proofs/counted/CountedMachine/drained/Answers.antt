@@ -1,4 +1,4 @@
-use Rattle.std.proofs.Common.{◌≡◌, ◌≤◌, ◌++◌, sym, subst}
+use Rattle.std.proofs.Common.{◌≤◌, ◌++◌, sym, subst}
 use Rattle.machine_steps.specs.Draining.{drain_steps}
 use Rattle.machine_steps.specs.Machines.{MachineLists}
 use Rattle.trace_commands.specs.InMemory.{IsReplayInMemory}
