@@ -89,8 +89,20 @@ const TRACED_IMAGE: Argument = Argument::Path {
     help: "The image of that run, as `ultra asm` writes it",
 };
 
-/// The arguments of a command that replays a trace.
-const REPLAYED: &[Argument] = &[TRACE, TRACED_IMAGE, Argument::Number(SHARED_WORDS)];
+/// Whether progress is left out.
+const QUIET: Argument = Argument::Flag {
+    name: "quiet",
+    help: "Show no progress line on a terminal",
+};
+
+/// Whether lines are printed as JSON.
+const JSON: Argument = Argument::Flag {
+    name: "json",
+    help: "Print each line as a JSON object",
+};
+
+/// The arguments of a command that replays a trace and prints lines.
+const REPLAYED: &[Argument] = &[TRACE, TRACED_IMAGE, Argument::Number(SHARED_WORDS), JSON];
 
 const WORDS: CommandForm = CommandForm {
     name: "words",
@@ -105,7 +117,7 @@ const WORDS: CommandForm = CommandForm {
 const CHECK: CommandForm = CommandForm {
     name: "check",
     about: "List every fault of a text, each with its line, column, word and what would be right",
-    arguments: &[TEXT],
+    arguments: &[TEXT, JSON],
     ends: CHECK_ENDS,
 };
 
@@ -154,10 +166,8 @@ const RUN: CommandForm = CommandForm {
             name: "no-log",
             help: "With --sweep, keep no log of the steps, so that --budget may be up to 4000000000 of them; not with --trace",
         },
-        Argument::Flag {
-            name: "quiet",
-            help: "Show no progress line on a terminal",
-        },
+        QUIET,
+        JSON,
         Argument::Number(STAGES),
         Argument::Number(QUEUE),
         Argument::Number(RECORDS),
@@ -187,10 +197,8 @@ const HUNT: CommandForm = CommandForm {
             name: "expect-one",
             help: "Expect all runs to come to one result; if they do not, the exit status says so",
         },
-        Argument::Flag {
-            name: "quiet",
-            help: "Show no progress line on a terminal",
-        },
+        QUIET,
+        JSON,
         Argument::Number(STAGES),
         Argument::Number(QUEUE),
         Argument::Number(RECORDS),
@@ -221,10 +229,8 @@ const EXPLORE: CommandForm = CommandForm {
             name: "every",
             help: "Explore every k from 0 to 6, and print a line for each; not with --witness",
         },
-        Argument::Flag {
-            name: "quiet",
-            help: "Show no progress line on a terminal",
-        },
+        QUIET,
+        JSON,
         Argument::Number(STAGES),
         Argument::Number(QUEUE),
         Argument::Number(RECORDS),
@@ -252,6 +258,7 @@ const ORDER: CommandForm = CommandForm {
         Argument::Number(SHARED_WORDS),
         Argument::Choice(PROCESSOR),
         Argument::Choice(SHARED_WORD),
+        JSON,
     ],
     ends: ORDER_ENDS,
 };

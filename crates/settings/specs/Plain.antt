@@ -43,20 +43,21 @@ AreUsual s = (s.k ≡ 2) × (s.c ≡ 4) × (s.b ≡ 4) × (s.r ≡ 1) × (s.word
 -- set, no trace is written, no choice is made, and each number is its default.
 abbrev pub IsPlain : Settings → List Text → Type 0
 IsPlain (asked.Words w) words = HasFile (codes "words") w.file.now words
-IsPlain (asked.Check c) words = HasFile (codes "check") c.file.now words
+IsPlain (asked.Check c) words = HasFile (codes "check") c.file.now words × (c.json ≡ false)
 IsPlain (asked.Asm a) words = HasFiles (codes "asm") a.file.now a.out.now words
 IsPlain (asked.Dis d) words = HasFile (codes "dis") d.file.now words × (d.comments ≡ false) × (d.words ≡ 1024)
 IsPlain (asked.Run r) words = HasFile (codes "run") r.file.now words
-    × (r.trace ≡ None) × (r.sweep ≡ false) × (r.no_log ≡ false) × (r.quiet ≡ false)
+    × (r.trace ≡ None) × (r.sweep ≡ false) × (r.no_log ≡ false) × (r.quiet ≡ false) × (r.json ≡ false)
     × AreUsual r.sizes × (r.budget ≡ 10000000) × (r.start ≡ 1)
 IsPlain (asked.Hunt h) words = HasFile (codes "hunt") h.file.now words
-    × (h.trace ≡ None) × (h.overwrite ≡ false) × (h.expect_one ≡ false) × (h.quiet ≡ false)
+    × (h.trace ≡ None) × (h.overwrite ≡ false) × (h.expect_one ≡ false) × (h.quiet ≡ false) × (h.json ≡ false)
     × AreUsual h.sizes × (h.budget ≡ 100000) × (h.runs ≡ 1000) × (h.start ≡ 1)
 IsPlain (asked.Explore x) words = HasFile (codes "explore") x.file.now words
-    × (x.trace ≡ None) × (x.each ≡ false) × (x.every ≡ false) × (x.quiet ≡ false)
+    × (x.trace ≡ None) × (x.each ≡ false) × (x.every ≡ false) × (x.quiet ≡ false) × (x.json ≡ false)
     × AreUsual x.sizes × (x.states ≡ 1000000) × (x.witness ≡ None)
-IsPlain (asked.Trace c r) words = HasTrace (trace_name c) r words
+IsPlain (asked.Trace c l) words = HasTrace (trace_name c) l.replay words × (l.json ≡ false)
 IsPlain (asked.Order o) words = HasTrace (codes "order") o.replay words × (o.processor ≡ None) × (o.word ≡ None)
+    × (o.json ≡ false)
 IsPlain (asked.Picture p) words = HasTrace (codes "picture") p.replay words × (p.step ≡ None)
 IsPlain (asked.Debug d) words = HasFile (codes "debug") d.file.now words
     × (d.trace ≡ None) × AreUsual d.sizes × (d.budget ≡ 100000) × (d.port ≡ 3333)

@@ -7,7 +7,7 @@ mod reads;
 
 pub use asked::{settings, status_of};
 pub use choice::{
-    Asm, Check, Dis, Explain, Explore, Hunt, Order, Picture, Replay, Run, Session, Settings, Sizes,
-    Words,
+    Asm, Check, Dis, Explain, Explore, Hunt, Listing, Order, Picture, Replay, Run, Session,
+    Settings, Sizes, Words,
 };
 pub use command_forms::TraceCommand;

@@ -118,7 +118,7 @@ pub(crate) fn place_of<'a>(settings: &Settings<'a>, letter: u8) -> Option<Place<
         (b'I', Settings::Hunt(hunt)) => Some(Place::File(hunt.file)),
         (b'I', Settings::Debug(session)) => Some(Place::File(session.file)),
         (b'l', Settings::Debug(session)) => Some(Place::Port(session.port)),
-        (_, Settings::Trace(_, replay)) => place_of_replay(replay, letter),
+        (_, Settings::Trace(_, listing)) => place_of_replay(&listing.replay, letter),
         (_, Settings::Order(order)) => place_of_replay(&order.replay, letter),
         (_, Settings::Picture(asked)) => place_of_replay(&asked.replay, letter),
         _ => None,

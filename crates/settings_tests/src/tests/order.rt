@@ -2,17 +2,17 @@
 
 /// Ways to ask for `order`.
 pub const TAKEN: &str = r#"$ ultra order a.trace a.elf
-Order(Order { replay: Replay { trace: "a.trace", file: "a.elf", words: 1024 }, processor: None, word: None })
+Order(Order { replay: Replay { trace: "a.trace", file: "a.elf", words: 1024 }, processor: None, word: None, json: false })
 $ ultra order --processor 0 a.trace a.elf
-Order(Order { replay: Replay { trace: "a.trace", file: "a.elf", words: 1024 }, processor: Some(0), word: None })
+Order(Order { replay: Replay { trace: "a.trace", file: "a.elf", words: 1024 }, processor: Some(0), word: None, json: false })
 $ ultra order a.trace --processor=63 a.elf
-Order(Order { replay: Replay { trace: "a.trace", file: "a.elf", words: 1024 }, processor: Some(63), word: None })
+Order(Order { replay: Replay { trace: "a.trace", file: "a.elf", words: 1024 }, processor: Some(63), word: None, json: false })
 $ ultra order a.trace a.elf --word 0
-Order(Order { replay: Replay { trace: "a.trace", file: "a.elf", words: 1024 }, processor: None, word: Some(0) })
+Order(Order { replay: Replay { trace: "a.trace", file: "a.elf", words: 1024 }, processor: None, word: Some(0), json: false })
 $ ultra order a.trace a.elf --word=262143 --words 7 --processor +5
-Order(Order { replay: Replay { trace: "a.trace", file: "a.elf", words: 7 }, processor: Some(5), word: Some(262143) })
-$ ultra order --processor=-0 a.trace a.elf
-Order(Order { replay: Replay { trace: "a.trace", file: "a.elf", words: 1024 }, processor: Some(0), word: None })
+Order(Order { replay: Replay { trace: "a.trace", file: "a.elf", words: 7 }, processor: Some(5), word: Some(262143), json: false })
+$ ultra order --processor=-0 a.trace a.elf --json
+Order(Order { replay: Replay { trace: "a.trace", file: "a.elf", words: 1024 }, processor: Some(0), word: None, json: true })
 "#;
 
 /// Parts of the help.

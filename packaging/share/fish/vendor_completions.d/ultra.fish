@@ -60,6 +60,7 @@ complete -c ultra -n __ultra_wants_command -s V -l version -d 'Print version'
 complete -c ultra -n '__ultra_has_command words' -l help -d 'Print help'
 complete -c ultra -n '__ultra_wants_more words 1' -F
 
+complete -c ultra -n '__ultra_has_command check' -l json -d 'Print each line as a JSON object'
 complete -c ultra -n '__ultra_has_command check' -l help -d 'Print help'
 complete -c ultra -n '__ultra_wants_more check 1' -F
 
@@ -75,6 +76,7 @@ complete -c ultra -n '__ultra_has_command run' -l trace -r -F -d 'Where to write
 complete -c ultra -n '__ultra_has_command run' -l sweep -d 'Run by the sweep, on one thread: every run gives the same result'
 complete -c ultra -n '__ultra_has_command run' -l no-log -d 'With --sweep, keep no log of the steps, so that --budget may be up to 4000000000 of them; not with --trace'
 complete -c ultra -n '__ultra_has_command run' -l quiet -d 'Show no progress line on a terminal'
+complete -c ultra -n '__ultra_has_command run' -l json -d 'Print each line as a JSON object'
 complete -c ultra -n '__ultra_has_command run' -l k -x -a '0 1 2 3 4 5 6' -d 'Stages of the network, 0 to 6; the machine has 2^k processors and 2^k memory modules [default: 2]'
 complete -c ultra -n '__ultra_has_command run' -l c -x -a '2 3 4 5 6 7 8 9 10 11 12 13 14 15 16' -d 'Messages that a queue of a switch holds, 2 to 16 [default: 4]'
 complete -c ultra -n '__ultra_has_command run' -l b -x -a '0 1 2 3 4 5 6 7 8 9 10 11 12 13 14 15 16' -d 'Records of combined requests that an output of a switch holds, 0 to 16; with 0 nothing is combined [default: 4]'
@@ -89,6 +91,7 @@ complete -c ultra -n '__ultra_has_command hunt' -l trace -r -F -d 'Write a trace
 complete -c ultra -n '__ultra_has_command hunt' -l overwrite -d 'Overwrite traces that exist; without it the hunt is refused if one does'
 complete -c ultra -n '__ultra_has_command hunt' -l expect-one -d 'Expect all runs to come to one result; if they do not, the exit status says so'
 complete -c ultra -n '__ultra_has_command hunt' -l quiet -d 'Show no progress line on a terminal'
+complete -c ultra -n '__ultra_has_command hunt' -l json -d 'Print each line as a JSON object'
 complete -c ultra -n '__ultra_has_command hunt' -l k -x -a '0 1 2 3 4 5 6' -d 'Stages of the network, 0 to 6; the machine has 2^k processors and 2^k memory modules [default: 2]'
 complete -c ultra -n '__ultra_has_command hunt' -l c -x -a '2 3 4 5 6 7 8 9 10 11 12 13 14 15 16' -d 'Messages that a queue of a switch holds, 2 to 16 [default: 4]'
 complete -c ultra -n '__ultra_has_command hunt' -l b -x -a '0 1 2 3 4 5 6 7 8 9 10 11 12 13 14 15 16' -d 'Records of combined requests that an output of a switch holds, 0 to 16; with 0 nothing is combined [default: 4]'
@@ -104,6 +107,7 @@ complete -c ultra -n '__ultra_has_command explore' -l trace -r -F -d 'Where to w
 complete -c ultra -n '__ultra_has_command explore' -l each -d 'Print every result by itself; alike processors are not exchanged'
 complete -c ultra -n '__ultra_has_command explore' -l every -d 'Explore every k from 0 to 6, and print a line for each; not with --witness'
 complete -c ultra -n '__ultra_has_command explore' -l quiet -d 'Show no progress line on a terminal'
+complete -c ultra -n '__ultra_has_command explore' -l json -d 'Print each line as a JSON object'
 complete -c ultra -n '__ultra_has_command explore' -l k -x -a '0 1 2 3 4 5 6' -d 'Stages of the network, 0 to 6; the machine has 2^k processors and 2^k memory modules [default: 2]'
 complete -c ultra -n '__ultra_has_command explore' -l c -x -a '2 3 4 5 6 7 8 9 10 11 12 13 14 15 16' -d 'Messages that a queue of a switch holds, 2 to 16 [default: 4]'
 complete -c ultra -n '__ultra_has_command explore' -l b -x -a '0 1 2 3 4 5 6 7 8 9 10 11 12 13 14 15 16' -d 'Records of combined requests that an output of a switch holds, 0 to 16; with 0 nothing is combined [default: 4]'
@@ -115,20 +119,24 @@ complete -c ultra -n '__ultra_has_command explore' -l help -d 'Print help'
 complete -c ultra -n '__ultra_wants_more explore 1 --trace --k --c --b --r --words --states --witness' -F
 
 complete -c ultra -n '__ultra_has_command replay' -l words -x -d 'Shared words of four bytes that the machine has, 1 to 262144 [default: 1024]'
+complete -c ultra -n '__ultra_has_command replay' -l json -d 'Print each line as a JSON object'
 complete -c ultra -n '__ultra_has_command replay' -l help -d 'Print help'
 complete -c ultra -n '__ultra_wants_more replay 2 --words' -F
 
 complete -c ultra -n '__ultra_has_command order' -l words -x -d 'Shared words of four bytes that the machine has, 1 to 262144 [default: 1024]'
 complete -c ultra -n '__ultra_has_command order' -l processor -x -a '0 1 2 3 4 5 6 7 8 9 10 11 12 13 14 15 16 17 18 19 20 21 22 23 24 25 26 27 28 29 30 31 32 33 34 35 36 37 38 39 40 41 42 43 44 45 46 47 48 49 50 51 52 53 54 55 56 57 58 59 60 61 62 63' -d 'Print the lines of this processor alone, 0 to 63'
 complete -c ultra -n '__ultra_has_command order' -l word -x -d 'Print the lines that act on this shared word alone, 0 to 262143'
+complete -c ultra -n '__ultra_has_command order' -l json -d 'Print each line as a JSON object'
 complete -c ultra -n '__ultra_has_command order' -l help -d 'Print help'
 complete -c ultra -n '__ultra_wants_more order 2 --words --processor --word' -F
 
 complete -c ultra -n '__ultra_has_command story' -l words -x -d 'Shared words of four bytes that the machine has, 1 to 262144 [default: 1024]'
+complete -c ultra -n '__ultra_has_command story' -l json -d 'Print each line as a JSON object'
 complete -c ultra -n '__ultra_has_command story' -l help -d 'Print help'
 complete -c ultra -n '__ultra_wants_more story 2 --words' -F
 
 complete -c ultra -n '__ultra_has_command stats' -l words -x -d 'Shared words of four bytes that the machine has, 1 to 262144 [default: 1024]'
+complete -c ultra -n '__ultra_has_command stats' -l json -d 'Print each line as a JSON object'
 complete -c ultra -n '__ultra_has_command stats' -l help -d 'Print help'
 complete -c ultra -n '__ultra_wants_more stats 2 --words' -F
 
