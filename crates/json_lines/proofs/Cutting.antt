@@ -1,6 +1,6 @@
 -- Where a text is cut.
 use Rattle.std.proofs.Common.{◌≡◌, ◌≢◌, ◌∙◌, ◌==◌, ◌<◌, ◌≤◌, ◌+◌, ℕ, zero, suc, Bool, cond, true, false, not, refl, sym, ap, arith}
-use Rattle.std.proofs.Common.{List, [], ◌∷◌, ◌++◌, length, take, drop, Option, Some, None, option_map, is_some, Bor, length-drop}
+use Rattle.std.proofs.Common.{List, [], ◌∷◌, ◌++◌, length, take, drop, Option, Some, None, option_map, Bor, length-drop}
 use Rattle.std.specs.Prelude.{IfSome, MatchOption}
 use Rattle.std.specs.List.{after_first, before_first, position_or_len, slice_range}
 use Rattle.std.specs.Str.Pattern.{FindsText, FindsTextPrefix, LacksTextAt, MatchBeginsAt, StripsPrefix}
@@ -38,6 +38,7 @@ stripped_is begin text (Some x) strips =
 
 -- ---- a word
 
+-- A text in which the word stands nowhere is not cut.
 pub upto_none : (word text : List ℕ) → ((i : ℕ) → i ≤ length text → LacksTextAt word text i) → None ≡ upto word text
 unfolding upto
 upto_none word [] lacks = rw (after_none word [] (lacks 0 (omega arith))) refl

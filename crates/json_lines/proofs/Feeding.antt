@@ -1,6 +1,6 @@
 -- Bytes that are fed, up to the end of a line.
 use Rattle.std.proofs.Common.{◌≡◌, ◌∙◌, ◌==◌, ◌<◌, ◌≤◌, ◌+◌, ℕ, suc, Bool, cond, true, false, not, refl, sym, ap, arith, List, [], ◌∷◌, ◌++◌, length, take}
-use Rattle.std.proofs.Common.{Option, Some, None, append_assoc, append-nil, nat_lt}
+use Rattle.std.proofs.Common.{Some, None, append_assoc, append-nil, nat_lt}
 use Rattle.std.specs.Prelude.{position}
 use Rattle.std.specs.List.{position_or_len}
 use Rattle.std.proofs.lemmas.Bool.Decides.{nat_tests}
@@ -48,8 +48,10 @@ line_ended shapes s (b ∷ bytes) lt = go (b == 10) refl lt (λ t less. line_end
     go true e lt more = rw (e, append-nil) refl
     go false e lt more =
         let next : with_byte shapes s b ≡ fed_more s (b ∷ []) = rw e refl in
-        rw (take_next (1 + position_or_len ends bytes + 1) (position_or_len ends bytes + 1) b bytes (omega arith),
-        take_next (1 + position_or_len ends bytes) (position_or_len ends bytes) b bytes (omega arith))
+        rw (
+          take_next (1 + position_or_len ends bytes + 1) (position_or_len ends bytes + 1) b bytes (omega arith),
+          take_next (1 + position_or_len ends bytes) (position_or_len ends bytes) b bytes (omega arith),
+        )
         (ap (λ t. with_bytes shapes t (take (position_or_len ends bytes + 1) bytes)) next
         ∙ more (fed_more s (b ∷ [])) (omega arith)
         ∙ ap (λ line. record { kept = []; printed = s.printed ++ (line_text shapes line ++ 10 ∷ []) })

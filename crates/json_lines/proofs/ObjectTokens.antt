@@ -1,8 +1,8 @@
 -- The tokens of an object.
-use Rattle.std.proofs.Common.{◌≡◌, ◌∙◌, ◌<◌, ◌+◌, ℕ, true, false, refl, sym, ap, List, [], ◌∷◌, ◌++◌, Option, Some, None, Result, Ok, Err, append_assoc, codes}
+use Rattle.std.proofs.Common.{◌≡◌, ◌∙◌, ◌<◌, ◌+◌, ℕ, true, refl, sym, ap, List, [], ◌∷◌, ◌++◌, Option, Some, None, Result, Ok, Err, append_assoc, codes}
 use Rattle.std.proofs.Common.{add-one, drop, drop-cons, get_or, is_some, length, option_map}
 use Rattle.std.specs.Prelude.{IfSome, OnOk, unwrap_or}
-use Rattle.json.specs.Json.{Json, Members}
+use Rattle.json.specs.Json.{Members}
 use Rattle.json.specs.Token.{Token, begin_object, key, string}
 use Rattle.json.specs.Tree.{json_tokens, members_tokens}
 use Rattle.json_lines.specs.Shapes.{members_of, object_in, object_of, object_with}
@@ -23,8 +23,8 @@ unfolding object_of
 here shapes i d line lt = rw (add-one, drop-cons shapes i d lt) refl
 
 -- If the shapes before one give no object, and this one does, that is the object of the line.
-pub object_by_shape : {E : Type 0} (shapes : List Shape) (i : ℕ) (d : Shape) (line : List ℕ) (r : Result (Unit {0}) E) (old new : List Token) → i < length shapes
-    → object_of (drop i shapes) line ≡ object_of shapes line → is_some (members_of (get_or shapes i d).1.now line) ≡ true
+pub object_by_shape : {E : Type 0} (shapes : List Shape) (i : ℕ) (d : Shape) (line : List ℕ) (r : Result (Unit {0}) E) (old new : List Token)
+    → i < length shapes → object_of (drop i shapes) line ≡ object_of shapes line → is_some (members_of (get_or shapes i d).1.now line) ≡ true
     → OnOk r (IfSome (object_in (get_or shapes i d) line) (λ j. new ≡ old ++ json_tokens j)) → OnOk r (new ≡ old ++ json_tokens (object_of shapes line))
 object_by_shape shapes i d line (Err e) old new lt same has written = tt
 object_by_shape shapes i d line (Ok u) old new lt same has written =

@@ -1,17 +1,17 @@
 -- A reader of JSON gets the object of a line back.
-use Rattle.std.proofs.Common.{◌≡◌, ◌∙◌, ◌≤◌, ℕ, Bool, cond, true, false, refl, sym, ap, arith, List, [], ◌∷◌, ◌++◌, Option, Some, None, append-nil, option_map}
-use Rattle.std.specs.Prelude.{⊤, IfSome, bytes_eq, codes, decimal, length, option_and_then, unwrap_or}
+use Rattle.std.proofs.Common.{◌≡◌, ◌∙◌, ◌≤◌, ℕ, Bool, cond, true, false, sym, ap, arith, List, [], ◌∷◌, Option, Some, None, append-nil, option_map}
+use Rattle.std.specs.Prelude.{IfSome, bytes_eq, codes, decimal, option_and_then, unwrap_or}
 use Rattle.std.specs.List.{list_all}
-use Rattle.json.specs.Json.{Json, Items, Members, array, document, if_last, item, max_depth, member, no_items, no_members, null, number, string, value}
+use Rattle.json.specs.Json.{Json, Items, Members, array, document, if_last, item, max_depth, no_items, no_members, null, number, string, value}
 use Rattle.json.specs.Lex.{tokens}
 use Rattle.json.specs.Print.{print}
 use Rattle.json.specs.Token.{Token}
 use Rattle.json.specs.Tree.{depth, items_depth, json_tokens, members_depth}
 use Rattle.json.proofs.Printed.Trees.{value-json_tokens}
 use Rattle.json_lines.specs.Cuts.{after, upto, words_of}
-use Rattle.json_lines.specs.Fields.{counted, hex_value_after, is_code, is_empty, is_hex_digit, is_number, item_at, item_of, items_of, number_of, only_if_empty, pair_of, plural}
-use Rattle.json_lines.specs.Fields.{value_of}
-use Rattle.json_lines.specs.Shapes.{field_in, members_of, object_of, object_with, text_object, with_member}
+use Rattle.json_lines.specs.Fields.{counted, hex_value_after, is_code, is_empty, is_hex_digit, is_number, item_at, item_of, items_of}
+use Rattle.json_lines.specs.Fields.{number_of, pair_of, plural, value_of}
+use Rattle.json_lines.specs.Shapes.{field_in, members_of, object_of, object_with, with_member}
 use Rattle.json_lines.specs.declared.shape.Kind.{Kind}
 use Rattle.json_lines.specs.declared.shape.Kind.TheVariants as kind
 use Rattle.json_lines.specs.declared.shape.Part.{Part}
@@ -141,5 +141,6 @@ unfolding object_of
 object_flat [] line = omega arith
 object_flat (s ∷ shapes) line = shape_flat s.0.now (members_of s.1.now line) (object_of shapes line) (members_flat s.1.now line) (object_flat shapes line)
 
+-- So a reader of JSON takes it.
 pub is_shallow : (shapes : List Shape) (line : List ℕ) → depth (object_of shapes line) ≤ max_depth
 is_shallow shapes line = omega (arith, object_flat shapes line)

@@ -29,7 +29,9 @@ number_there text there = number_by_test text (go (is_number text) there)
 
 -- So are both texts of a pair.
 pub pair_there : (one other : List ℕ) → is_some (pair_of one other) ≡ true → IsNumber one × IsNumber other
-pair_there one other there = (number_by_test one (go (is_number one) (is_number other) there).0, number_by_test other (go (is_number one) (is_number other) there).1)
+pair_there one other there =
+    let both = go (is_number one) (is_number other) there in
+    (number_by_test one both.0, number_by_test other both.1)
   where
     go : (a b : Bool) → is_some (option_and_then (λ x. option_map (λ y. array (item x (item y no_items))) (cond b (Some (number other)) None))
         (cond a (Some (number one)) None)) ≡ true → (a ≡ true) × (b ≡ true)

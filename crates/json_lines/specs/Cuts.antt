@@ -1,5 +1,5 @@
 -- How a text is cut at a word that stands in it.
-use Rattle.std.specs.Prelude.{ℕ, ◌==◌, List, [], ◌∷◌, Bool, Option, Some, None, option_map, is_some, if◌then◌else◌}
+use Rattle.std.specs.Prelude.{ℕ, ◌==◌, List, [], ◌∷◌, Option, Some, None, option_map, is_some, if◌then◌else◌}
 
 -- what follows a beginning of the text; none, if the text does not begin so
 unfoldable pub after : (begin text : List ℕ) → Option (List ℕ)

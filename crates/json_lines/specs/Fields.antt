@@ -1,5 +1,5 @@
 -- What stands for the text of a field in JSON.
-use Rattle.std.specs.Prelude.{ℕ, ◌+◌, ◌-◌, ◌*◌, ◌==◌, ◌&&◌, ◌||◌, nat_lt, nat_le, Bool, true, false, List, [], ◌∷◌, length}
+use Rattle.std.specs.Prelude.{ℕ, ◌+◌, ◌-◌, ◌*◌, ◌==◌, ◌&&◌, ◌||◌, nat_le, Bool, true, false, List, [], ◌∷◌, length}
 use Rattle.std.specs.Prelude.{Option, Some, None, bytes_eq, codes, decimal, if◌then◌else◌, option_and_then, option_map}
 use Rattle.std.specs.List.{list_all}
 use Rattle.json.specs.Json.{Json, Items, array, item, no_items, null, number, string}

@@ -4,7 +4,6 @@ use Rattle.std.specs.Prelude.{unwrap_or}
 use Rattle.json.specs.Json.{Json, Members, member, no_members, object, string}
 use Rattle.json_lines.specs.Cuts.{after, upto}
 use Rattle.json_lines.specs.Fields.{is_empty, value_of}
-use Rattle.json_lines.specs.declared.shape.Kind.{Kind}
 use Rattle.json_lines.specs.declared.shape.Part.{Part}
 use Rattle.json_lines.specs.declared.shape.Part.TheVariants as part
 use Rattle.json_lines.specs.declared.shape.Shape.{Shape}

@@ -1,6 +1,7 @@
 //! What stands for the text of a field in JSON.
 
-ghost use Rattle.std.specs.Prelude.{◌≡◌, ◌<◌, ◌≤◌, ◌++◌, IfSome, None, OnOk, Some, if◌then◌else◌, is_some, length, true};
+ghost use Rattle.std.specs.Prelude.{◌≡◌, ◌<◌, ◌≤◌, ◌++◌, IfSome, None, OnOk, Some, if◌then◌else◌, is_some, length};
+ghost use Rattle.std.specs.Prelude.{true};
 ghost use Rattle.std.specs.List.{list_all};
 ghost use Rattle.json.specs.Tree.{items_tokens, json_tokens};
 ghost use Rattle.json_lines.specs.Cuts.{words_of};
@@ -173,7 +174,11 @@ fn item_of(word: &str) -> Option<Item<'_>>
     ensures { IsItem result (item_of word.now) }
 {
     let Some((one, rest)) = upto("x", word) else {
-        return if is_number(word) { Some(Item::One(word)) } else { None };
+        return if is_number(word) {
+            Some(Item::One(word))
+        } else {
+            None
+        };
     };
     let other = after("x", rest)?;
     if is_number(one) && is_number(other) {

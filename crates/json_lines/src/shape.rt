@@ -19,8 +19,8 @@ pub enum Kind {
     Text,
     /// A number in decimal, followed by these words, and by an `s` unless the number is 1: the number.
     Count(&'static str),
-    /// Words, with a blank between two of them: an array with an item for each word. The item of `AxB` is the array of the
-    /// numbers A and B, and of any other word the number.
+    /// Words, with a blank between two of them: an array with an item for each word. The item of `AxB` is the array of
+    /// the numbers A and B, and of any other word the number.
     List,
     /// No text: this string.
     Is(&'static str),

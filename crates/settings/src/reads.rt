@@ -2,8 +2,9 @@
 ghost use Rattle.std.specs.Prelude.{◌≡◌, ◌≤◌, ◌<◌, ◌^◌, codes, option_map, unwrap_or, [], IfOk};
 ghost use Rattle.clap.specs.Words.{all_of, found_of, rows_of, subcommand_rows_of};
 ghost use Rattle.settings.specs.Lines.{AreSizes, GivesAsm, GivesCheck, GivesDis, GivesExplain, GivesExplore};
-ghost use Rattle.settings.specs.Lines.{GivesHunt, IsChoice, IsChosen, IsFlag, IsNumber, IsOption, GivesOrder};
-ghost use Rattle.settings.specs.Lines.{IsPath, GivesListing, GivesPicture, GivesReplay, GivesRun, GivesSession, GivesWords};
+ghost use Rattle.settings.specs.Lines.{GivesHunt, GivesListing, IsChoice, IsChosen, IsFlag, IsNumber, IsOption};
+ghost use Rattle.settings.specs.Lines.{GivesOrder, IsPath, GivesPicture, GivesReplay, GivesRun, GivesSession};
+ghost use Rattle.settings.specs.Lines.{GivesWords};
 ghost use Rattle.settings.specs.Plain.{texts_of};
 ghost use Rattle.settings.specs.Given.{HasAsm, HasDebug, HasDis, HasExplore, HasHunt, HasNumber, HasOrder};
 ghost use Rattle.settings.specs.Given.{HasPath, HasPicture, HasReplay, HasRun, HasSizes, IsComplete};

@@ -1,5 +1,5 @@
 use Rattle.std.proofs.Common.{arith}
-use Rattle.json_lines.proofs.Digits.{digit_at, one_more_digit, room}
+use Rattle.json_lines.proofs.Digits.{room}
 use Rattle.json_lines.proofs.fields.hex_value.Goals as goal
 
 pub overflow_mul-value : goal.overflow_mul-value

@@ -1,4 +1,4 @@
-use Rattle.std.proofs.Common.{◌≡◌, ◌++◌, arith, take, rules}
+use Rattle.std.proofs.Common.{◌≡◌, ◌++◌, arith, take}
 use Rattle.std.proofs.KnownBytes.{Appends-nil}
 use Rattle.json_lines.proofs.Feeding.{line_at, none_at}
 use Rattle.json_lines.proofs.lines.JsonLinesWrite.write.Goals as goal
