@@ -120,7 +120,7 @@ unfoldable pub words_command : App
 words_command = with_file (new_app (codes "words"))
 
 unfoldable pub check_command : App
-check_command = with_file (new_app (codes "check"))
+check_command = with_rule (with_file (new_app (codes "check"))) (flag (codes "json"))
 
 unfoldable pub asm_command : App
 asm_command = with_rule (with_file (new_app (codes "asm"))) (path (codes "OUT"))
@@ -137,19 +137,20 @@ unfoldable pub run_command : App
 run_command =
     with_number start (with_number budget (with_sizes
     (with_rule (with_rule (with_rule (with_rule (with_rule (with_file (new_app (codes "run"))) (option (codes "trace")))
-    (flag (codes "sweep"))) (flag (codes "no-log"))) (flag (codes "unfinished"))) (flag (codes "quiet")))))
+    (flag (codes "sweep"))) (flag (codes "no-log"))) (flag (codes "unfinished"))) (flag (codes "quiet")))
+    (flag (codes "json")))))
 
 -- a trace, the image of its run, and the number of shared words
 abbrev pub replaying : Text → App
 replaying name = with_number shared_words (with_file (with_rule (new_app name) (path (codes "TRACE"))))
 
--- the name of a command that takes these and no option of its own
+-- the name of a command that takes these, and `--json`, and no option of its own
 abbrev pub trace_name : TraceCommand → Text
 trace_name trace.Replay = codes "replay"
 trace_name trace.Stats = codes "stats"
 
 unfoldable pub trace_command : TraceCommand → App
-trace_command command = replaying (trace_name command)
+trace_command command = with_rule (replaying (trace_name command)) (flag (codes "json"))
 
 unfoldable pub explain_command : App
 explain_command = with_rule (new_app (codes "explain")) (words (codes "CODE"))
@@ -157,8 +158,8 @@ explain_command = with_rule (new_app (codes "explain")) (words (codes "CODE"))
 -- the same with a choice of numbered lines
 abbrev pub choosing : Text → App
 choosing name =
-    with_rule (with_rule (with_rule (with_rule (replaying name) (number processor)) (number shared_word))
-    (number first_line)) (number last_line)
+    with_rule (with_rule (with_rule (with_rule (with_rule (replaying name) (number processor)) (number shared_word))
+    (number first_line)) (number last_line)) (flag (codes "json"))
 
 unfoldable pub order_command : App
 order_command = choosing (codes "order")
@@ -178,14 +179,14 @@ explore_command =
     with_rule (with_number states (with_sizes
     (with_rule (with_rule (with_rule (with_rule (with_rule (with_file (new_app (codes "explore")))
     (option (codes "trace"))) (option (codes "observe"))) (flag (codes "each"))) (flag (codes "every")))
-    (flag (codes "quiet"))))) (number witness)
+    (flag (codes "quiet"))) (flag (codes "json"))))) (number witness)
 
 unfoldable pub hunt_command : App
 hunt_command =
     with_number start (with_number runs (with_number steps (with_sizes
     (with_rule (with_rule (with_rule (with_rule (with_rule (with_file (new_app (codes "hunt")))
     (option (codes "trace"))) (option (codes "observe"))) (flag (codes "overwrite"))) (flag (codes "expect-one")))
-    (flag (codes "quiet"))))))
+    (flag (codes "quiet"))) (flag (codes "json"))))))
 
 -- the program, which has a version and requires a subcommand
 abbrev pub program : App

@@ -89,8 +89,20 @@ const TRACED_IMAGE: Argument = Argument::Path {
     help: "The image of that run, as `ultra asm` writes it",
 };
 
-/// The arguments of a command that replays a trace.
-const REPLAYED: &[Argument] = &[TRACE, TRACED_IMAGE, Argument::Number(SHARED_WORDS)];
+/// Whether progress is left out.
+const QUIET: Argument = Argument::Flag {
+    name: "quiet",
+    help: "Show no progress line on a terminal",
+};
+
+/// Whether lines are printed as JSON.
+const JSON: Argument = Argument::Flag {
+    name: "json",
+    help: "Print each line as a JSON object",
+};
+
+/// The arguments of a command that replays a trace and prints lines.
+const REPLAYED: &[Argument] = &[TRACE, TRACED_IMAGE, Argument::Number(SHARED_WORDS), JSON];
 
 /// Those of a command that prints numbered lines for a trace.
 const LINES: &[Argument] = &[
@@ -101,6 +113,7 @@ const LINES: &[Argument] = &[
     Argument::Choice(SHARED_WORD),
     Argument::Choice(FIRST_LINE),
     Argument::Choice(LAST_LINE),
+    JSON,
 ];
 
 const WORDS: CommandForm = CommandForm {
@@ -116,7 +129,7 @@ const WORDS: CommandForm = CommandForm {
 const CHECK: CommandForm = CommandForm {
     name: "check",
     about: "List every fault of a text, each with its line, column, word and what would be right",
-    arguments: &[TEXT],
+    arguments: &[TEXT, JSON],
     ends: CHECK_ENDS,
 };
 
@@ -169,10 +182,8 @@ const RUN: CommandForm = CommandForm {
             name: "unfinished",
             help: "Print the report, and write the trace, also if the budget ends the run",
         },
-        Argument::Flag {
-            name: "quiet",
-            help: "Show no progress line on a terminal",
-        },
+        QUIET,
+        JSON,
         Argument::Number(STAGES),
         Argument::Number(QUEUE),
         Argument::Number(RECORDS),
@@ -207,10 +218,8 @@ const HUNT: CommandForm = CommandForm {
             name: "expect-one",
             help: "Expect all runs to come to one result; if they do not, the exit status says so",
         },
-        Argument::Flag {
-            name: "quiet",
-            help: "Show no progress line on a terminal",
-        },
+        QUIET,
+        JSON,
         Argument::Number(STAGES),
         Argument::Number(QUEUE),
         Argument::Number(RECORDS),
@@ -246,10 +255,8 @@ const EXPLORE: CommandForm = CommandForm {
             name: "every",
             help: "Explore every k from 0 to 6, and print a line for each; not with --witness",
         },
-        Argument::Flag {
-            name: "quiet",
-            help: "Show no progress line on a terminal",
-        },
+        QUIET,
+        JSON,
         Argument::Number(STAGES),
         Argument::Number(QUEUE),
         Argument::Number(RECORDS),

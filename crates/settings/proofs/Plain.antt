@@ -20,8 +20,8 @@ use Rattle.clap.proofs.OnLiterals.{clap_on_literals}
 use Rattle.settings.specs.declared.choice.Explain.{Explain}
 use Rattle.settings.specs.declared.choice.Replay.{Replay}
 use Rattle.settings.specs.Lines.{IsAsked, IsChosen, GivesAsm, GivesCheck, GivesDis, GivesExplain, GivesExplore}
-use Rattle.settings.specs.Lines.{GivesHunt, GivesLines, GivesPicture, GivesReplay, GivesRun, GivesSession, GivesWords}
-use Rattle.settings.specs.Lines.{Named}
+use Rattle.settings.specs.Lines.{GivesHunt, GivesLines, GivesListing, GivesPicture, GivesReplay, GivesRun}
+use Rattle.settings.specs.Lines.{GivesSession, GivesWords, Named}
 use Rattle.command_forms.specs.Commands.{trace_name, ultra_command}
 use Rattle.command_forms.specs.declared.forms.TraceCommand.{TraceCommand}
 use Rattle.command_forms.specs.declared.forms.TraceCommand.TheVariants as trace
@@ -76,7 +76,7 @@ AreOf rows (asked.Dis d) = GivesDis rows d
 AreOf rows (asked.Run r) = GivesRun rows r
 AreOf rows (asked.Hunt h) = GivesHunt rows h
 AreOf rows (asked.Explore x) = GivesExplore rows x
-AreOf rows (asked.Trace c r) = GivesReplay rows r
+AreOf rows (asked.Trace c l) = GivesListing rows l
 AreOf rows (asked.Order o) = GivesLines rows o
 AreOf rows (asked.Story o) = GivesLines rows o
 AreOf rows (asked.Picture p) = GivesPicture rows p
@@ -103,7 +103,7 @@ chosen_as stop name rows (asked.Dis d) is chosen = named_as stop name (codes "di
 chosen_as stop name rows (asked.Run r) is chosen = named_as stop name (codes "run") rows (λ them. GivesRun them r) is chosen
 chosen_as stop name rows (asked.Hunt h) is chosen = named_as stop name (codes "hunt") rows (λ them. GivesHunt them h) is chosen
 chosen_as stop name rows (asked.Explore x) is chosen = named_as stop name (codes "explore") rows (λ them. GivesExplore them x) is chosen
-chosen_as stop name rows (asked.Trace c r) is chosen = named_as stop name (trace_name c) rows (λ them. GivesReplay them r) is chosen
+chosen_as stop name rows (asked.Trace c l) is chosen = named_as stop name (trace_name c) rows (λ them. GivesListing them l) is chosen
 chosen_as stop name rows (asked.Order o) is chosen = named_as stop name (codes "order") rows (λ them. GivesLines them o) is chosen
 chosen_as stop name rows (asked.Story o) is chosen = named_as stop name (codes "story") rows (λ them. GivesLines them o) is chosen
 chosen_as stop name rows (asked.Picture p) is chosen = named_as stop name (codes "picture") rows (λ them. GivesPicture them p) is chosen
@@ -137,11 +137,16 @@ give Q words name rows met are (Err e) chosen kinds = go (rw met.0 at kinds)
 abbrev GivePlain : List Text → Type 0
 GivePlain words = Give words (λ given. IsPlain given words)
 
-file_rows : (file : Text) → List Row
-file_rows file = row (codes "FILE") file CommandLine ∷ []
+-- one file, and whether the command has `--json`
+file_rows : (has_json : Bool) → (file : Text) → List Row
+file_rows true file = row (codes "FILE") file CommandLine ∷ row (codes "json") (codes "false") DefaultValue ∷ []
+file_rows false file = row (codes "FILE") file CommandLine ∷ []
 
-trace_rows : (trace file : Text) → List Row
-trace_rows trace file = row (codes "TRACE") trace CommandLine ∷ row (codes "FILE") file CommandLine ∷ []
+-- a trace and an image, and whether the command has `--json`
+trace_rows : (has_json : Bool) → (trace file : Text) → List Row
+trace_rows true trace file =
+    row (codes "TRACE") trace CommandLine ∷ row (codes "FILE") file CommandLine ∷ row (codes "json") (codes "false") DefaultValue ∷ []
+trace_rows false trace file = row (codes "TRACE") trace CommandLine ∷ row (codes "FILE") file CommandLine ∷ []
 
 -- Two texts that are both present and equal are the same.
 same_text : (x y : Text) → Some x ≡ Some y → x ≡ y
@@ -158,10 +163,11 @@ files_read {command} one read other second words named e f =
     subst (λ g. HasFiles command g second words) (same_text one read e) (subst (λ g. HasFiles command one g words) (same_text other second f) named)
 
 -- The rows of a trace and an image give both files, and 1,024 shared words.
-replay_is : {command : Text} (trace file : Text) (r : Replay) (words : List Text) → HasFiles command trace file words → GivesReplay (trace_rows trace file) r
-    → HasTrace command r words
+replay_is : {command : Text} (has_json : Bool) (trace file : Text) (r : Replay) (words : List Text) → HasFiles command trace file words
+    → GivesReplay (trace_rows has_json trace file) r → HasTrace command r words
 unfolding row trace_rows
-replay_is trace file r words named said = (files_read trace r.trace.now file r.file.now words named said.0 said.1, said.2.0)
+replay_is true trace file r words named said = (files_read trace r.trace.now file r.file.now words named said.0 said.1, said.2.0)
+replay_is false trace file r words named said = (files_read trace r.trace.now file r.file.now words named said.0 said.1, said.2.0)
 
 no_text : (o : Option (Bor Text)) → None ≡ option_map (λ t. t.now) o → o ≡ None
 no_text None e = refl
@@ -171,7 +177,7 @@ unset : (b : Bool) → (b ≡ true → Some (codes "false") ≡ Some (codes "tru
 unset false f = refl
 unset true f = let bad : Some (codes "false") ≡ Some (codes "true") = f refl in cc
 
--- ---- the commands with one file and no option: `words FILE` and `check FILE`
+-- ---- the commands with one file and no flag but `--json`: `words FILE` and `check FILE`
 
 data FileCommand : Type 0 where
   OfWords : FileCommand
@@ -181,24 +187,30 @@ abbrev file_command : FileCommand → Text
 file_command OfWords = codes "words"
 file_command OfCheck = codes "check"
 
-file_met : (c : FileCommand) (program file : Text) → IsNoOption file → Meets (program ∷ file_command c ∷ file ∷ []) (file_command c) (file_rows file)
+abbrev file_json : FileCommand → Bool
+file_json OfWords = false
+file_json OfCheck = true
+
+file_met : (c : FileCommand) (program file : Text) → IsNoOption file
+    → Meets (program ∷ file_command c ∷ file ∷ []) (file_command c) (file_rows (file_json c) file)
 unfolding row file_rows clap_on_literals commands
 file_met OfWords program file h = rw (no_hyphens file h, no_hyphen file h, no_hyphen file h) (refl, refl)
 file_met OfCheck program file h = rw (no_hyphens file h, no_hyphen file h, no_hyphen file h) (refl, refl)
 
 file_are : (c : FileCommand) (file : Text) (words : List Text) → HasFile (file_command c) file words → (s : Settings)
-    → (name_of s ≡ file_command c) × AreOf (file_rows file) s → IsPlain s words
+    → (name_of s ≡ file_command c) × AreOf (file_rows (file_json c) file) s → IsPlain s words
 unfolding name_of row file_rows
 file_are OfWords file words named (asked.Words w) said = file_read file w.file.now words named said.1
 file_are OfWords file words named (asked.Trace d r) said = no_trace d (codes "words") refl said.0
 file_are OfWords file words named other said = apart (name_of other) (codes "words") refl said.0
-file_are OfCheck file words named (asked.Check c) said = file_read file c.file.now words named said.1
+file_are OfCheck file words named (asked.Check c) said = (file_read file c.file.now words named said.1.0, unset c.json said.1.1.0)
 file_are OfCheck file words named (asked.Trace d r) said = no_trace d (codes "check") refl said.0
 file_are OfCheck file words named other said = apart (name_of other) (codes "check") refl said.0
 
--- The words give the command's file.
+-- The words give the command's file, and no flag.
 file_given : (c : FileCommand) (file : Text) (words : List Text) → HasFile (file_command c) file words → GivePlain words
-file_given c file words named = give _ words (file_command c) (file_rows file) (rw named.1 (file_met c named.0 file named.2)) (file_are c file words named)
+file_given c file words named =
+    give _ words (file_command c) (file_rows (file_json c) file) (rw named.1 (file_met c named.0 file named.2)) (file_are c file words named)
 
 -- ---- the commands with a trace and an image: those of `TraceCommand`, and `order`, `story` and `picture TRACE FILE`
 
@@ -214,8 +226,14 @@ name_on_trace OfOrder = codes "order"
 name_on_trace OfStory = codes "story"
 name_on_trace OfPicture = codes "picture"
 
+abbrev json_on_trace : OnTrace → Bool
+json_on_trace (Alone c) = true
+json_on_trace OfOrder = true
+json_on_trace OfStory = true
+json_on_trace OfPicture = false
+
 trace_met : (c : OnTrace) (program one file : Text) → IsNoOption one → IsNoOption file →
-    Meets (program ∷ name_on_trace c ∷ one ∷ file ∷ []) (name_on_trace c) (trace_rows one file)
+    Meets (program ∷ name_on_trace c ∷ one ∷ file ∷ []) (name_on_trace c) (trace_rows (json_on_trace c) one file)
 unfolding row trace_rows clap_on_literals commands
 trace_met (Alone trace.Replay) program one file h k =
     rw (no_hyphens one h, no_hyphen one h, no_hyphen one h, no_hyphens file k, no_hyphen file k, no_hyphen file k) (refl, refl)
@@ -229,25 +247,28 @@ trace_met OfPicture program one file h k =
     rw (no_hyphens one h, no_hyphen one h, no_hyphen one h, no_hyphens file k, no_hyphen file k, no_hyphen file k) (refl, refl)
 
 trace_are : (c : OnTrace) (one file : Text) (words : List Text) → HasFiles (name_on_trace c) one file words → (s : Settings)
-    → (name_of s ≡ name_on_trace c) × AreOf (trace_rows one file) s → IsPlain s words
+    → (name_of s ≡ name_on_trace c) × AreOf (trace_rows (json_on_trace c) one file) s → IsPlain s words
 unfolding name_of row trace_rows
-trace_are (Alone c) one file words named (asked.Trace d r) said =
-    subst (λ name. HasTrace name r words) (sym said.0) (replay_is one file r words named said.1)
+trace_are (Alone c) one file words named (asked.Trace d l) said =
+    (subst (λ name. HasTrace name l.replay words) (sym said.0) (replay_is true one file l.replay words named said.1.0), unset l.json said.1.1.0)
 trace_are (Alone c) one file words named other said = no_trace c (name_of other) refl (sym said.0)
-trace_are OfOrder one file words named (asked.Order o) said = (replay_is one file o.replay words named said.1.0, said.1.1, said.1.2, said.1.3, said.1.4)
+trace_are OfOrder one file words named (asked.Order o) said =
+    (replay_is true one file o.replay words named said.1.0, said.1.1, said.1.2, said.1.3, said.1.4, unset o.json said.1.5.0)
 trace_are OfOrder one file words named (asked.Trace d r) said = no_trace d (codes "order") refl said.0
 trace_are OfOrder one file words named other said = apart (name_of other) (codes "order") refl said.0
-trace_are OfStory one file words named (asked.Story o) said = (replay_is one file o.replay words named said.1.0, said.1.1, said.1.2, said.1.3, said.1.4)
+trace_are OfStory one file words named (asked.Story o) said =
+    (replay_is true one file o.replay words named said.1.0, said.1.1, said.1.2, said.1.3, said.1.4, unset o.json said.1.5.0)
 trace_are OfStory one file words named (asked.Trace d r) said = no_trace d (codes "story") refl said.0
 trace_are OfStory one file words named other said = apart (name_of other) (codes "story") refl said.0
-trace_are OfPicture one file words named (asked.Picture p) said = (replay_is one file p.replay words named said.1.0, said.1.1)
+trace_are OfPicture one file words named (asked.Picture p) said = (replay_is false one file p.replay words named said.1.0, said.1.1)
 trace_are OfPicture one file words named (asked.Trace d r) said = no_trace d (codes "picture") refl said.0
 trace_are OfPicture one file words named other said = apart (name_of other) (codes "picture") refl said.0
 
--- The words give both files of the command, 1,024 shared words, and no choice.
+-- The words give both files of the command, 1,024 shared words, no choice, and no flag.
 trace_given : (c : OnTrace) (one file : Text) (words : List Text) → HasFiles (name_on_trace c) one file words → GivePlain words
 trace_given c one file words named =
-    give _ words (name_on_trace c) (trace_rows one file) (rw named.1 (trace_met c named.0 one file named.2 named.3)) (trace_are c one file words named)
+    give _ words (name_on_trace c) (trace_rows (json_on_trace c) one file) (rw named.1 (trace_met c named.0 one file named.2 named.3))
+    (trace_are c one file words named)
 
 -- ---- `asm FILE OUT`
 
@@ -299,7 +320,7 @@ run_rows : (file : Text) → List Row
 run_rows file =
     row (codes "FILE") file CommandLine ∷ row (codes "sweep") (codes "false") DefaultValue
     ∷ row (codes "no-log") (codes "false") DefaultValue ∷ row (codes "unfinished") (codes "false") DefaultValue
-    ∷ row (codes "quiet") (codes "false") DefaultValue ∷ []
+    ∷ row (codes "quiet") (codes "false") DefaultValue ∷ row (codes "json") (codes "false") DefaultValue ∷ []
 
 run_met : (program file : Text) → IsNoOption file → Meets (program ∷ codes "run" ∷ file ∷ []) (codes "run") (run_rows file)
 unfolding row run_rows clap_on_literals commands
@@ -309,15 +330,16 @@ run_are : (file : Text) (words : List Text) → HasFile (codes "run") file words
     IsPlain s words
 unfolding name_of row run_rows
 run_are file words named (asked.Run r) said =
-    let sizes = said.1.6 in
-    let budget = said.1.7 in
-    let start = said.1.8 in (
+    let sizes = said.1.7 in
+    let budget = said.1.8 in
+    let start = said.1.9 in (
       file_read file r.file.now words named said.1.0,
       no_text r.trace said.1.1,
       unset r.sweep said.1.2.0,
       unset r.no_log said.1.3.0,
       unset r.unfinished said.1.4.0,
       unset r.quiet said.1.5.0,
+      unset r.json said.1.6.0,
       (sizes.0.0, sizes.1.0, sizes.2.0, sizes.3.0, sizes.4.0),
       budget.0,
       start.0,
@@ -334,7 +356,8 @@ run_given file words named = give _ words (codes "run") (run_rows file) (rw name
 hunt_rows : (file : Text) → List Row
 hunt_rows file =
     row (codes "FILE") file CommandLine ∷ row (codes "overwrite") (codes "false") DefaultValue ∷ row (codes "expect-one") (codes "false") DefaultValue
-    ∷ row (codes "quiet") (codes "false") DefaultValue ∷ []
+    ∷ row (codes "quiet") (codes "false") DefaultValue
+    ∷ row (codes "json") (codes "false") DefaultValue ∷ []
 
 hunt_met : (program file : Text) → IsNoOption file → Meets (program ∷ codes "hunt" ∷ file ∷ []) (codes "hunt") (hunt_rows file)
 unfolding row hunt_rows clap_on_literals commands
@@ -344,16 +367,17 @@ hunt_are : (file : Text) (words : List Text) → HasFile (codes "hunt") file wor
     IsPlain s words
 unfolding name_of row hunt_rows
 hunt_are file words named (asked.Hunt h) said =
-    let sizes = said.1.6 in
-    let budget = said.1.7 in
-    let runs = said.1.8 in
-    let start = said.1.9 in (
+    let sizes = said.1.7 in
+    let budget = said.1.8 in
+    let runs = said.1.9 in
+    let start = said.1.10 in (
       file_read file h.file.now words named said.1.0,
       no_text h.trace said.1.1,
       no_text h.observe said.1.2,
       unset h.overwrite said.1.3.0,
       unset h.expect_one said.1.4.0,
       unset h.quiet said.1.5.0,
+      unset h.json said.1.6.0,
       (sizes.0.0, sizes.1.0, sizes.2.0, sizes.3.0, sizes.4.0),
       budget.0,
       runs.0,
@@ -450,7 +474,8 @@ explain_given others words named = give _ words (codes "explain") (explain_rows 
 explore_rows : (file : Text) → List Row
 explore_rows file =
     row (codes "FILE") file CommandLine ∷ row (codes "each") (codes "false") DefaultValue
-    ∷ row (codes "every") (codes "false") DefaultValue ∷ row (codes "quiet") (codes "false") DefaultValue ∷ []
+    ∷ row (codes "every") (codes "false") DefaultValue ∷ row (codes "quiet") (codes "false") DefaultValue
+    ∷ row (codes "json") (codes "false") DefaultValue ∷ []
 
 explore_met : (program file : Text) → IsNoOption file → Meets (program ∷ codes "explore" ∷ file ∷ []) (codes "explore") (explore_rows file)
 unfolding row explore_rows clap_on_literals commands
@@ -460,17 +485,18 @@ explore_are : (file : Text) (words : List Text) → HasFile (codes "explore") fi
     → (name_of s ≡ codes "explore") × AreOf (explore_rows file) s → IsPlain s words
 unfolding name_of row explore_rows
 explore_are file words named (asked.Explore x) said =
-    let sizes = said.1.6 in
-    let states = said.1.7 in (
+    let sizes = said.1.7 in
+    let states = said.1.8 in (
       file_read file x.file.now words named said.1.0,
       no_text x.trace said.1.1,
       no_text x.observe said.1.2,
       unset x.each said.1.3.0,
       unset x.every said.1.4.0,
       unset x.quiet said.1.5.0,
+      unset x.json said.1.6.0,
       (sizes.0.0, sizes.1.0, sizes.2.0, sizes.3.0, sizes.4.0),
       states.0,
-      said.1.8,
+      said.1.9,
     )
 explore_are file words named (asked.Trace d r) said = no_trace d (codes "explore") refl said.0
 explore_are file words named other said = apart (name_of other) (codes "explore") refl said.0
@@ -485,13 +511,13 @@ explore_given file words named =
 -- Words that say some settings plainly give settings that they say plainly.
 pub plain_given : (s : Settings) (words : List Text) → IsPlain s words → GivePlain words
 plain_given (asked.Words w) words said = file_given OfWords w.file.now words said
-plain_given (asked.Check c) words said = file_given OfCheck c.file.now words said
+plain_given (asked.Check c) words said = file_given OfCheck c.file.now words said.0
 plain_given (asked.Asm a) words said = asm_given a.file.now a.out.now words said
 plain_given (asked.Dis d) words said = dis_given d.file.now words said.0
 plain_given (asked.Run r) words said = run_given r.file.now words said.0
 plain_given (asked.Hunt h) words said = hunt_given h.file.now words said.0
 plain_given (asked.Explore x) words said = explore_given x.file.now words said.0
-plain_given (asked.Trace c r) words said = trace_given (Alone c) r.trace.now r.file.now words said.0
+plain_given (asked.Trace c l) words said = trace_given (Alone c) l.replay.trace.now l.replay.file.now words said.0.0
 plain_given (asked.Order o) words said = trace_given OfOrder o.replay.trace.now o.replay.file.now words said.0.0
 plain_given (asked.Story o) words said = trace_given OfStory o.replay.trace.now o.replay.file.now words said.0.0
 plain_given (asked.Picture p) words said = trace_given OfPicture p.replay.trace.now p.replay.file.now words said.0.0

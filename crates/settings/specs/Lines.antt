@@ -14,6 +14,7 @@ use Rattle.settings.specs.declared.choice.Run.{Run}
 use Rattle.settings.specs.declared.choice.Hunt.{Hunt}
 use Rattle.settings.specs.declared.choice.Explore.{Explore}
 use Rattle.settings.specs.declared.choice.Replay.{Replay}
+use Rattle.settings.specs.declared.choice.Listing.{Listing}
 use Rattle.settings.specs.declared.choice.Lines.{Lines}
 use Rattle.settings.specs.declared.choice.Picture.{Picture}
 use Rattle.settings.specs.declared.choice.Session.{Session}
@@ -55,7 +56,7 @@ abbrev pub GivesWords : List Row → Words → Type 0
 GivesWords rows w = IsPath (codes "FILE") rows w.file.now
 
 abbrev pub GivesCheck : List Row → Check → Type 0
-GivesCheck rows c = IsPath (codes "FILE") rows c.file.now
+GivesCheck rows c = IsPath (codes "FILE") rows c.file.now × IsFlag (codes "json") rows c.json
 
 abbrev pub GivesAsm : List Row → Asm → Type 0
 GivesAsm rows a = IsPath (codes "FILE") rows a.file.now × IsPath (codes "OUT") rows a.out.now
@@ -68,19 +69,22 @@ abbrev pub GivesRun : List Row → Run → Type 0
 GivesRun rows r = IsPath (codes "FILE") rows r.file.now
     × IsOption (codes "trace") rows (option_map (λ t. t.now) r.trace) × IsFlag (codes "sweep") rows r.sweep
     × IsFlag (codes "no-log") rows r.no_log × IsFlag (codes "unfinished") rows r.unfinished
-    × IsFlag (codes "quiet") rows r.quiet × AreSizes rows r.sizes
+    × IsFlag (codes "quiet") rows r.quiet × IsFlag (codes "json") rows r.json × AreSizes rows r.sizes
     × IsNumber budget rows r.budget × IsNumber start rows r.start
 
 abbrev pub GivesReplay : List Row → Replay → Type 0
 GivesReplay rows r = IsPath (codes "TRACE") rows r.trace.now × IsPath (codes "FILE") rows r.file.now
     × IsNumber shared_words rows r.words
 
+abbrev pub GivesListing : List Row → Listing → Type 0
+GivesListing rows l = GivesReplay rows l.replay × IsFlag (codes "json") rows l.json
+
 abbrev pub GivesExplain : List Row → Explain → Type 0
 GivesExplain rows e = texts_of e.words.items ≡ unwrap_or (all_of (codes "CODE") rows) []
 
 abbrev pub GivesLines : List Row → Lines → Type 0
 GivesLines rows o = GivesReplay rows o.replay × IsChoice processor rows o.processor × IsChoice shared_word rows o.word
-    × IsChoice first_line rows o.from × IsChoice last_line rows o.to
+    × IsChoice first_line rows o.from × IsChoice last_line rows o.to × IsFlag (codes "json") rows o.json
 
 abbrev pub GivesPicture : List Row → Picture → Type 0
 GivesPicture rows p = GivesReplay rows p.replay × IsChoice step rows p.step
@@ -95,14 +99,15 @@ GivesExplore rows x = IsPath (codes "FILE") rows x.file.now
     × IsOption (codes "trace") rows (option_map (λ t. t.now) x.trace)
     × IsOption (codes "observe") rows (option_map (λ list. list.now) x.observe)
     × IsFlag (codes "each") rows x.each × IsFlag (codes "every") rows x.every × IsFlag (codes "quiet") rows x.quiet
-    × AreSizes rows x.sizes × IsNumber states rows x.states × IsChoice witness rows x.witness
+    × IsFlag (codes "json") rows x.json × AreSizes rows x.sizes × IsNumber states rows x.states
+    × IsChoice witness rows x.witness
 
 abbrev pub GivesHunt : List Row → Hunt → Type 0
 GivesHunt rows h = IsPath (codes "FILE") rows h.file.now
     × IsOption (codes "trace") rows (option_map (λ prefix. prefix.now) h.trace)
     × IsOption (codes "observe") rows (option_map (λ list. list.now) h.observe)
     × IsFlag (codes "overwrite") rows h.overwrite × IsFlag (codes "expect-one") rows h.expect_one
-    × IsFlag (codes "quiet") rows h.quiet × AreSizes rows h.sizes
+    × IsFlag (codes "quiet") rows h.quiet × IsFlag (codes "json") rows h.json × AreSizes rows h.sizes
     × IsNumber steps rows h.budget × IsNumber runs rows h.runs × IsNumber start rows h.start
 
 -- The subcommand has this name, and its rows have the property.
@@ -118,7 +123,7 @@ IsChosen stop (asked.Dis d) = Named stop (codes "dis") (λ rows. GivesDis rows d
 IsChosen stop (asked.Run r) = Named stop (codes "run") (λ rows. GivesRun rows r)
 IsChosen stop (asked.Hunt h) = Named stop (codes "hunt") (λ rows. GivesHunt rows h)
 IsChosen stop (asked.Explore x) = Named stop (codes "explore") (λ rows. GivesExplore rows x)
-IsChosen stop (asked.Trace c r) = Named stop (trace_name c) (λ rows. GivesReplay rows r)
+IsChosen stop (asked.Trace c l) = Named stop (trace_name c) (λ rows. GivesListing rows l)
 IsChosen stop (asked.Order o) = Named stop (codes "order") (λ rows. GivesLines rows o)
 IsChosen stop (asked.Story o) = Named stop (codes "story") (λ rows. GivesLines rows o)
 IsChosen stop (asked.Picture p) = Named stop (codes "picture") (λ rows. GivesPicture rows p)

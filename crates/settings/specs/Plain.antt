@@ -40,27 +40,27 @@ HasOthers command others words = (program : Text) × (words ≡ program ∷ comm
 abbrev pub AreUsual : Sizes → Type 0
 AreUsual s = (s.k ≡ 2) × (s.c ≡ 4) × (s.b ≡ 4) × (s.r ≡ 1) × (s.words ≡ 1024)
 
--- No line is left out.
+-- No line is left out, and lines are printed as they are.
 abbrev pub TakesAll : Lines → Type 0
-TakesAll o = (o.processor ≡ None) × (o.word ≡ None) × (o.from ≡ None) × (o.to ≡ None)
+TakesAll o = (o.processor ≡ None) × (o.word ≡ None) × (o.from ≡ None) × (o.to ≡ None) × (o.json ≡ false)
 
 -- The words are just the command of these settings with its files, or `explain` with at most four words. So no flag is
 -- set, no trace is written, no choice is made, and each number is its default.
 abbrev pub IsPlain : Settings → List Text → Type 0
 IsPlain (asked.Words w) words = HasFile (codes "words") w.file.now words
-IsPlain (asked.Check c) words = HasFile (codes "check") c.file.now words
+IsPlain (asked.Check c) words = HasFile (codes "check") c.file.now words × (c.json ≡ false)
 IsPlain (asked.Asm a) words = HasFiles (codes "asm") a.file.now a.out.now words
 IsPlain (asked.Dis d) words = HasFile (codes "dis") d.file.now words × (d.comments ≡ false) × (d.words ≡ 1024)
 IsPlain (asked.Run r) words = HasFile (codes "run") r.file.now words
     × (r.trace ≡ None) × (r.sweep ≡ false) × (r.no_log ≡ false) × (r.unfinished ≡ false) × (r.quiet ≡ false)
-    × AreUsual r.sizes × (r.budget ≡ 10000000) × (r.start ≡ 1)
+    × (r.json ≡ false) × AreUsual r.sizes × (r.budget ≡ 10000000) × (r.start ≡ 1)
 IsPlain (asked.Hunt h) words = HasFile (codes "hunt") h.file.now words
     × (h.trace ≡ None) × (h.observe ≡ None) × (h.overwrite ≡ false) × (h.expect_one ≡ false) × (h.quiet ≡ false)
-    × AreUsual h.sizes × (h.budget ≡ 100000) × (h.runs ≡ 1000) × (h.start ≡ 1)
+    × (h.json ≡ false) × AreUsual h.sizes × (h.budget ≡ 100000) × (h.runs ≡ 1000) × (h.start ≡ 1)
 IsPlain (asked.Explore x) words = HasFile (codes "explore") x.file.now words
     × (x.trace ≡ None) × (x.observe ≡ None) × (x.each ≡ false) × (x.every ≡ false) × (x.quiet ≡ false)
-    × AreUsual x.sizes × (x.states ≡ 1000000) × (x.witness ≡ None)
-IsPlain (asked.Trace c r) words = HasTrace (trace_name c) r words
+    × (x.json ≡ false) × AreUsual x.sizes × (x.states ≡ 1000000) × (x.witness ≡ None)
+IsPlain (asked.Trace c l) words = HasTrace (trace_name c) l.replay words × (l.json ≡ false)
 IsPlain (asked.Order o) words = HasTrace (codes "order") o.replay words × TakesAll o
 IsPlain (asked.Story o) words = HasTrace (codes "story") o.replay words × TakesAll o
 IsPlain (asked.Picture p) words = HasTrace (codes "picture") p.replay words × (p.step ≡ None)

@@ -12,7 +12,7 @@ pub enum Settings<'a> {
     Run(Run<'a>),
     Hunt(Hunt<'a>),
     Explore(Explore<'a>),
-    Trace(TraceCommand, Replay<'a>),
+    Trace(TraceCommand, Listing<'a>),
     Order(Lines<'a>),
     Story(Lines<'a>),
     Picture(Picture<'a>),
@@ -46,6 +46,8 @@ pub struct Words<'a> {
 pub struct Check<'a> {
     /// The text.
     pub file: &'a str,
+    /// Whether lines are printed as JSON.
+    pub json: bool,
 }
 
 /// `asm FILE OUT`.
@@ -83,6 +85,8 @@ pub struct Run<'a> {
     pub unfinished: bool,
     /// Whether to leave out reports of the run's progress.
     pub quiet: bool,
+    /// Whether lines are printed as JSON.
+    pub json: bool,
     /// The sizes of the machine.
     pub sizes: Sizes,
     /// How long the run may take, from 1: in rounds of each thread, or in steps of the sweep.
@@ -91,7 +95,7 @@ pub struct Run<'a> {
     pub start: u32,
 }
 
-/// `replay TRACE FILE`, or another command on a trace.
+/// A trace and the image of its run.
 #[derive(Debug, PartialEq, Eq, Drop)]
 pub struct Replay<'a> {
     /// The trace. It has the other sizes of the machine.
@@ -100,6 +104,15 @@ pub struct Replay<'a> {
     pub file: &'a str,
     /// How many shared words the machine has, from 1 to 262,144.
     pub words: u32,
+}
+
+/// `replay TRACE FILE`, or another command of [`TraceCommand`].
+#[derive(Debug, PartialEq, Eq, Drop)]
+pub struct Listing<'a> {
+    /// The trace and its machine.
+    pub replay: Replay<'a>,
+    /// Whether lines are printed as JSON.
+    pub json: bool,
 }
 
 /// `explain [CODE]..`.
@@ -122,6 +135,8 @@ pub struct Lines<'a> {
     pub from: Option<u32>,
     /// The number of the last line that is printed; None for the last there is.
     pub to: Option<u32>,
+    /// Whether lines are printed as JSON.
+    pub json: bool,
 }
 
 /// `picture TRACE FILE`, and the step after which the machine is drawn.
@@ -165,6 +180,8 @@ pub struct Explore<'a> {
     pub every: bool,
     /// Whether to leave out reports of the search's progress.
     pub quiet: bool,
+    /// Whether lines are printed as JSON.
+    pub json: bool,
     /// The sizes of the machine.
     pub sizes: Sizes,
     /// The number of states at which the search gives up, from 1.
@@ -189,6 +206,8 @@ pub struct Hunt<'a> {
     pub expect_one: bool,
     /// Whether to leave out reports of the hunt's progress.
     pub quiet: bool,
+    /// Whether lines are printed as JSON.
+    pub json: bool,
     /// The sizes of the machine.
     pub sizes: Sizes,
     /// How many steps a run may take, from 1 to 4,000,000.

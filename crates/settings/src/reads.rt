@@ -2,16 +2,17 @@
 ghost use Rattle.std.specs.Prelude.{◌≡◌, ◌≤◌, ◌<◌, ◌^◌, codes, option_map, unwrap_or, [], IfOk};
 ghost use Rattle.clap.specs.Words.{all_of, found_of, rows_of, subcommand_rows_of};
 ghost use Rattle.settings.specs.Lines.{AreSizes, GivesAsm, GivesCheck, GivesDis, GivesExplain, GivesExplore};
-ghost use Rattle.settings.specs.Lines.{GivesHunt, GivesLines, IsChoice, IsChosen, IsFlag, IsNumber, IsOption};
-ghost use Rattle.settings.specs.Lines.{IsPath, GivesPicture, GivesReplay, GivesRun, GivesSession, GivesWords};
+ghost use Rattle.settings.specs.Lines.{GivesHunt, GivesLines, GivesListing, IsChoice, IsChosen, IsFlag, IsNumber};
+ghost use Rattle.settings.specs.Lines.{IsOption, IsPath, GivesPicture, GivesReplay, GivesRun, GivesSession};
+ghost use Rattle.settings.specs.Lines.{GivesWords};
 ghost use Rattle.settings.specs.Plain.{texts_of};
 ghost use Rattle.settings.specs.Given.{HasAsm, HasDebug, HasDis, HasExplore, HasHunt, HasLines, HasNumber};
 ghost use Rattle.settings.specs.Given.{HasPath, HasPicture, HasReplay, HasRun, HasSizes, IsComplete};
 ghost use Rattle.command_forms.specs.Forms.{bounded, bounds_as, ranged, ranged_as};
 
 use crate::choice::{
-    Asm, Check, Dis, Explain, Explore, Hunt, Lines, Picture, Replay, Run, Session, Settings, Sizes,
-    Words,
+    Asm, Check, Dis, Explain, Explore, Hunt, Lines, Listing, Picture, Replay, Run, Session,
+    Settings, Sizes, Words,
 };
 use clap::ArgMatches;
 use command_forms::{
@@ -137,6 +138,7 @@ fn check<'a>(matches: &ArgMatches<'a>) -> Check<'a>
 {
     Check {
         file: path(matches, "FILE"),
+        json: flag(matches, "json"),
     }
 }
 
@@ -186,6 +188,7 @@ fn run<'a>(matches: &ArgMatches<'a>) -> Run<'a>
         no_log: flag(matches, "no-log"),
         unfinished: flag(matches, "unfinished"),
         quiet: flag(matches, "quiet"),
+        json: flag(matches, "json"),
         sizes: sizes(matches),
         budget: number(matches, BUDGET),
         start: number(matches, START),
@@ -200,6 +203,16 @@ fn replay<'a>(matches: &ArgMatches<'a>) -> Replay<'a>
         trace: path(matches, "TRACE"),
         file: path(matches, "FILE"),
         words: number(matches, SHARED_WORDS),
+    }
+}
+
+fn listing<'a>(matches: &ArgMatches<'a>) -> Listing<'a>
+    requires { HasReplay (rows_of (found_of matches.now)) }
+    ensures { GivesListing (rows_of (found_of matches.now)) result }
+{
+    Listing {
+        replay: replay(matches),
+        json: flag(matches, "json"),
     }
 }
 
@@ -245,6 +258,7 @@ fn lines<'a>(matches: &ArgMatches<'a>) -> Lines<'a>
         word: choice(matches, SHARED_WORD),
         from: choice(matches, FIRST_LINE),
         to: choice(matches, LAST_LINE),
+        json: flag(matches, "json"),
     }
 }
 
@@ -283,6 +297,7 @@ fn explore<'a>(matches: &ArgMatches<'a>) -> Explore<'a>
         each: flag(matches, "each"),
         every: flag(matches, "every"),
         quiet: flag(matches, "quiet"),
+        json: flag(matches, "json"),
         sizes: sizes(matches),
         states: number(matches, STATES),
         witness: choice(matches, WITNESS),
@@ -300,6 +315,7 @@ fn hunt<'a>(matches: &ArgMatches<'a>) -> Hunt<'a>
         overwrite: flag(matches, "overwrite"),
         expect_one: flag(matches, "expect-one"),
         quiet: flag(matches, "quiet"),
+        json: flag(matches, "json"),
         sizes: sizes(matches),
         budget: number(matches, RUN_STEPS),
         runs: number(matches, RUNS),
@@ -317,7 +333,7 @@ pub(crate) fn subcommand_settings<'a>(
 {
     let (name, inner) = matches.subcommand().unwrap();
     if let Some(command) = TraceCommand::of_name(name) {
-        return Ok(Settings::Trace(command, replay(inner)));
+        return Ok(Settings::Trace(command, listing(inner)));
     }
     match name {
         "words" => Ok(Settings::Words(words(inner))),

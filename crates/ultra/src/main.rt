@@ -6,6 +6,7 @@ ghost use Rattle.trace_commands.specs.TraceReports.{IsWorking};
 
 mod files;
 mod loopback_port;
+mod output;
 mod refusal;
 mod reports;
 mod standard_streams;
@@ -15,6 +16,7 @@ use crate::files::{
     STANDARD, open, open_beside, open_beside_trace, open_image, read_once, trace_to, writer_to,
 };
 use crate::loopback_port::LoopbackPort;
+use crate::output::{is_json, output_to};
 use crate::refusal::{Refusal, refuse};
 use crate::reports::{Explained, Place, Reason, Reports, place_of, report_place};
 use crate::standard_streams::StandardStreams;
@@ -29,7 +31,7 @@ use explore_command::{
 };
 use flat_machine::Config;
 use hunt_command::{Hunt as Hunted, HuntProgress, NoHuntProgress, hunt_command};
-use link::{LinkRead, LinkWrite, Meter};
+use link::{Link, LinkRead, LinkWrite, Meter};
 use machine_picture::Svg;
 use observed_words::ObservedWords;
 use processor_threads::{Gate, Open};
@@ -115,7 +117,8 @@ fn execute_and_report<
     requires works { W.has_failed out.old ≡ false }
 {
     let mut reports = Reports { err, letter: None };
-    let done = execute(rt, settings, terminal, reason, out, &mut reports);
+    let mut output = output_to(rt.alloc(), is_json(settings), reason, out);
+    let done = execute(rt, settings, terminal, reason, &mut output, &mut reports);
     let Reports { err, letter } = reports;
     let status = match done {
         Ok(status) => status,
@@ -123,7 +126,7 @@ fn execute_and_report<
     };
     let place = match letter {
         None => None,
-        Some(_) if out.failed() => Some(Place::StandardOutput),
+        Some(_) if output.failed() => Some(Place::StandardOutput),
         Some(letter) => place_of(settings, letter),
     };
     if let Some(place) = place {
@@ -179,9 +182,9 @@ fn execute<
         Settings::Run(run) => run_file(rt, run, terminal, reason, out, err),
         Settings::Hunt(hunt) => hunt_file(rt, hunt, terminal, reason, out, err),
         Settings::Explore(explore) => explore_file(rt, explore, terminal, reason, out, err),
-        Settings::Trace(command, replay) => match command {
-            TraceCommand::Replay => tell_steps(rt, replay, &Report, reason, out, err),
-            TraceCommand::Stats => tell_steps(rt, replay, &Stats, reason, out, err),
+        Settings::Trace(command, listing) => match command {
+            TraceCommand::Replay => tell_steps(rt, &listing.replay, &Report, reason, out, err),
+            TraceCommand::Stats => tell_steps(rt, &listing.replay, &Stats, reason, out, err),
         },
         Settings::Order(lines) => {
             let choice = choice_of(lines);

@@ -126,7 +126,7 @@ pub(crate) fn place_of<'a>(settings: &Settings<'a>, letter: u8) -> Option<Place<
         (b'I', Settings::Debug(session)) => Some(Place::File(session.file)),
         (b'l', Settings::Debug(session)) if session.stdio => Some(Place::File(STANDARD)),
         (b'l', Settings::Debug(session)) => Some(Place::Port(session.port)),
-        (_, Settings::Trace(_, replay)) => place_of_replay(replay, letter),
+        (_, Settings::Trace(_, listing)) => place_of_replay(&listing.replay, letter),
         (_, Settings::Order(lines) | Settings::Story(lines)) => place_of_replay(
             &lines.replay,
             letter,

@@ -2,16 +2,18 @@
 
 /// Ways to ask for `check`.
 pub const TAKEN: &str = r#"$ ultra check a.s
-Check(Check { file: "a.s" })
+Check(Check { file: "a.s", json: false })
 $ ultra check -- --a
-Check(Check { file: "--a" })
+Check(Check { file: "--a", json: false })
+$ ultra check --json a.s
+Check(Check { file: "a.s", json: true })
 "#;
 
 /// Parts of the help.
 pub const HELP: &str = "\
 $ ultra check --help
 DisplayHelp
-Usage: ultra check <FILE>
+Usage: ultra check [OPTIONS] <FILE>
 $ ultra help check
 DisplayHelp
 List every fault of a text, each with its line, column, word and what would be right

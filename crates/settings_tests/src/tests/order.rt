@@ -2,23 +2,23 @@
 
 /// Ways to ask for `order` and `story`.
 pub const TAKEN: &str = r#"$ ultra order a.trace a.elf
-Order(Lines { replay: Replay { trace: "a.trace", file: "a.elf", words: 1024 }, processor: None, word: None, from: None, to: None })
+Order(Lines { replay: Replay { trace: "a.trace", file: "a.elf", words: 1024 }, processor: None, word: None, from: None, to: None, json: false })
 $ ultra order --processor 0 a.trace a.elf
-Order(Lines { replay: Replay { trace: "a.trace", file: "a.elf", words: 1024 }, processor: Some(0), word: None, from: None, to: None })
+Order(Lines { replay: Replay { trace: "a.trace", file: "a.elf", words: 1024 }, processor: Some(0), word: None, from: None, to: None, json: false })
 $ ultra order a.trace --processor=63 a.elf
-Order(Lines { replay: Replay { trace: "a.trace", file: "a.elf", words: 1024 }, processor: Some(63), word: None, from: None, to: None })
+Order(Lines { replay: Replay { trace: "a.trace", file: "a.elf", words: 1024 }, processor: Some(63), word: None, from: None, to: None, json: false })
 $ ultra order a.trace a.elf --word 0
-Order(Lines { replay: Replay { trace: "a.trace", file: "a.elf", words: 1024 }, processor: None, word: Some(0), from: None, to: None })
+Order(Lines { replay: Replay { trace: "a.trace", file: "a.elf", words: 1024 }, processor: None, word: Some(0), from: None, to: None, json: false })
 $ ultra order a.trace a.elf --word=262143 --words 7 --processor +5
-Order(Lines { replay: Replay { trace: "a.trace", file: "a.elf", words: 7 }, processor: Some(5), word: Some(262143), from: None, to: None })
-$ ultra order --processor=-0 a.trace a.elf
-Order(Lines { replay: Replay { trace: "a.trace", file: "a.elf", words: 1024 }, processor: Some(0), word: None, from: None, to: None })
+Order(Lines { replay: Replay { trace: "a.trace", file: "a.elf", words: 7 }, processor: Some(5), word: Some(262143), from: None, to: None, json: false })
+$ ultra order --processor=-0 a.trace a.elf --json
+Order(Lines { replay: Replay { trace: "a.trace", file: "a.elf", words: 1024 }, processor: Some(0), word: None, from: None, to: None, json: true })
 $ ultra order a.trace a.elf --from 3 --to=4294967295
-Order(Lines { replay: Replay { trace: "a.trace", file: "a.elf", words: 1024 }, processor: None, word: None, from: Some(3), to: Some(4294967295) })
+Order(Lines { replay: Replay { trace: "a.trace", file: "a.elf", words: 1024 }, processor: None, word: None, from: Some(3), to: Some(4294967295), json: false })
 $ ultra story a.trace a.elf
-Story(Lines { replay: Replay { trace: "a.trace", file: "a.elf", words: 1024 }, processor: None, word: None, from: None, to: None })
-$ ultra story --processor 1 --word 2 --from 0 a.trace a.elf --to 5 --words 7
-Story(Lines { replay: Replay { trace: "a.trace", file: "a.elf", words: 7 }, processor: Some(1), word: Some(2), from: Some(0), to: Some(5) })
+Story(Lines { replay: Replay { trace: "a.trace", file: "a.elf", words: 1024 }, processor: None, word: None, from: None, to: None, json: false })
+$ ultra story --processor 1 --word 2 --from 0 a.trace a.elf --to 5 --words 7 --json
+Story(Lines { replay: Replay { trace: "a.trace", file: "a.elf", words: 7 }, processor: Some(1), word: Some(2), from: Some(0), to: Some(5), json: true })
 "#;
 
 /// Parts of the help.

@@ -245,7 +245,7 @@ fn without_value(rt: &(impl Abort + AllocGlobal), most: usize) -> bool {
 }
 
 /// Command lines with an unknown argument.
-static UNKNOWN: [(&str, &str); 15] = [
+static UNKNOWN: [(&str, &str); 16] = [
     ("words --fast a.hex", "--fast"),
     ("run --k -1 a.elf", "-1"),
     ("run --fast a.elf", "--fast"),
@@ -261,6 +261,7 @@ static UNKNOWN: [(&str, &str); 15] = [
     ("explore a.elf --budget 1", "--budget"),
     ("hunt a.elf --sweep", "--sweep"),
     ("check --words 7 a.s", "--words"),
+    ("picture a.trace a.elf --json", "--json"),
 ];
 
 fn unknown(rt: &(impl Abort + AllocGlobal), most: usize) -> bool {
@@ -284,7 +285,7 @@ static ONE_TOO_MANY: [(&str, &str, &str); 5] = [
         "b.elf",
         "replay [OPTIONS] <TRACE> <FILE>",
     ),
-    ("check a.s a.elf", "a.elf", "check <FILE>"),
+    ("check a.s a.elf", "a.elf", "check [OPTIONS] <FILE>"),
 ];
 
 fn one_too_many(rt: &(impl Abort + AllocGlobal), most: usize) -> bool {

@@ -1,22 +1,22 @@
-//! `replay TRACE FILE` and its option, and `stats`, which takes the same.
+//! `replay TRACE FILE` and its options, and `stats`, which takes the same.
 
 /// Ways to ask for `replay` and `stats`.
 pub const TAKEN: &str = r#"$ ultra replay a.trace a.elf
-Trace(Replay, Replay { trace: "a.trace", file: "a.elf", words: 1024 })
+Trace(Replay, Listing { replay: Replay { trace: "a.trace", file: "a.elf", words: 1024 }, json: false })
 $ ultra replay --words 1 a.trace a.elf
-Trace(Replay, Replay { trace: "a.trace", file: "a.elf", words: 1 })
+Trace(Replay, Listing { replay: Replay { trace: "a.trace", file: "a.elf", words: 1 }, json: false })
 $ ultra replay a.trace --words=262144 a.elf
-Trace(Replay, Replay { trace: "a.trace", file: "a.elf", words: 262144 })
+Trace(Replay, Listing { replay: Replay { trace: "a.trace", file: "a.elf", words: 262144 }, json: false })
 $ ultra replay a.trace a.elf --words 64
-Trace(Replay, Replay { trace: "a.trace", file: "a.elf", words: 64 })
+Trace(Replay, Listing { replay: Replay { trace: "a.trace", file: "a.elf", words: 64 }, json: false })
 $ ultra replay a.elf a.trace
-Trace(Replay, Replay { trace: "a.elf", file: "a.trace", words: 1024 })
+Trace(Replay, Listing { replay: Replay { trace: "a.elf", file: "a.trace", words: 1024 }, json: false })
 $ ultra replay -- --words 1
-Trace(Replay, Replay { trace: "--words", file: "1", words: 1024 })
+Trace(Replay, Listing { replay: Replay { trace: "--words", file: "1", words: 1024 }, json: false })
 $ ultra stats a.trace a.elf
-Trace(Stats, Replay { trace: "a.trace", file: "a.elf", words: 1024 })
-$ ultra stats --words=8 a.trace a.elf
-Trace(Stats, Replay { trace: "a.trace", file: "a.elf", words: 8 })
+Trace(Stats, Listing { replay: Replay { trace: "a.trace", file: "a.elf", words: 1024 }, json: false })
+$ ultra stats --words=8 a.trace --json a.elf
+Trace(Stats, Listing { replay: Replay { trace: "a.trace", file: "a.elf", words: 8 }, json: true })
 "#;
 
 /// Parts of the help.

@@ -1,0 +1,6 @@
+pub mod Cutting
+pub mod Digits
+pub mod Writing
+pub mod Feeding
+pub mod Reading
+pub mod ObjectTokens

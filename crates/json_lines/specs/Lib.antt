@@ -1,0 +1,5 @@
+pub mod Cuts
+pub mod Fields
+pub mod Found
+pub mod Shapes
+pub mod Lines

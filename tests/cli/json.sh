@@ -1,0 +1,54 @@
+# shellcheck shell=bash
+# What commands print with `--json`.
+
+# A trace of two processors on which a debugger wrote to a register, to local memory and to a shared word.
+poked_trace() {
+    printf 'ULTR\1\1\4\4\5\0\0\0'
+    printf '\5\0\5\0\0\0\0\0\7\0\0\0'
+    printf '\6\1\0\0\1\0\2\0\52\0\0\0'
+    printf '\7\0\0\0\1\0\0\200\1\0\0\0'
+    printf '\1\0\0\0\0\0\0\0\0\0\0\0'
+    printf '\1\1\0\0\0\0\0\0\0\0\0\0'
+}
+
+# prints_both COMMAND WORD ..: prints with --json and without, to the next two files. Standard error and the status are the
+# same.
+prints_both() {
+    local plain=0 json=0
+    both=$((both + 1))
+    ./ultra "$@" >"$room/$both.plain" 2>"$room/err" || plain=$?
+    ./ultra "$@" --json >"$room/$both.json" 2>"$room/json.err" || json=$?
+    diff "$room/err" "$room/json.err" && [ "$plain" -eq "$json" ] || { echo "$*: status $plain, with --json $json" && return 1; }
+    pairs+=("$room/$both.plain" "$room/$both.json")
+}
+
+# Each line of the commands over the examples is an object that docs/ultra.schema.json allows, and that has all of the
+# line. The kinds of objects are all those of the schema but `text`.
+prints_objects_for_lines() {
+    local both=0 pairs=() name command
+    for name in lost_adds barrier_once barrier_stuck signal; do
+        ./ultra asm "examples/explore/$name.s" "$room/$name.elf" && prints_both explore --k 1 "$room/$name.elf" || return 1
+    done
+    prints_both explore --every --states 40 "$room/barrier_once.elf" || return 1
+    for name in example hot_spot prefix_sums ebreak; do
+        prints_both run --sweep --k 1 --trace "$room/$name.trace" "$room/$name.elf" || return 1
+    done
+    poked_trace >"$room/three.trace"
+    for name in example prefix_sums ebreak three; do
+        for command in replay order story stats; do
+            prints_both "$command" "$room/$name.trace" "$room/$name.elf" || return 1
+        done
+    done
+    prints_both hunt --k 1 --runs 40 --budget 20000 "$room/barrier_phase_late.elf" && prints_both hunt --k 1 --runs 3 "$room/ebreak.elf" &&
+        prints_both check examples/broken/several.s && prints_both check examples/broken/register.s && prints_both check "$room/three.s" || return 1
+    tests/tools/json_lines.py "${pairs[@]}" >"$room/kinds" || { cat "$room/kinds" && return 1; }
+    diff <(sed -n 's|.*"#/$defs/lines/\(.*\)".*|\1|p' docs/ultra.schema.json | grep -vx text | sort) <(cut -d ' ' -f 1 "$room/kinds")
+}
+check 'with --json each line is an object of the schema that has all of the line' prints_objects_for_lines
+
+# Without room for the objects, the first fault is that of standard output.
+fails_to_print_objects() {
+    ends_with_code 3 link "standard output: $no_space_left" bash -c './ultra order --json examples/algorithms/wrong/barrier_phase_late.trace "$1" >/dev/full' _ \
+        "$room/barrier_phase_late.elf"
+}
+check 'with --json a full device is reported as without: link, status 3' fails_to_print_objects
