@@ -60,6 +60,7 @@ complete -c ultra -n __ultra_wants_command -s V -l version -d 'Print version'
 complete -c ultra -n '__ultra_has_command words' -l help -d 'Print help'
 complete -c ultra -n '__ultra_wants_more words 1' -F
 
+complete -c ultra -n '__ultra_has_command check' -l json -d 'Print each line as a JSON object'
 complete -c ultra -n '__ultra_has_command check' -l help -d 'Print help'
 complete -c ultra -n '__ultra_wants_more check 1' -F
 
@@ -76,6 +77,7 @@ complete -c ultra -n '__ultra_has_command run' -l sweep -d 'Run by the sweep, on
 complete -c ultra -n '__ultra_has_command run' -l no-log -d 'With --sweep, keep no log of the steps, so that --budget may be up to 4000000000 of them; not with --trace'
 complete -c ultra -n '__ultra_has_command run' -l unfinished -d 'Print the report, and write the trace, also if the budget ends the run'
 complete -c ultra -n '__ultra_has_command run' -l quiet -d 'Show no progress line on a terminal'
+complete -c ultra -n '__ultra_has_command run' -l json -d 'Print each line as a JSON object'
 complete -c ultra -n '__ultra_has_command run' -l k -x -a '0 1 2 3 4 5 6' -d 'Stages of the network, 0 to 6; the machine has 2^k processors and 2^k memory modules [default: 2]'
 complete -c ultra -n '__ultra_has_command run' -l c -x -a '2 3 4 5 6 7 8 9 10 11 12 13 14 15 16' -d 'Messages that a queue of a switch holds, 2 to 16 [default: 4]'
 complete -c ultra -n '__ultra_has_command run' -l b -x -a '0 1 2 3 4 5 6 7 8 9 10 11 12 13 14 15 16' -d 'Records of combined requests that an output of a switch holds, 0 to 16; with 0 nothing is combined [default: 4]'
@@ -91,6 +93,7 @@ complete -c ultra -n '__ultra_has_command hunt' -l observe -x -d 'Words by which
 complete -c ultra -n '__ultra_has_command hunt' -l overwrite -d 'Overwrite traces that exist; without it the hunt is refused if one does'
 complete -c ultra -n '__ultra_has_command hunt' -l expect-one -d 'Expect all runs to come to one result; if they do not, the exit status says so'
 complete -c ultra -n '__ultra_has_command hunt' -l quiet -d 'Show no progress line on a terminal'
+complete -c ultra -n '__ultra_has_command hunt' -l json -d 'Print each line as a JSON object'
 complete -c ultra -n '__ultra_has_command hunt' -l k -x -a '0 1 2 3 4 5 6' -d 'Stages of the network, 0 to 6; the machine has 2^k processors and 2^k memory modules [default: 2]'
 complete -c ultra -n '__ultra_has_command hunt' -l c -x -a '2 3 4 5 6 7 8 9 10 11 12 13 14 15 16' -d 'Messages that a queue of a switch holds, 2 to 16 [default: 4]'
 complete -c ultra -n '__ultra_has_command hunt' -l b -x -a '0 1 2 3 4 5 6 7 8 9 10 11 12 13 14 15 16' -d 'Records of combined requests that an output of a switch holds, 0 to 16; with 0 nothing is combined [default: 4]'
@@ -107,6 +110,7 @@ complete -c ultra -n '__ultra_has_command explore' -l observe -x -d 'Words by wh
 complete -c ultra -n '__ultra_has_command explore' -l each -d 'Print every result by itself; alike processors are not exchanged'
 complete -c ultra -n '__ultra_has_command explore' -l every -d 'Explore every k from 0 to 6, and print a line for each; not with --witness'
 complete -c ultra -n '__ultra_has_command explore' -l quiet -d 'Show no progress line on a terminal'
+complete -c ultra -n '__ultra_has_command explore' -l json -d 'Print each line as a JSON object'
 complete -c ultra -n '__ultra_has_command explore' -l k -x -a '0 1 2 3 4 5 6' -d 'Stages of the network, 0 to 6; the machine has 2^k processors and 2^k memory modules [default: 2]'
 complete -c ultra -n '__ultra_has_command explore' -l c -x -a '2 3 4 5 6 7 8 9 10 11 12 13 14 15 16' -d 'Messages that a queue of a switch holds, 2 to 16 [default: 4]'
 complete -c ultra -n '__ultra_has_command explore' -l b -x -a '0 1 2 3 4 5 6 7 8 9 10 11 12 13 14 15 16' -d 'Records of combined requests that an output of a switch holds, 0 to 16; with 0 nothing is combined [default: 4]'
@@ -118,6 +122,7 @@ complete -c ultra -n '__ultra_has_command explore' -l help -d 'Print help'
 complete -c ultra -n '__ultra_wants_more explore 1 --trace --observe --k --c --b --r --words --states --witness' -F
 
 complete -c ultra -n '__ultra_has_command replay' -l words -x -d 'Shared words of four bytes that the machine has, 1 to 262144 [default: 1024]'
+complete -c ultra -n '__ultra_has_command replay' -l json -d 'Print each line as a JSON object'
 complete -c ultra -n '__ultra_has_command replay' -l help -d 'Print help'
 complete -c ultra -n '__ultra_wants_more replay 2 --words' -F
 
@@ -126,6 +131,7 @@ complete -c ultra -n '__ultra_has_command order' -l processor -x -a '0 1 2 3 4 5
 complete -c ultra -n '__ultra_has_command order' -l word -x -d 'Print the lines about this shared word alone, 0 to 262143'
 complete -c ultra -n '__ultra_has_command order' -l from -x -d 'Print no line before the line of this number, 0 to 4294967295'
 complete -c ultra -n '__ultra_has_command order' -l to -x -d 'Print no line after the line of this number, 0 to 4294967295'
+complete -c ultra -n '__ultra_has_command order' -l json -d 'Print each line as a JSON object'
 complete -c ultra -n '__ultra_has_command order' -l help -d 'Print help'
 complete -c ultra -n '__ultra_wants_more order 2 --words --processor --word --from --to' -F
 
@@ -134,10 +140,12 @@ complete -c ultra -n '__ultra_has_command story' -l processor -x -a '0 1 2 3 4 5
 complete -c ultra -n '__ultra_has_command story' -l word -x -d 'Print the lines about this shared word alone, 0 to 262143'
 complete -c ultra -n '__ultra_has_command story' -l from -x -d 'Print no line before the line of this number, 0 to 4294967295'
 complete -c ultra -n '__ultra_has_command story' -l to -x -d 'Print no line after the line of this number, 0 to 4294967295'
+complete -c ultra -n '__ultra_has_command story' -l json -d 'Print each line as a JSON object'
 complete -c ultra -n '__ultra_has_command story' -l help -d 'Print help'
 complete -c ultra -n '__ultra_wants_more story 2 --words --processor --word --from --to' -F
 
 complete -c ultra -n '__ultra_has_command stats' -l words -x -d 'Shared words of four bytes that the machine has, 1 to 262144 [default: 1024]'
+complete -c ultra -n '__ultra_has_command stats' -l json -d 'Print each line as a JSON object'
 complete -c ultra -n '__ultra_has_command stats' -l help -d 'Print help'
 complete -c ultra -n '__ultra_wants_more stats 2 --words' -F
 
