@@ -136,9 +136,9 @@ with_sizes a = with_number shared_words (with_number combinations
 unfoldable pub run_command : App
 run_command =
     with_number start (with_number budget (with_sizes
-    (with_rule (with_rule (with_rule (with_rule (with_rule (with_file (new_app (codes "run"))) (option (codes "trace")))
-    (flag (codes "sweep"))) (flag (codes "no-log"))) (flag (codes "unfinished"))) (flag (codes "quiet")))
-    (flag (codes "json")))))
+    (with_rule (with_rule (with_rule (with_rule (with_rule (with_rule (with_file (new_app (codes "run")))
+    (option (codes "trace"))) (flag (codes "sweep"))) (flag (codes "no-log"))) (flag (codes "unfinished")))
+    (flag (codes "quiet"))) (flag (codes "json")))))
 
 -- a trace, the image of its run, and the number of shared words
 abbrev pub replaying : Text → App
@@ -177,14 +177,14 @@ picture_command = with_rule (replaying (codes "picture")) (number step)
 unfoldable pub explore_command : App
 explore_command =
     with_rule (with_number states (with_sizes
-    (with_rule (with_rule (with_rule (with_rule (with_rule (with_file (new_app (codes "explore")))
+    (with_rule (with_rule (with_rule (with_rule (with_rule (with_rule (with_file (new_app (codes "explore")))
     (option (codes "trace"))) (option (codes "observe"))) (flag (codes "each"))) (flag (codes "every")))
     (flag (codes "quiet"))) (flag (codes "json"))))) (number witness)
 
 unfoldable pub hunt_command : App
 hunt_command =
     with_number start (with_number runs (with_number steps (with_sizes
-    (with_rule (with_rule (with_rule (with_rule (with_rule (with_file (new_app (codes "hunt")))
+    (with_rule (with_rule (with_rule (with_rule (with_rule (with_rule (with_file (new_app (codes "hunt")))
     (option (codes "trace"))) (option (codes "observe"))) (flag (codes "overwrite"))) (flag (codes "expect-one")))
     (flag (codes "quiet"))) (flag (codes "json"))))))
 
