@@ -18,8 +18,8 @@ pub record AskedRuns : Type 1 where
   pub both : Bool
 
 -- Why a command ends with this fault: a run that is over is not reported, for this fault. If an unfinished run is
--- reported, too, the fault of the budget comes with its report, which is printed; another fault says why a run of one of
--- the two kinds is not reported.
+-- reported, too, the fault of the budget comes with its report, which is printed; another fault says why a run of one
+-- of the two kinds is not reported.
 abbrev pub EndsInFault : {T : Type 0} → (both : Bool) → (over unfinished : AskedRun) → TraceOutput T → Output → Fault →
     Type 0
 EndsInFault false over unfinished trace out f = RunFails over trace out f
@@ -30,8 +30,8 @@ EndsInFault true over unfinished trace out other = RunFails over trace out other
 abbrev pub RunsEndIn : {T : Type 0} → AskedRuns → TraceOutput T → Output → Fault → Type 0
 RunsEndIn runs trace out f = EndsInFault runs.both runs.over runs.unfinished trace out f
 
--- Why a command that runs an image ends with a fault: the fault has a cause, and it is that of a link exactly if the link
--- failed.
+-- Why a command that runs an image ends with a fault: the fault has a cause, and it is that of a link exactly if the
+-- link failed.
 pub record RunCommandEnds {T : Type 0} (runs : AskedRuns) (trace : TraceOutput T) (out : Output) (f : Fault) : Type 0
   where
     pub cause : RunsEndIn runs trace out f

@@ -35,8 +35,8 @@ use trace_commands::print_run;
 /// of the run, of the trace, of the report. A run has a fault if it is out of memory, if its log is full, or if a
 /// thread uses up its budget or fails to start.
 ///
-/// With `unfinished`, a run that a thread's budget has ended is drained and reported like one in which all have stopped,
-/// and then the fault of the budget is reported, if there was no other.
+/// With `unfinished`, a run that a thread's budget has ended is drained and reported, too, and then the fault of the
+/// budget is reported, if there was no other.
 pub fn threaded_run_command<
     F: LinkRead,
     T: LinkWrite,
