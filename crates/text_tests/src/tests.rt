@@ -8,6 +8,7 @@ mod door;
 mod fault_lists;
 mod fault_texts;
 mod lines;
+mod objects;
 mod printing;
 
 use assembler::{AsmError, assemble};
