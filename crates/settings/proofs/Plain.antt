@@ -244,10 +244,10 @@ unfolding name_of row trace_rows
 trace_are (Alone c) one file words named (asked.Trace d r) said =
     subst (λ name. HasTrace name r words) (sym said.0) (replay_is one file r words named said.1)
 trace_are (Alone c) one file words named other said = no_trace c (name_of other) refl (sym said.0)
-trace_are OfOrder one file words named (asked.Order o) said = (replay_is one file o.replay words named said.1.0, said.1.1, said.1.2, said.1.3, said.1.4)
+trace_are OfOrder one file words named (asked.Order o) said = (replay_is one file o.replay words named said.1.0, (said.1.1, said.1.2, said.1.3, said.1.4))
 trace_are OfOrder one file words named (asked.Trace d r) said = no_trace d (codes "order") refl said.0
 trace_are OfOrder one file words named other said = apart (name_of other) (codes "order") refl said.0
-trace_are OfStory one file words named (asked.Story o) said = (replay_is one file o.replay words named said.1.0, said.1.1, said.1.2, said.1.3, said.1.4)
+trace_are OfStory one file words named (asked.Story o) said = (replay_is one file o.replay words named said.1.0, (said.1.1, said.1.2, said.1.3, said.1.4))
 trace_are OfStory one file words named (asked.Trace d r) said = no_trace d (codes "story") refl said.0
 trace_are OfStory one file words named other said = apart (name_of other) (codes "story") refl said.0
 trace_are OfPicture one file words named (asked.Picture p) said = (replay_is one file p.replay words named said.1.0, said.1.1)
