@@ -60,7 +60,7 @@ module _ (keys : List (String Global)) (key : String Global) (is : String Global
   -- If the key is new, its place is noted.
   pub part_added : (new : List ℕ) (place : ℕ) (is_new : Bool) → is_new ≡ not (list_any is keys) → is_new ≡ true → new ≡ old ++ place ∷ [] →
       IsPartAdded (texts_of keys) (string_bytes key) old place new
-  part_added new place is_new e yes next = next ∙ by (list_any is keys) (found_in keys) (sym yes ∙ e)
+  part_added new place is_new e added next = next ∙ by (list_any is keys) (found_in keys) (sym added ∙ e)
     where
       by : (b : Bool) → b ≡ list_any (bytes_eq (string_bytes key)) (texts_of keys) → true ≡ not b →
           old ++ place ∷ [] ≡ cond (list_any (bytes_eq (string_bytes key)) (texts_of keys)) old (old ++ place ∷ [])
@@ -70,7 +70,7 @@ module _ (keys : List (String Global)) (key : String Global) (is : String Global
   -- If the key is not new, no place is noted.
   pub part_kept : (place : ℕ) (is_new : Bool) → is_new ≡ not (list_any is keys) → is_new ≡ false →
       IsPartAdded (texts_of keys) (string_bytes key) old place old
-  part_kept place is_new e no = by (list_any is keys) (found_in keys) (sym no ∙ e)
+  part_kept place is_new e old_one = by (list_any is keys) (found_in keys) (sym old_one ∙ e)
     where
       by : (b : Bool) → b ≡ list_any (bytes_eq (string_bytes key)) (texts_of keys) → false ≡ not b →
           old ≡ cond (list_any (bytes_eq (string_bytes key)) (texts_of keys)) old (old ++ place ∷ [])
