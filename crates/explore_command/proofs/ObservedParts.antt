@@ -1,6 +1,6 @@
 -- The different observed parts of results, result by result.
-use Rattle.std.proofs.Common.{◌≡◌, ◌⊎◌, inl, inr, ℕ, ◌+◌, ◌<◌, ◌≤◌, zero, suc, Bool, true, false, true≢false, not, cond, ◌||◌, List, [], ◌∷◌, ◌++◌, Some, String, Global, string_bytes}
-use Rattle.std.proofs.Common.{length, take, map, refl, sym, ap, subst, ◌∙◌, arith}
+use Rattle.std.proofs.Common.{◌≡◌, ◌⊎◌, inl, inr, ℕ, ◌+◌, ◌<◌, ◌≤◌, zero, suc, Bool, true, false, true≢false, not, cond, ◌||◌, List}
+use Rattle.std.proofs.Common.{[], ◌∷◌, ◌++◌, Some, String, Global, string_bytes, length, take, map, refl, sym, ap, subst, ◌∙◌, arith}
 use Rattle.std.specs.Prelude.{bytes_eq, fold, slice_get, slice_index, slice_index_or}
 use Rattle.std.specs.List.{list_any}
 use Rattle.std.proofs.lemmas.List.{length-append, map-append, take_more}
@@ -119,8 +119,7 @@ firsts_push marks results texts places place r there f = record {
         let one = length-append places (place ∷ []) in
         let same : part ≡ length places = omega (arith, one, within, past) in
         let all = f.all in
-        let also : part ≡ length texts = omega (arith, same, all) in
-        (
+        let also : part ≡ length texts = omega (arith, same, all) in (
           r,
           ap (slice_get results) (ap (slice_index (places ++ place ∷ [])) same ∙ index_last places place) ∙ there,
           ap (slice_get (texts ++ observed_of marks r ∷ [])) also ∙ last_there texts (observed_of marks r),
@@ -144,8 +143,7 @@ pub part_there : (marks : List Bool) (results : List FinalResult) (texts : List 
     number ≡ suc part → part < length places → first ≡ slice_index places part + 1 → texts ≡ observed_parts marks results →
     AreFirsts marks results texts places → HasPart marks results number first
 part_there marks results texts places part number first is within next are f =
-    subst (λ n. HasPart marks results n first) (sym is)
-    (
+    subst (λ n. HasPart marks results n first) (sym is) (
       slice_index places part,
       (f.each part within).0,
       next ∙ (omega arith),

@@ -57,7 +57,9 @@ pub(crate) fn explore_observed<T: LinkWrite, G: SearchObserver>(
     let classes = found.classes.as_slice();
     let parts = parts_of(alloc, results, words)?;
     let text = parts_text(alloc, &parts, classes, found.states, found.termination)?;
-    save_wanted(alloc, machine, config, asked, &found, &parts, trace, observer)?;
+    save_wanted(
+        alloc, machine, config, asked, &found, &parts, trace, observer,
+    )?;
     Ok((text, exit_status(results, found.termination)))
 }
 

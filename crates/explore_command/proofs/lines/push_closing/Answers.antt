@@ -15,6 +15,6 @@ returns c =
     let third = ap (λ (x : List ℕ). x ++ line_feed) second ∙ append_assoc before (results ++ comma ++ states) line_feed in
     c.in_ok-push_str.ensures.bytes
     ∙ ap (λ (x : List ℕ). x ++ line_feed)
-        (c.in_ok-push_schedules.ensures
-        ∙ ap (λ (x : List ℕ). x ++ schedules_text c.args.termination)
-            (c.in_ok-push_counts.ensures ∙ (third ∙ ap (λ (x : List ℕ). x ++ counts) c.in_ok-push_classes.ensures)))
+    (c.in_ok-push_schedules.ensures
+    ∙ ap (λ (x : List ℕ). x ++ schedules_text c.args.termination)
+    (c.in_ok-push_counts.ensures ∙ (third ∙ ap (λ (x : List ℕ). x ++ counts) c.in_ok-push_classes.ensures)))
