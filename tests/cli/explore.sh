@@ -385,7 +385,7 @@ check 'the queue on two processors has two results by its counts alone, and each
 refuses_what_is_no_list() {
     local list command
     for command in explore hunt; do
-        for list in '' , 0, 0,,1 x 3-1 0-16 16 -- 1- 1-2-3 '1 2' 4294967296; do
+        for list in '' ',' '0,' '0,,1' x 3-1 0-16 16 -- 1- 1-2-3 '1 2' 4294967296; do
             ends 2 "error: invalid value '$list' for '--observe <LIST>': not numbers and ranges in 0..=15, the machine's shared words (--words)" \
                 ./ultra "$command" --words 16 "--observe=$list" "$room/none.elf" || { echo "$list" && return 1; }
         done

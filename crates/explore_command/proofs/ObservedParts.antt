@@ -1,6 +1,6 @@
 -- The different observed parts of results, result by result.
-use Rattle.std.proofs.Common.{◌≡◌, ◌⊎◌, inl, inr, ℕ, ◌+◌, ◌<◌, ◌≤◌, zero, suc, Bool, true, false, true≢false, not, cond, ◌||◌, List, [], ◌∷◌, ◌++◌, Some, String, Global, string_bytes}
-use Rattle.std.proofs.Common.{length, take, map, refl, sym, ap, subst, ◌∙◌, arith}
+use Rattle.std.proofs.Common.{◌≡◌, ◌⊎◌, inl, inr, ℕ, ◌+◌, ◌<◌, ◌≤◌, zero, suc, Bool, true, false, true≢false, not, cond, ◌||◌, List}
+use Rattle.std.proofs.Common.{[], ◌∷◌, ◌++◌, Some, String, Global, string_bytes, length, take, map, refl, sym, ap, subst, ◌∙◌, arith}
 use Rattle.std.specs.Prelude.{bytes_eq, fold, slice_get, slice_index, slice_index_or}
 use Rattle.std.specs.List.{list_any}
 use Rattle.std.proofs.lemmas.List.{length-append, map-append, take_more}
@@ -60,7 +60,7 @@ module _ (keys : List (String Global)) (key : String Global) (is : String Global
   -- If the key is new, its place is noted.
   pub part_added : (new : List ℕ) (place : ℕ) (is_new : Bool) → is_new ≡ not (list_any is keys) → is_new ≡ true → new ≡ old ++ place ∷ [] →
       IsPartAdded (texts_of keys) (string_bytes key) old place new
-  part_added new place is_new e yes next = next ∙ by (list_any is keys) (found_in keys) (sym yes ∙ e)
+  part_added new place is_new e added next = next ∙ by (list_any is keys) (found_in keys) (sym added ∙ e)
     where
       by : (b : Bool) → b ≡ list_any (bytes_eq (string_bytes key)) (texts_of keys) → true ≡ not b →
           old ++ place ∷ [] ≡ cond (list_any (bytes_eq (string_bytes key)) (texts_of keys)) old (old ++ place ∷ [])
@@ -70,7 +70,7 @@ module _ (keys : List (String Global)) (key : String Global) (is : String Global
   -- If the key is not new, no place is noted.
   pub part_kept : (place : ℕ) (is_new : Bool) → is_new ≡ not (list_any is keys) → is_new ≡ false →
       IsPartAdded (texts_of keys) (string_bytes key) old place old
-  part_kept place is_new e no = by (list_any is keys) (found_in keys) (sym no ∙ e)
+  part_kept place is_new e old_one = by (list_any is keys) (found_in keys) (sym old_one ∙ e)
     where
       by : (b : Bool) → b ≡ list_any (bytes_eq (string_bytes key)) (texts_of keys) → false ≡ not b →
           old ≡ cond (list_any (bytes_eq (string_bytes key)) (texts_of keys)) old (old ++ place ∷ [])
@@ -119,8 +119,7 @@ firsts_push marks results texts places place r there f = record {
         let one = length-append places (place ∷ []) in
         let same : part ≡ length places = omega (arith, one, within, past) in
         let all = f.all in
-        let also : part ≡ length texts = omega (arith, same, all) in
-        (
+        let also : part ≡ length texts = omega (arith, same, all) in (
           r,
           ap (slice_get results) (ap (slice_index (places ++ place ∷ [])) same ∙ index_last places place) ∙ there,
           ap (slice_get (texts ++ observed_of marks r ∷ [])) also ∙ last_there texts (observed_of marks r),
@@ -144,8 +143,7 @@ pub part_there : (marks : List Bool) (results : List FinalResult) (texts : List 
     number ≡ suc part → part < length places → first ≡ slice_index places part + 1 → texts ≡ observed_parts marks results →
     AreFirsts marks results texts places → HasPart marks results number first
 part_there marks results texts places part number first is within next are f =
-    subst (λ n. HasPart marks results n first) (sym is)
-    (
+    subst (λ n. HasPart marks results n first) (sym is) (
       slice_index places part,
       (f.each part within).0,
       next ∙ (omega arith),

@@ -1,5 +1,5 @@
 -- Why there are no steps to what is wanted, if words are chosen.
-use Rattle.std.proofs.Common.{◌≡◌, ℕ, zero, suc, Bool, List, Some, length, sym, subst}
+use Rattle.std.proofs.Common.{◌≡◌, ℕ, zero, suc, Bool, List, Option, Some, None, length, refl, sym, subst}
 use Rattle.std.proofs.lemmas.Option.{slice_get_within}
 use Rattle.command_io.specs.declared.fault.Fault.{Fault}
 use Rattle.command_io.specs.declared.fault.Fault.TheVariants as fault
@@ -8,11 +8,13 @@ use Rattle.machine_steps.specs.Openings.{flat_state}
 use Rattle.machine_steps.specs.Runs.{IsOpening}
 use Rattle.exploration.specs.local_reduction.Results.{FinalResult}
 use Rattle.exploration.specs.state_graph.declared.termination.Termination.{Termination}
-use Rattle.trace_commands.specs.TraceReports.{TraceOutput}
+use Rattle.steps.specs.declared.step.Step.{Step}
+use Rattle.trace_file.specs.Traces.{trace_bytes, trace_of}
+use Rattle.trace_commands.specs.TraceReports.{HasSaved, TraceOutput, trace_output}
 use Rattle.explore_command.specs.declared.refused.Refused.{Refused}
 use Rattle.explore_command.specs.declared.refused.Refused.TheVariants as refused
 use Rattle.explore_command.specs.Causes.{IsNotFound, IsNotLedTo, IsNotSearched}
-use Rattle.explore_command.specs.Explorations.{HasPart, Problem}
+use Rattle.explore_command.specs.Explorations.{HasPart, IsWanted, IsWitnessed, Problem}
 use Rattle.explore_command.specs.Refusals.{HasWitness, IsNoWitness}
 
 -- If a part has the wanted number, the result that first has it has its number.
@@ -83,3 +85,11 @@ module _ (marks : List Bool) (p : Problem) where
   not_led_to trace same (refused.Fault fault.Alone) why = (same, why)
   not_led_to trace same (refused.Fault fault.Link) why = absurd why
   not_led_to trace same (refused.Fault fault.Memory) why = same
+
+-- If the steps lead to what is wanted, and their trace is saved if one is asked for, the witness is written.
+pub witnessed : {T : Type 0} (observed : Option (List Bool)) (p : Problem) (results : List FinalResult) (contents : T → Option (List ℕ)) (old new : Option T)
+    (steps : List Step) → IsWanted observed p results steps → HasSaved (trace_output contents old new) (trace_bytes (trace_of p.config steps)) →
+    IsWitnessed observed p results (trace_output contents old new)
+witnessed observed p results contents None None steps wanted saved = refl
+witnessed observed p results contents None (Some n) steps wanted saved = absurd saved
+witnessed observed p results contents (Some o) new steps wanted saved = (steps, wanted, saved)

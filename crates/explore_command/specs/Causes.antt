@@ -123,8 +123,8 @@ IsNotFound observed p trace (refused.Fault (fault.Trace e)) = (e ≡ of_trace.Li
 IsNotFound observed p trace (refused.Fault fault.Memory) = trace.new ≡ trace.old
 IsNotFound observed p trace (refused.Fault other) = ⊥
 
--- Why there are no steps to what is wanted, if words are chosen: the number names nothing; the size is out of limits; or
--- the machine opens, but the search for the way gives up, or the way is too long or leads elsewhere; or there is no
+-- Why there are no steps to what is wanted, if words are chosen: the number names nothing; the size is out of limits;
+-- or the machine opens, but the search for the way gives up, or the way is too long or leads elsewhere; or there is no
 -- memory.
 abbrev pub IsNotLedTo : (observed : Option (List Bool)) → Problem → Refused → Type 0
 IsNotLedTo observed p refused.Unknown = HasNoWitness observed p

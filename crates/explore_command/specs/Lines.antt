@@ -149,20 +149,19 @@ class_lines classes (suc class) = class_lines classes class ++ class_line classe
 
 -- ---- what is printed
 
--- the lines after the results: those of the processors that can be exchanged, `N results, M states`, and whether
--- schedules end
-abbrev pub closing_lines : (results : ℕ) → (classes : List ℕ) → (states : ℕ) → Termination → List ℕ
-closing_lines results classes states termination =
-    class_lines classes (length classes)
+-- these lines, and then those of the processors that can be exchanged, `N results, M states`, and whether schedules end
+abbrev pub with_closing : (lines : List ℕ) → (results : ℕ) → (classes : List ℕ) → (states : ℕ) → Termination → List ℕ
+with_closing lines results classes states termination =
+    lines ++ class_lines classes (length classes)
     ++ (counted results (codes "result") ++ codes ", " ++ counted states (codes "state") ++ line_feed)
     ++ schedules_text termination ++ line_feed
 
 -- the lines of all results, and those after them
 abbrev pub results_lines : List FinalResult → (classes : List ℕ) → (states : ℕ) → Termination → List ℕ
 results_lines results classes states termination =
-    first_lines results (length results) ++ closing_lines (length results) classes states termination
+    with_closing (first_lines results (length results)) (length results) classes states termination
 
 -- the lines of observed parts, in place of results
 abbrev pub parts_lines : (texts : List (List ℕ)) → (classes : List ℕ) → (states : ℕ) → Termination → List ℕ
 parts_lines texts classes states termination =
-    first_parts texts (length texts) ++ closing_lines (length texts) classes states termination
+    with_closing (first_parts texts (length texts)) (length texts) classes states termination

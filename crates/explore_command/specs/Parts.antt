@@ -16,7 +16,7 @@ pub record AreFirsts (marks : List Bool) (results : List FinalResult) (texts : L
   pub each : (part : ℕ) → part < length places → (r : FinalResult)
       × (slice_get results (slice_index places part) ≡ Some r) × (slice_get texts part ≡ Some (observed_of marks r))
 
--- These are the texts of the different observed parts of the results, and the places of the first results that have them.
+-- These are the texts of the different observed parts of the results, and the places of results that have them.
 pub record AreParts (marks : List Bool) (results : List FinalResult) (texts : List (List ℕ))
     (places : List ℕ) : Type 0 where
   pub are : texts ≡ observed_parts marks results

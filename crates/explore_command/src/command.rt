@@ -39,9 +39,9 @@ pub struct Asked<'a> {
 /// Reads an image, finds every final result that its program can have on a machine of this size, and prints them, up to
 /// exchanges of processors that are alike. A final result is what is left after steps of the machine after which no
 /// processor runs. If words are chosen, prints the different observed parts of results in place of the results; the
-/// trace then leads to the first result that has the wanted part. Also prints which processors can be exchanged, and whether schedules end. The observer sees the
-/// progress of the search. If a trace is asked for, that of a way to the result with the wanted number is written
-/// first.
+/// trace then leads to the first result that has the wanted part. Also prints which processors can be exchanged, and
+/// whether schedules end. The observer sees the progress of the search. If a trace is asked for, that of a way to the
+/// result with the wanted number is written first.
 ///
 /// Returns the exit status: 0 if the results are printed; 1 if they are printed, and in one of them a fault has stopped
 /// a processor, or there is a state from which no end can be reached; else that of the fault reported on standard

@@ -1,8 +1,8 @@
 //! `ultra explore`: from the bytes of an image to every final result of its program.
 //!
 //! The crate `exploration` finds the results. This crate makes the lines of all of them ([`results_text`]), and then
-//! prints them. [`explore_every_size`] prints a line for each size of a machine. If words are chosen, it makes the lines
-//! of the different observed parts of the results in place of the results.
+//! prints them. [`explore_every_size`] prints a line for each size of a machine. If words are chosen, it makes the
+//! lines of the different observed parts of the results in place of the results.
 //!
 //! If a trace is asked for, that of a witness is written before the lines. On a second machine, [`witness_of`] takes
 //! the path that the search has noted, and compares what is left with the result before it returns the steps. So the

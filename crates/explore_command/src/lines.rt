@@ -2,8 +2,8 @@
 
 ghost use Rattle.std.specs.Prelude.{◌≡◌, ◌+◌, ◌++◌, ◌<◌, ◌^◌, codes, length, IfOk, OnOk, string_bytes};
 ghost use Rattle.std.specs.Fmt.{decimal};
-ghost use Rattle.explore_command.specs.Lines.{closing_lines, counted, heading, processor_line, processor_lines};
-ghost use Rattle.explore_command.specs.Lines.{result_lines, results_lines, schedules_text, shared_lines};
+ghost use Rattle.explore_command.specs.Lines.{counted, heading, processor_line, processor_lines, result_lines};
+ghost use Rattle.explore_command.specs.Lines.{results_lines, schedules_text, shared_lines, with_closing};
 
 use crate::classes::push_classes;
 use command_io::{push_console, push_shared_word, push_status, push_word};
@@ -42,8 +42,8 @@ pub(crate) fn push_closing(
     states: usize,
     termination: Termination,
 ) -> Result<(), AllocError>
-    ensures { OnOk result (string_bytes text.new ≡ string_bytes text.old
-        ++ closing_lines results classes.now states termination) }
+    ensures { OnOk result (string_bytes text.new
+        ≡ with_closing (string_bytes text.old) results classes.now states termination) }
 {
     push_classes(text, classes)?;
     push_counts(text, results, states)?;

@@ -10,7 +10,8 @@ ghost use Rattle.machine_steps.specs.Openings.{flat_state};
 ghost use Rattle.machine_steps.specs.Runs.{IsOpening};
 ghost use Rattle.trace_commands.specs.TraceReports.{IsWorking, trace_output};
 ghost use Rattle.explore_command.specs.Causes.{IsNotFound, IsNotLedTo, IsNotSearched};
-ghost use Rattle.explore_command.specs.Explorations.{AreExplored, AreResultsOf, IsWanted, problem_of};
+ghost use Rattle.explore_command.specs.Explorations.{AreExplored, AreResultsOf, IsWanted, IsWitnessed};
+ghost use Rattle.explore_command.specs.Explorations.{problem_of};
 ghost use Rattle.explore_command.specs.Parts.{AreParts, texts_of};
 ghost use Rattle.trace_file.specs.Traces.{IsTrace, trace_of};
 
@@ -56,11 +57,43 @@ pub(crate) fn explore_observed<T: LinkWrite, G: SearchObserver>(
     let classes = found.classes.as_slice();
     let parts = parts_of(alloc, results, words)?;
     let text = parts_text(alloc, &parts, classes, found.states, found.termination)?;
-    if trace.is_some() {
-        let log = wanted_log(alloc, machine, config, asked, &found, &parts, observer)?;
-        save(trace, &config, log.steps())?;
-    }
+    save_wanted(
+        alloc, machine, config, asked, &found, &parts, trace, observer,
+    )?;
     Ok((text, exit_status(results, found.termination)))
+}
+
+/// Writes the trace of a way to the first result that has the wanted part, if a trace is asked for.
+fn save_wanted<T: LinkWrite, G: SearchObserver>(
+    alloc: Global,
+    machine: &Machine,
+    config: Config,
+    asked: Asked<'_>,
+    found: &Explored,
+    parts: &Parts,
+    trace: &mut Option<T>,
+    observer: &mut G,
+) -> Result<(), Refused>
+    requires opens { IsOpening config machine.now.image machine.now }
+    requires words { machine.now.image.shared_words ≡ config.shared_words }
+    requires works { IsWorking T.has_failed trace.old }
+    requires all { AreResultsOf machine.now found.now.classes.items found.now.results.items }
+    requires fact { IsTerminationOf (flat_state machine.now) found.now.termination }
+    ensures saved { OnOk result ((marks : List Bool) →
+        AreParts marks found.now.results.items (texts_of parts.now.texts.keys) parts.now.firsts.items
+        → IsWitnessed (Some marks) (problem_of config machine.now.image asked.entry) found.now.results.items
+        (trace_output T.contents trace.old trace.new)) }
+    ensures refused { IfErr result (λ refused. (marks : List Bool) →
+        AreParts marks found.now.results.items (texts_of parts.now.texts.keys) parts.now.firsts.items
+        → IsNotFound (Some marks) (problem_of config machine.now.image asked.entry)
+        (trace_output T.contents trace.old trace.new) refused) }
+{
+    if trace.is_none() {
+        return Ok(());
+    }
+    let log = wanted_log(alloc, machine, config, asked, found, parts, observer)?;
+    save(trace, &config, log.steps())?;
+    Ok(())
 }
 
 /// The log of a way to the first result that has the wanted part.

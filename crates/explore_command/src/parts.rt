@@ -88,11 +88,7 @@ fn add_part(parts: &mut Parts, text: String, place: usize) -> Result<(), AllocEr
 }
 
 /// The observed part of a result.
-fn part_of(
-    alloc: Global,
-    last: &FinalResult,
-    words: &ObservedWords,
-) -> Result<String, AllocError>
+fn part_of(alloc: Global, last: &FinalResult, words: &ObservedWords) -> Result<String, AllocError>
     ensures { IfOk result (λ text. string_bytes text ≡ observed_of words.now last.now) }
 {
     let mut text = String::new(alloc);

@@ -68,8 +68,9 @@ fn explore_machine<T: LinkWrite, G: SearchObserver>(
     requires opens { IsOpening config machine.now.image machine.now }
     requires words { machine.now.image.shared_words ≡ config.shared_words }
     requires works { IsWorking T.has_failed trace.old }
-    ensures lines { IfOk result (λ done. AreExplored (marks_of asked.entry) (problem_of config machine.now.image asked.entry)
-        (trace_output T.contents trace.old trace.new) (string_bytes done.0) done.1) }
+    ensures lines { IfOk result (λ done. AreExplored (marks_of asked.entry)
+        (problem_of config machine.now.image asked.entry) (trace_output T.contents trace.old trace.new)
+        (string_bytes done.0) done.1) }
     ensures low { IfOk result (λ done. done.1 ≤ 1) }
     ensures refused { IfErr result
         (IsNotFound (marks_of asked.entry) (problem_of config machine.now.image asked.entry)
@@ -99,7 +100,8 @@ fn explore_all<T: LinkWrite, G: SearchObserver>(
         (trace_output T.contents trace.old trace.new) (string_bytes done.0) done.1) }
     ensures low { IfOk result (λ done. done.1 ≤ 1) }
     ensures refused { IfErr result
-        (IsNotFound None (problem_of config machine.now.image asked.entry) (trace_output T.contents trace.old trace.new)) }
+        (IsNotFound None (problem_of config machine.now.image asked.entry)
+        (trace_output T.contents trace.old trace.new)) }
 {
     let search = search_of(asked, trace.is_some());
     let found = find_results(alloc, machine, search, observer)?;

@@ -48,7 +48,8 @@ pub fn explore_every_size<R: LinkRead, G: SearchObserver, W: LinkWrite, E: Write
 ) -> u8
     requires reads { R.has_failed file.old ≡ false }
     requires prints { W.has_failed out.old ≡ false }
-    ensures fault { ReportsEverySize (exploration_of config asked.entry (input R.remaining R.has_failed file.old file.new))
+    ensures fault { ReportsEverySize
+        (exploration_of config asked.entry (input R.remaining R.has_failed file.old file.new))
         (output W.contents W.has_failed out.old out.new) (errors_to E.contents err.old err.new) result }
 {
     match print_every_size(alloc, file, config, asked, observer, out, err) {

@@ -140,7 +140,8 @@ impl Findings {
 
 /// Replaces the number of runs that had the result at a place.
 fn put_at(found: &mut IndexMap<String, Counted>, place: usize, runs: u32)
-    ensures { (text : String Allocator) (counted : CountedValue) → slice_get found.old.entries place ≡ Some (text, counted)
+    ensures { (text : String Allocator) (counted : CountedValue) →
+        slice_get found.old.entries place ≡ Some (text, counted)
         → found.new.entries ≡ set_value_at found.old.entries place (record counted { runs = runs }) }
 {
     if let Some(value) = found.get_index_mut(place) {

@@ -145,7 +145,8 @@ fn push_observed(
     observed: Option<&ObservedWords>,
 ) -> Result<(), AllocError>
     ensures { OnOk result (string_bytes text.new ≡ string_bytes text.old
-        ++ observed_lines (option_map (λ words. words.now) observed.entry) machine.now machine.now.config.shared_words) }
+        ++ observed_lines (option_map (λ words. words.now) observed.entry) machine.now
+        machine.now.config.shared_words) }
 {
     match observed {
         Some(words) => push_chosen(alloc, text, machine, words),

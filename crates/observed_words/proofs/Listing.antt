@@ -20,12 +20,15 @@ one_item list none =
     slice_split_none (λ b. b == 44) list (λ k d within. fails_before_first (λ b. b == 44) list k d (subst (λ n. k < n) (sym none) within))
 
 module _ (list item : List ℕ) (others : List (List ℕ)) (cut : items_of list ≡ item ∷ others) where
+  -- The first item of a list of words is one.
   pub first_is : (words : ℕ) → IsWordList words list → IsItem words item
   first_is words all = All-head (IsItem words) item others (subst (All (IsItem words)) cut all)
 
+  -- The others are, too.
   pub others_are : (words : ℕ) → IsWordList words list → All (IsItem words) others
   others_are words all = All-tail (IsItem words) item others (subst (All (IsItem words)) cut all)
 
+  -- If the first item and the others are items, they make a list of words.
   pub all_are : (words : ℕ) → IsItem words item → All (IsItem words) others → IsWordList words list
   all_are words one rest = subst (All (IsItem words)) (sym cut) (All-cons (IsItem words) item others one rest)
 
@@ -52,6 +55,7 @@ module _ (list item : List ℕ) (others : List (List ℕ)) (cut : items_of list 
   -- If the words marked and those named by a list are the whole, then after its first item is marked, the words marked
   -- and those named by the others are.
   module _ (word : ℕ) (old new whole : Type 0) (marked : new ↔ (old ⊎ Names item word)) (all : (old ⊎ Lists list word) ↔ whole) where
+    -- The words marked after it, and those named by the others, are the whole.
     pub named_more : (new ⊎ ((x : List ℕ) × Contains others x × Names x word)) ↔ whole
     named_more = (λ h. to h, λ w. from (all.1 w))
       where

@@ -6,7 +6,7 @@ pub const PLAIN: &str =
     sizes: Sizes { k: 2, c: 4, b: 4, r: 1, words: 1024 }, budget: 10000000, start: 1 })";
 
 /// Command lines that change one setting: the part of `PLAIN` that changes, and what replaces it.
-pub static CHANGED: [(&str, &str, &str); 25] = [
+pub static CHANGED: [(&str, &str, &str); 26] = [
     ("run --k 0 a.elf", "k: 2", "k: 0"),
     ("run a.elf --k 6", "k: 2", "k: 6"),
     ("run --k=3 a.elf", "k: 2", "k: 3"),

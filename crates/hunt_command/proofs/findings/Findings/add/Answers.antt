@@ -31,7 +31,8 @@ pub overflow_add-counted : goal.overflow_add-counted
 overflow_add-counted c =
     let es = c.self.inside.found.entries in
     let f = few_here (found_in text_in printed_in runs_in first_of es) c.self.inside.noted c.in-Some.place _
-    (entry_in text_in printed_in runs_in first_of es c.in-Some.place _ c.in-Some-get_index.before.now (sym c.in-Some-get_index.ensures.entry)) c.self.invariant in
+    (entry_in text_in printed_in runs_in first_of es c.in-Some.place _ c.in-Some-get_index.before.now
+    (sym c.in-Some-get_index.ensures.entry)) c.self.invariant in
     let count = ap (λ (s : FindingsState). s.noted) c.self.view_is in
     let small = c.requires in omega (arith, f, count, small)
 

@@ -7,4 +7,5 @@ use Rattle.hunt_command.proofs.findings.Findings.first_at.Goals as goal
 pub returns : goal.returns
 returns c =
     subst (λ (s : FindingsState). slice_get (firsts s.found) c.args.place ≡ Some c.in-Some.counted.now.first) c.self.view_is
-    (first_in text_in printed_in runs_in first_of c.self.inside.found.entries c.args.place c.in-Some.field-0-0.now c.in-Some.counted.now (sym c.in-Some.ensures.entry))
+    (first_in text_in printed_in runs_in first_of c.self.inside.found.entries c.args.place c.in-Some.field-0-0.now c.in-Some.counted.now
+    (sym c.in-Some.ensures.entry))
