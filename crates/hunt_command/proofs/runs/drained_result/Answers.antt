@@ -20,6 +20,18 @@ result_text-requires-clause-all c =
     let after = c.in_ok-drain_counted.ensures.taken before.0 before.1 before.4 in
     after.tally.all ∙ ap (λ (d : Config). 2 ^ d.k) (sym after.replay.run.config)
 
+pub result_text-requires-2-clause-home : goal.result_text-requires-2-clause-home
+result_text-requires-2-clause-home c =
+    let before = c.requires.shown in
+    let after = c.in_ok-drain_counted.ensures.taken before.0 before.1 before.4 in
+    run_home before.0 c.drain_counted.new.machine (before.1 ++ drain_steps c.args.machine) after.replay.run before.2
+
+pub result_text-requires-2-clause-all : goal.result_text-requires-2-clause-all
+result_text-requires-2-clause-all c =
+    let before = c.requires.shown in
+    let after = c.in_ok-drain_counted.ensures.taken before.0 before.1 before.4 in
+    after.tally.all ∙ ap (λ (d : Config). 2 ^ d.k) (sym after.replay.run.config)
+
 pub returns-clause-result : goal.returns-clause-result
 returns-clause-result c = λ opening steps replay_counted.
     record {
