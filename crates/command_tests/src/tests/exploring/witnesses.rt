@@ -5,6 +5,7 @@ use explore_command::{Asked, NoProgress, explore_command};
 use link::Meter;
 use observed_words::ObservedWords;
 use std::alloc::Global;
+use std::process::Abort;
 use std::test::Fail;
 use test_support::{assert_same, image_of, metered};
 use trace_commands::replay_command;
@@ -67,62 +68,111 @@ fn replayed(alloc: Global, trace: &[u8], file: &[u8]) -> Vec<u8> {
     out.device
 }
 
+/// A search of two processors, up to exchanges or for each result.
+fn search_of(exchanged: bool) -> Asked<'static> {
+    if exchanged {
+        up_to_exchanges(100)
+    } else {
+        each(100)
+    }
+}
+
+/// Searches two processors that add, for the result of this number, whose witness leads to this sum.
+fn leads_to<R: Abort>(
+    rt: &R,
+    alloc: Global,
+    file: &[u8],
+    search: Asked<'_>,
+    number: u32,
+    sum: &str,
+) -> Result<(), Fail> {
+    let ran = explored(alloc, file, 1, search, number);
+    assert_same!(rt; ran.status, 0);
+    assert!(rt; !ran.out.is_empty());
+    let report = format!(in alloc;
+        "processor 0 pc 00010010 halt 00 retired 4 console -\n\
+        processor 1 pc 00010010 halt 00 retired 4 console -\nword 0 {sum}\n"
+    )?;
+    assert_same!(rt; replayed(alloc, ran.trace.as_slice(), file).as_slice(), report.as_bytes());
+    Ok(())
+}
+
+/// Searches two processors for the result of this number, which has no witness, for this reason.
+fn leads_nowhere<R: Abort>(
+    rt: &R,
+    alloc: Global,
+    file: &[u8],
+    search: Asked<'_>,
+    number: u32,
+    said: &str,
+) {
+    let ran = explored(alloc, file, 1, search, number);
+    assert_same!(rt; ran.status, 2);
+    assert_same!(rt; ran.out.len(), 0);
+    assert_same!(rt; ran.trace.len(), 0);
+    assert_same!(rt; ran.err.as_slice(), said.as_bytes());
+}
+
 /// Both sums have a witness: 2 if one processor adds after the other, and 1 if both load first. There is no third
-/// result, and no state is stuck. Up to exchanges, the sum of 1 is found first. If the sum is not observed, there is no
-/// second result, and the witness of the first leads to the sum that is found first.
+/// result, and no state is stuck. Up to exchanges, the sum of 1 is found first.
 #[test]
 fn results_are_come_to(rt: HostRuntime) -> Result<(), Fail> {
     let alloc = rt.alloc();
     let file = image_of(alloc, LOST)?;
-    let words = ObservedWords::of_list(alloc, "15,1-14", 16)?.ok_or("no list")?;
-    let apart = Asked {
-        observed: Some(&words),
-        ..each(100)
-    };
-    for (number, search, sum) in [
-        (1, apart, "00000002"),
-        (1, each(100), "00000002"),
-        (2, each(100), "00000001"),
-        (1, up_to_exchanges(100), "00000001"),
-        (2, up_to_exchanges(100), "00000002"),
+    for (number, exchanged, sum) in [
+        (1, false, "00000002"),
+        (2, false, "00000001"),
+        (1, true, "00000001"),
+        (2, true, "00000002"),
     ] {
-        let ran = explored(alloc, file.as_slice(), 1, search, number);
-        assert_same!(rt; ran.status, 0);
-        assert!(rt; !ran.out.is_empty());
-        let report = format!(in alloc;
-            "processor 0 pc 00010010 halt 00 retired 4 console -\n\
-            processor 1 pc 00010010 halt 00 retired 4 console -\nword 0 {sum}\n"
+        leads_to(
+            &rt,
+            alloc,
+            file.as_slice(),
+            search_of(exchanged),
+            number,
+            sum,
         )?;
-        assert_same!(rt; replayed(alloc, ran.trace.as_slice(), file.as_slice()).as_slice(), report.as_bytes());
     }
-    let all = [each(100), up_to_exchanges(100)];
-    for (number, searches, said) in [
-        (
-            0,
-            all.as_slice(),
-            "error: an end can be reached from each state\n",
-        ),
-        (3, all.as_slice(), "error: there is no result 3\n"),
-        (
-            4_294_967_295,
-            all.as_slice(),
-            "error: there is no result 4294967295\n",
-        ),
-        (
-            0,
-            [apart].as_slice(),
-            "error: an end can be reached from each state\n",
-        ),
-        (2, [apart].as_slice(), "error: there is no result 2\n"),
+    for (number, said) in [
+        (0, "error: an end can be reached from each state\n"),
+        (3, "error: there is no result 3\n"),
+        (4_294_967_295, "error: there is no result 4294967295\n"),
     ] {
-        for search in searches {
-            let ran = explored(alloc, file.as_slice(), 1, *search, number);
-            assert_same!(rt; ran.status, 2);
-            assert_same!(rt; ran.out.len(), 0);
-            assert_same!(rt; ran.trace.len(), 0);
-            assert_same!(rt; ran.err.as_slice(), said.as_bytes());
+        for exchanged in [false, true] {
+            leads_nowhere(
+                &rt,
+                alloc,
+                file.as_slice(),
+                search_of(exchanged),
+                number,
+                said,
+            );
         }
     }
+    Ok(())
+}
+
+/// If the sum is not observed, there is no second result, and the witness of the first leads to the sum that is found
+/// first.
+#[test]
+fn observed_results_are_come_to(rt: HostRuntime) -> Result<(), Fail> {
+    let alloc = rt.alloc();
+    let file = image_of(alloc, LOST)?;
+    let words = ObservedWords::of_list(alloc, "15,1-14", 16)?.ok_or("no list")?;
+    let mut search = each(100);
+    search.observed = Some(&words);
+    leads_to(&rt, alloc, file.as_slice(), search, 1, "00000002")?;
+    let said = "error: an end can be reached from each state\n";
+    leads_nowhere(&rt, alloc, file.as_slice(), search, 0, said);
+    leads_nowhere(
+        &rt,
+        alloc,
+        file.as_slice(),
+        search,
+        2,
+        "error: there is no result 2\n",
+    );
     Ok(())
 }
 
