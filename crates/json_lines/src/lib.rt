@@ -1,6 +1,6 @@
 //! The lines that commands print, as JSON.
 //!
-//! A line has one of the shapes of a table ([`SHAPES`]): words, and fields between them. The object of a line has its
+//! A line has one of the shapes of its command ([`shapes`]): words, and fields between them. The object of a line has its
 //! kind and then its fields, in the order of the line ([`object_text`]). A line that has none of the shapes is an
 //! object too, of kind `text`, so that no line is lost. `specs/Shapes.antt` says which object a line has, by a table.
 //!
@@ -13,9 +13,8 @@ pub mod laws;
 mod lines;
 mod objects;
 mod shape;
-mod shapes;
+pub mod shapes;
 
 pub use lines::JsonLines;
 pub use objects::object_text;
 pub use shape::{Kind, Part, Shape};
-pub use shapes::SHAPES;

@@ -230,10 +230,9 @@ const FAULTS: Part = Field("", "faults", Count(" fault"));
 
 const NO_FAULTS: Part = Field("no faults", "faults", Zero);
 
-/// The shapes of all lines that `run`, `replay`, `hunt`, `explore`, `order`, `story`, `stats` and `check` print. A line
-/// has the first of them that fits.
-pub const SHAPES: &[Shape] = &[
-    // reports
+// ---- the lines of each command
+
+static REPORT_SHAPES: [Shape; 4] = [
     Shape("processor", &[PROCESSOR, PC, RUN, RETIRED, CONSOLE]),
     Shape(
         "processor",
@@ -244,14 +243,19 @@ pub const SHAPES: &[Shape] = &[
         &[PROCESSOR, PC, FAULT, FAULT_NO, RETIRED, CONSOLE],
     ),
     Shape("word", &[WORD, HOLDS]),
-    // hunts
-    Shape("processor", &[PROCESSOR, RUN, CONSOLE]),
-    Shape("processor", &[PROCESSOR, HALT, HALT_BYTE, CONSOLE]),
-    Shape("processor", &[PROCESSOR, FAULT, FAULT_NO, CONSOLE]),
+];
+
+static HUNT_SHAPES: [Shape; 7] = [
+    Shape("processor", &[PROCESSOR, PC, RUN, CONSOLE]),
+    Shape("processor", &[PROCESSOR, PC, HALT, HALT_BYTE, CONSOLE]),
+    Shape("processor", &[PROCESSOR, PC, FAULT, FAULT_NO, CONSOLE]),
+    Shape("word", &[WORD, HOLDS]),
     Shape("runs", &[RUNS, FIRST, OVER]),
     Shape("runs", &[RUNS, FIRST, BUDGET]),
     Shape("unfinished", &[UNFINISHED]),
-    // results
+];
+
+static RESULTS_SHAPES: [Shape; 9] = [
     Shape("processor", &[PROCESSOR, PC, HALT, HALT_BYTE, CONSOLE]),
     Shape("processor", &[PROCESSOR, PC, FAULT, FAULT_NO, CONSOLE]),
     Shape("result", &[RESULT]),
@@ -260,7 +264,10 @@ pub const SHAPES: &[Shape] = &[
     Shape("schedules", &[ALWAYS]),
     Shape("schedules", &[POSSIBLE]),
     Shape("schedules", &[FROM, FROM_COUNT, NO_END]),
-    // results of every size
+    Shape("word", &[WORD, HOLDS]),
+];
+
+static SIZES_SHAPES: [Shape; 10] = [
     Shape(
         "size",
         &[
@@ -312,7 +319,9 @@ pub const SHAPES: &[Shape] = &[
         ],
     ),
     Shape("size", &[STAGES, PROCESSORS, UNEXPLORED]),
-    // counts
+];
+
+static COUNTS_SHAPES: [Shape; 6] = [
     Shape("machine", &[K, C, B, R]),
     Shape("steps", &[STEPS, TURNS, UP, SERVE, DOWN, POKE, ROUNDS]),
     Shape(
@@ -322,7 +331,9 @@ pub const SHAPES: &[Shape] = &[
     Shape("module", &[MODULE, SERVES, GROUPS]),
     Shape("module", &[MODULE, SERVES]),
     Shape("turns", &[PROCESSOR, TURNS, RETIRED]),
-    // stories
+];
+
+static STORY_SHAPES: [Shape; 13] = [
     Shape("step", &[NUMBER, A_TURN, TURN_OF, SENDS]),
     Shape("step", &[NUMBER, A_TURN, TURN_OF, RETIRES, ITS_INSN, GIVES]),
     Shape(
@@ -358,7 +369,9 @@ pub const SHAPES: &[Shape] = &[
         "step",
         &[NUMBER, A_POKE, ITS_OWNER, REGISTER, NEW_WORD, WRITES],
     ),
-    // serial orders
+];
+
+static ORDER_SHAPES: [Shape; 10] = [
     Shape(
         "poke",
         &[NUMBER, OWNER, POKES_BYTE, NEW_BYTE, ON_WORD, BEFORE, AFTER],
@@ -378,9 +391,53 @@ pub const SHAPES: &[Shape] = &[
     Shape("entry", &[NUMBER, TAKER, ADDRESS, INSN, GIVES]),
     Shape("entry", &[NUMBER, TAKER, ADDRESS, INSN, PRINTS]),
     Shape("entry", &[NUMBER, TAKER, ADDRESS, INSN]),
-    // faults of a text
+];
+
+static MISTAKES_SHAPES: [Shape; 4] = [
     Shape("fault", &[LINE, COLUMN, CODE, FAULTY, ADVICE]),
     Shape("fault", &[LINE, COLUMN, CODE, ADVICE]),
     Shape("faults", &[FAULTS]),
     Shape("faults", &[NO_FAULTS]),
 ];
+
+// A function for each table, since a proof computes with the tables that its function names.
+
+/// The shapes of the lines that `run` and `replay` print. A line has the first of them that fits.
+pub fn report() -> &'static [Shape] {
+    &REPORT_SHAPES
+}
+
+/// Those of `hunt`.
+pub fn hunt() -> &'static [Shape] {
+    &HUNT_SHAPES
+}
+
+/// Those of `explore`.
+pub fn results() -> &'static [Shape] {
+    &RESULTS_SHAPES
+}
+
+/// Those of `explore --every`.
+pub fn sizes() -> &'static [Shape] {
+    &SIZES_SHAPES
+}
+
+/// Those of `stats`.
+pub fn counts() -> &'static [Shape] {
+    &COUNTS_SHAPES
+}
+
+/// Those of `story`.
+pub fn story() -> &'static [Shape] {
+    &STORY_SHAPES
+}
+
+/// Those of `order`.
+pub fn order() -> &'static [Shape] {
+    &ORDER_SHAPES
+}
+
+/// Those of `check`.
+pub fn mistakes() -> &'static [Shape] {
+    &MISTAKES_SHAPES
+}

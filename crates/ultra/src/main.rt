@@ -16,7 +16,7 @@ use crate::files::{
     STANDARD, open, open_beside, open_beside_trace, open_image, read_once, trace_to, writer_to,
 };
 use crate::loopback_port::LoopbackPort;
-use crate::output::{is_json, output_to};
+use crate::output::{Output, shapes_of};
 use crate::refusal::{Refusal, refuse};
 use crate::reports::{Explained, Place, Reason, Reports, place_of, report_place};
 use crate::standard_streams::StandardStreams;
@@ -58,7 +58,7 @@ fn main(rt: HostRuntime) -> ExitCode {
     let (stdout, stderr) = (rt.stdout(), rt.stderr());
     let reason = Reason::new(None);
     let mut out = Meter::new(Explained {
-        device: io::writer(&stdout),
+        device: Output::new(rt.alloc(), io::writer(&stdout)),
         reason: &reason,
     });
     let status = carry_out(
@@ -74,11 +74,18 @@ fn main(rt: HostRuntime) -> ExitCode {
 /// Does what the command line asks for, and returns the exit status. `terminal` says whether standard error is a
 /// terminal. A call that fails leaves its error in `reason`.
 fn carry_out<
+    'r,
     R: Env + Files + Input + Net + Threads + Wait + Clock + Eprint + Sync + AllocGlobal,
-    W: LinkWrite,
+    W: Write,
     E: Write,
->(rt: &R, terminal: bool, reason: &Reason, out: &mut W, err: &mut E) -> u8
-    requires works { W.has_failed out.old ≡ false }
+>(
+    rt: &R,
+    terminal: bool,
+    reason: &'r Reason,
+    out: &mut Meter<Explained<'r, Output<W>>>,
+    err: &mut E,
+) -> u8
+    requires works { ⟦<Meter<Explained<'r, Output<W>>> as Link>⟧.has_failed out.old ≡ false }
 {
     let arguments = match env::args(rt) {
         Ok(arguments) => arguments,
@@ -93,17 +100,30 @@ fn carry_out<
 
 /// Does what the words of a command line ask for.
 fn carry_out_words<
+    'r,
     R: Files + Input + Net + Threads + Wait + Clock + Eprint + Sync + AllocGlobal,
-    W: LinkWrite,
+    W: Write,
     E: Write,
->(rt: &R, arguments: &[String], terminal: bool, reason: &Reason, out: &mut W, err: &mut E) -> u8
-    requires works { W.has_failed out.old ≡ false }
+>(
+    rt: &R,
+    arguments: &[String],
+    terminal: bool,
+    reason: &'r Reason,
+    out: &mut Meter<Explained<'r, Output<W>>>,
+    err: &mut E,
+) -> u8
+    requires works { ⟦<Meter<Explained<'r, Output<W>>> as Link>⟧.has_failed out.old ≡ false }
 {
     let Ok(words) = texts(rt.alloc(), arguments) else {
         return report_fault(Fault::Memory, err);
     };
     match settings(rt.alloc(), words.as_slice()) {
-        Ok(settings) => execute_and_report(rt, &settings, terminal, reason, out, err),
+        Ok(settings) => {
+            if let Some(shapes) = shapes_of(&settings) {
+                out.device.device.print_json(shapes);
+            }
+            execute_and_report(rt, &settings, terminal, reason, out, err)
+        }
         Err(error) => refuse_words(words.as_slice(), &error, reason, out, err),
     }
 }
@@ -117,8 +137,7 @@ fn execute_and_report<
     requires works { W.has_failed out.old ≡ false }
 {
     let mut reports = Reports { err, letter: None };
-    let mut output = output_to(rt.alloc(), is_json(settings), reason, out);
-    let done = execute(rt, settings, terminal, reason, &mut output, &mut reports);
+    let done = execute(rt, settings, terminal, reason, out, &mut reports);
     let Reports { err, letter } = reports;
     let status = match done {
         Ok(status) => status,
@@ -126,7 +145,7 @@ fn execute_and_report<
     };
     let place = match letter {
         None => None,
-        Some(_) if output.failed() => Some(Place::StandardOutput),
+        Some(_) if out.failed() => Some(Place::StandardOutput),
         Some(letter) => place_of(settings, letter),
     };
     if let Some(place) = place {
@@ -585,22 +604,20 @@ fn hunt_file<'a, R: Files + Input + Clock + Eprint + AllocGlobal, W: LinkWrite, 
 }
 
 /// Does what `debug FILE` asks for, over standard input and output or at a port.
-fn debug_file<'a, R: Files + Input + Net + Wait + AllocGlobal, W: Write, E: Write>(
-    rt: &R,
+fn debug_file<'a, 'r, R: Files + Input + Net + Wait + AllocGlobal, W: Write, E: Write>(
+    rt: &'r R,
     session: &Session<'a>,
-    reason: &Reason,
-    out: &mut W,
+    reason: &'r Reason,
+    out: &'r mut W,
     err: &mut E,
 ) -> Result<u8, Refusal<'a>> {
     if session.stdio {
         if session.file == STANDARD {
             return Err(Refusal::InputTwice);
         }
-        let mut streams = StandardStreams {
-            rt,
-            reason,
-            out: Some(out),
-        };
+        let out = &mut *out;
+        let out = Some(out);
+        let mut streams = StandardStreams { rt, reason, out };
         return debug_over(rt, session, &mut streams, reason, err);
     }
     let mut loopback_port = LoopbackPort {

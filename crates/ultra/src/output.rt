@@ -1,69 +1,59 @@
 //! Standard output, to which lines go as they are or as JSON.
 
-ghost use Rattle.std.specs.Prelude.{◌≡◌, false};
-
-use crate::reports::{Explained, Reason};
-use json_lines::{JsonLines, SHAPES};
-use link::{Link, Meter};
-use settings::Settings;
+use json_lines::{JsonLines, Shape, shapes};
+use settings::{Settings, TraceCommand};
 use std::alloc::Global;
 use std::io::{self, Write};
 
-/// A writer to which lines go as they are or as JSON.
+/// A writer to which lines go as they are or as JSON. If there is no memory for an object, a write fails.
 #[derive(Drop)]
-pub(crate) enum Output<'a, W: Write> {
-    Lines(&'a mut W),
-    Json(JsonLines<'static, &'a mut W>),
+pub(crate) struct Output<W: Write> {
+    lines: JsonLines<'static, W>,
+    is_json: bool,
 }
 
-impl<W: Write> Write for Output<'_, W> {
+impl<W: Write> Output<W> {
+    /// A writer to the device, of lines as they are.
+    pub(crate) fn new(alloc: Global, device: W) -> Self {
+        Output {
+            lines: JsonLines::new(alloc, &[], device),
+            is_json: false,
+        }
+    }
+
+    /// From now on, lines of these shapes go as JSON.
+    pub(crate) fn print_json(&mut self, shapes: &'static [Shape]) {
+        self.lines.shapes = shapes;
+        self.is_json = true;
+    }
+}
+
+impl<W: Write> Write for Output<W> {
     fn write(&mut self, buf: &[u8]) -> io::Result<usize> {
-        match self {
-            Output::Lines(device) => device.write(buf),
-            Output::Json(lines) => lines.write(buf),
+        if self.is_json {
+            self.lines.write(buf)
+        } else {
+            self.lines.device.write(buf)
         }
     }
 
     fn flush(&mut self) -> io::Result<()> {
-        match self {
-            Output::Lines(device) => device.flush(),
-            Output::Json(lines) => lines.flush(),
-        }
+        self.lines.device.flush()
     }
 }
 
-/// The writer to the device, of lines as they are or as JSON. If there is no memory for an object, a write fails, and
-/// that is the error left in `reason`.
-pub(crate) fn output_to<'a, W: Write>(
-    alloc: Global,
-    is_json: bool,
-    reason: &'a Reason,
-    device: &'a mut W,
-) -> Meter<Explained<'a, Output<'a, W>>>
-    ensures { ⟦<Meter<Explained<'a, Output<'a, W>>> as Link>⟧.has_failed result ≡ false }
-{
-    let device = if is_json {
-        Output::Json(JsonLines::new(alloc, SHAPES, device))
-    } else {
-        Output::Lines(device)
-    };
-    Meter::new(Explained { device, reason })
-}
-
-/// Whether lines are printed as JSON.
-pub(crate) fn is_json(settings: &Settings<'_>) -> bool {
+/// The shapes of the lines that are to be printed as JSON, if they are.
+pub(crate) fn shapes_of(settings: &Settings<'_>) -> Option<&'static [Shape]> {
     match settings {
-        Settings::Check(check) => check.json,
-        Settings::Run(run) => run.json,
-        Settings::Hunt(hunt) => hunt.json,
-        Settings::Explore(explore) => explore.json,
-        Settings::Trace(_, listing) => listing.json,
-        Settings::Order(lines) | Settings::Story(lines) => lines.json,
-        Settings::Words(_)
-        | Settings::Asm(_)
-        | Settings::Dis(_)
-        | Settings::Picture(_)
-        | Settings::Debug(_)
-        | Settings::Explain(_) => false,
+        Settings::Check(check) if check.json => Some(shapes::mistakes()),
+        Settings::Run(run) if run.json => Some(shapes::report()),
+        Settings::Hunt(hunt) if hunt.json => Some(shapes::hunt()),
+        Settings::Explore(explore) if explore.json && explore.every => Some(shapes::sizes()),
+        Settings::Explore(explore) if explore.json => Some(shapes::results()),
+        Settings::Trace(TraceCommand::Replay, listing) if listing.json => Some(shapes::report()),
+        Settings::Trace(TraceCommand::Stats, listing) if listing.json => Some(shapes::counts()),
+        Settings::Order(lines) if lines.json => Some(shapes::order()),
+        Settings::Story(lines) if lines.json => Some(shapes::story()),
+        _ => None,
     }
 }

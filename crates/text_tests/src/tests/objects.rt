@@ -1,38 +1,11 @@
 //! The objects of lines: of some that commands seldom or never print.
 
-use json_lines::{JsonLines, SHAPES, Shape};
+use json_lines::{JsonLines, Shape, shapes};
 use std::alloc::Global;
 use std::io::Write;
 use std::process::Abort;
 use std::test::Fail;
 use test_support::assert_same;
-
-/// Lines, and their objects.
-static OBJECTS: [(&str, &str); 8] = [
-    ("word 3 0000002a", r#"{"kind":"word","word":3,"value":42}"#),
-    (
-        "word 3 0000002A",
-        r#"{"kind":"text","text":"word 3 0000002A"}"#,
-    ),
-    (
-        "2 results, 1 state",
-        r#"{"kind":"results","results":2,"states":1}"#,
-    ),
-    (
-        "1 results, 2 states",
-        r#"{"kind":"text","text":"1 results, 2 states"}"#,
-    ),
-    (
-        "module 3 serves 9 1x5 4x1",
-        r#"{"kind":"module","module":3,"serves":9,"groups":[[1,5],[4,1]]}"#,
-    ),
-    (
-        r#"line 2 column 7: A2 \x22"": a "word" is wanted"#,
-        r#"{"kind":"fault","line":2,"column":7,"code":"A2","word":"\\x22\"\"","advice":"a \"word\" is wanted"}"#,
-    ),
-    ("", r#"{"kind":"text","text":""}"#),
-    ("Ä\t", r#"{"kind":"text","text":"Ä\t"}"#),
-];
 
 /// Whether a line that is written in two parts is passed on as this object.
 // The shapes are an argument, so that no proof computes with their table.
@@ -56,11 +29,42 @@ fn passes_on<R: Abort>(
     Ok(())
 }
 
-/// Each line has its object.
+/// A line of a report, one that none has, an empty one, and bytes that JSON escapes.
 #[test]
-fn lines_have_objects(rt: HostRuntime) -> Result<(), Fail> {
-    for (line, object) in &OBJECTS {
-        passes_on(&rt, rt.alloc(), SHAPES, line, object)?;
+fn lines_of_reports_have_objects(rt: HostRuntime) -> Result<(), Fail> {
+    for (line, object) in [
+        ("word 3 0000002a", r#"{"kind":"word","word":3,"value":42}"#),
+        (
+            "word 3 0000002A",
+            r#"{"kind":"text","text":"word 3 0000002A"}"#,
+        ),
+        ("", r#"{"kind":"text","text":""}"#),
+        ("Ä\t", r#"{"kind":"text","text":"Ä\t"}"#),
+    ] {
+        passes_on(&rt, rt.alloc(), shapes::report(), line, object)?;
     }
     Ok(())
+}
+
+/// Numbers before nouns, a list of groups, and a mistake with quotes in it.
+#[test]
+fn other_lines_have_objects(rt: HostRuntime) -> Result<(), Fail> {
+    let alloc = rt.alloc();
+    let results = shapes::results();
+    let object = r#"{"kind":"results","results":2,"states":1}"#;
+    passes_on(&rt, alloc, results, "2 results, 1 state", object)?;
+    let object = r#"{"kind":"text","text":"1 results, 2 states"}"#;
+    passes_on(&rt, alloc, results, "1 results, 2 states", object)?;
+    let object = r#"{"kind":"module","module":3,"serves":9,"groups":[[1,5],[4,1]]}"#;
+    passes_on(
+        &rt,
+        alloc,
+        shapes::counts(),
+        "module 3 serves 9 1x5 4x1",
+        object,
+    )?;
+    let line = r#"line 2 column 7: A2 \x22"": a "word" is wanted"#;
+    let object =
+        r#"{"kind":"fault","line":2,"column":7,"code":"A2","word":"\\x22\"\"","advice":"a \"word\" is wanted"}"#;
+    passes_on(&rt, alloc, shapes::mistakes(), line, object)
 }

@@ -160,8 +160,12 @@ fn observed_results_are_come_to(rt: HostRuntime) -> Result<(), Fail> {
     let alloc = rt.alloc();
     let file = image_of(alloc, LOST)?;
     let words = ObservedWords::of_list(alloc, "15,1-14", 16)?.ok_or("no list")?;
-    let mut search = each(100);
-    search.observed = Some(&words);
+    let search = Asked {
+        limit: 100,
+        each: true,
+        witness: 0,
+        observed: Some(&words),
+    };
     leads_to(&rt, alloc, file.as_slice(), search, 1, "00000002")?;
     let said = "error: an end can be reached from each state\n";
     leads_nowhere(&rt, alloc, file.as_slice(), search, 0, said);
