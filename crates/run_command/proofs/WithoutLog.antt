@@ -15,7 +15,6 @@ use Rattle.command_io.specs.declared.fault.Fault.{Fault}
 use Rattle.command_io.specs.declared.fault.Fault.TheVariants as fault
 use Rattle.command_io.specs.Links.{Input, Output}
 use Rattle.command_io.specs.Tallies.{TallyState}
-use Rattle.trace_commands.specs.Causes.{RunFails}
 use Rattle.trace_commands.specs.InMemory.{IsReplayInMemory}
 use Rattle.trace_commands.specs.TraceReports.{AskedRun, IsReportOf, IsRunReport, IsSomeRunReport}
 use Rattle.run_command.specs.CountedMachines.{CountedModel, IsCountedLog, IsDrainedLog}
@@ -131,23 +130,3 @@ cut_ends run out false Over wanted p = p
 cut_ends run out true Over wanted p = inl p
 cut_ends run out true Budget wanted p = inr p
 cut_ends run out false Budget wanted p = absurd (true≢false (sym wanted))
-
-module _ (c : Config) (budget : ℕ) (file : Input) where
-  -- If there is no run, the command fails with the same fault.
-  pub run_fails : (out : Output) (f : Fault) → RunFailsWithin (most_unlogged budget) (sweep_run c budget file) f →
-      RunFails (without_log (sweep_run c budget file)) no_trace out f
-  run_fails out (fault.Image e) p = (p, refl)
-  run_fails out fault.Size p = (p, refl)
-  run_fails out fault.Budget p = (p, refl)
-  run_fails out fault.Memory p = (p, refl)
-  run_fails out (fault.Line n) p = absurd p
-  run_fails out (fault.Text e) p = absurd p
-  run_fails out fault.NotUtf8 p = absurd p
-  run_fails out (fault.Trace e) p = absurd p
-  run_fails out (fault.Stalled n) p = absurd p
-  run_fails out fault.Full p = absurd p
-  run_fails out fault.Loan p = absurd p
-  run_fails out fault.Start p = absurd p
-  run_fails out fault.States p = absurd p
-  run_fails out fault.Alone p = absurd p
-  run_fails out fault.Link p = absurd p

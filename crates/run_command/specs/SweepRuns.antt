@@ -63,6 +63,11 @@ RunFailsWithin most run other = ⊥
 abbrev pub RunItselfFails : SweepRun → Fault → Type 0
 RunItselfFails run = RunFailsWithin (most_of run.budget) run
 
+-- Why there is no report: the machine or its run fails, and the budget only if an unfinished run is not reported.
+pub record FailsBefore (both : Bool) (most : ℕ) (run : SweepRun) (f : Fault) : Type 0 where
+  pub cause : RunFailsWithin most run f
+  pub budget : f ≡ fault.Budget → both ≡ false
+
 -- a run that is over, as a command reports it
 abbrev pub by_sweep : SweepRun → AskedRun
 by_sweep run = record {
@@ -128,6 +133,13 @@ IsSomeReport run text status = (steps : List Step) × IsReportedRun run steps te
 
 -- ---- from the machine's opening on
 
+-- Why a sweep is not to be reported: the budget is used up, and an unfinished run is not reported; or there is no
+-- memory for the steps, and none is taken.
+abbrev pub IsNotReported : (both : Bool) → (budget : ℕ) → (old new : Log) → Fault → Type 0
+IsNotReported both budget old new fault.Budget = (both ≡ false) × IsSwept (most_of budget) old Budget new
+IsNotReported both budget old new fault.Memory = new ≡ old
+IsNotReported both budget old new other = ⊥
+
 -- the log of a machine that has taken these steps since its opening
 abbrev pub log_of : (opening : MachineLists) → (steps : List Step) → MachineLists → Log
 log_of opening steps m = record { opening = opening; steps = steps; machine = m }
@@ -154,8 +166,3 @@ IsNotCounted both most opening fault.Budget = (both ≡ false) × IsSweptTo most
 IsNotCounted both most opening fault.Memory =
     (end : SweepEnd) × (is_reported both end ≡ true) × IsSweptTo most opening end
 IsNotCounted both most opening other = ⊥
-
--- Why there is no report: the machine or its run fails, and the budget only if an unfinished run is not reported.
-pub record FailsBefore (both : Bool) (most : ℕ) (run : SweepRun) (f : Fault) : Type 0 where
-  pub cause : RunFailsWithin most run f
-  pub budget : f ≡ fault.Budget → both ≡ false

@@ -1,14 +1,18 @@
 //! `ultra run --sweep`: from the bytes of an image to the report of its run.
 
-ghost use Rattle.std.specs.Prelude.{◌≡◌, ◌≤◌, ◌↔◌, ◌⊎◌, true, false, IfOk, IfErr, IsErrOf};
+ghost use Rattle.std.specs.Prelude.{◌≡◌, ◌≤◌, ◌↔◌, ◌⊎◌, true, false, IfOk, IfErr, IsErrOf, OnOk};
+ghost use Rattle.schedules.specs.Sweeps.{IsSwept, most_of};
+ghost use Rattle.schedules.specs.trace_file.Traces.{HaveRecords};
 ghost use Rattle.trace_commands.specs.TraceReports.{IsWorking, PrintsRun, trace_output};
 ghost use Rattle.command_io.specs.FaultTexts.{IsReported};
 ghost use Rattle.command_io.specs.Links.{input, output};
 ghost use Rattle.command_io.specs.Printing.{ReportsCause};
-ghost use Rattle.run_command.specs.SweepRuns.{IsSomeEndedRun, RunItselfFails, by_sweep, runs_by_sweep, sweep_run};
+ghost use Rattle.run_command.specs.SweepRuns.{FailsBefore, IsNotReported, IsSomeEndedRun, by_sweep, runs_by_sweep};
+ghost use Rattle.run_command.specs.SweepRuns.{sweep_run};
 ghost use Rattle.run_command.specs.UnfinishedRuns.{IsSilentBut, PrintsUnfinished, RunCommandEnds, RunsEndIn};
+ghost use Rattle.run_command.specs.UnfinishedRuns.{is_reported};
 
-use crate::unfinished::print_unfinished;
+use crate::unfinished::{is_reported, print_unfinished};
 use command_io::{Fault, image_of, machine_of, report_outcome};
 use elf_image::ImageError;
 use flat_machine::Config;
@@ -85,11 +89,10 @@ fn execute<R: LinkRead, T: LinkWrite, W: LinkWrite>(
     ensures low { IfOk result (λ status. status ≤ 1) }
     ensures silent { IfErr result (IsSilentBut unfinished (W.has_failed out.new ≡ false → out.new ≡ out.old)) }
 {
-    let (log, end) = run_to_log(alloc, file, config, budget)?;
+    let (log, end) = run_to_log(alloc, file, config, budget, unfinished)?;
     match end {
         SweepEnd::Over => print_run(alloc, &log, None, trace, out),
-        SweepEnd::Budget if unfinished => Err(print_unfinished(alloc, &log, trace, out)),
-        SweepEnd::Budget => Err(Fault::Budget),
+        SweepEnd::Budget => Err(print_unfinished(alloc, &log, trace, out)),
     }
 }
 
@@ -97,29 +100,52 @@ fn execute<R: LinkRead, T: LinkWrite, W: LinkWrite>(
 ///
 /// # Errors
 ///
-/// [`Fault::Image`] if the image is refused or unread, [`Fault::Size`] if the size is out of limits, and
-/// [`Fault::Memory`].
+/// [`Fault::Image`] if the image is refused or unread, [`Fault::Size`] if the size is out of limits, [`Fault::Budget`]
+/// if the budget is used up before the run is over and an unfinished run is not to be reported, and [`Fault::Memory`].
 fn run_to_log<R: LinkRead>(
     alloc: Global,
     file: &mut R,
     config: Config,
     budget: u32,
+    unfinished: bool,
 ) -> Result<(Logged, SweepEnd), Fault>
     requires reads { R.has_failed file.old ≡ false }
     ensures run_to_log { IfOk result (λ done.
         IsSomeEndedRun (sweep_run config budget (input R.remaining R.has_failed file.old file.new)) done.1 done.0) }
-    ensures refused { IfErr result
-        (RunItselfFails (sweep_run config budget (input R.remaining R.has_failed file.old file.new))) }
-    ensures in_time { IsErrOf result Fault.Budget → ⊥ }
+    ensures wanted { IfOk result (λ done. is_reported unfinished done.1 ≡ true) }
+    ensures refused { IfErr result (FailsBefore unfinished (most_of budget)
+        (sweep_run config budget (input R.remaining R.has_failed file.old file.new))) }
     ensures unread { IsErrOf result (Fault.Image ImageError.Link) ↔ (R.has_failed file.new ≡ true) }
 {
     let image = image_of(alloc, file, &config)?;
     let mut log = Logged::new(alloc, machine_of(alloc, image, config)?);
-    let ended = follow_sweep(&mut log, budget);
+    let ended = run_to_end(&mut log, budget, unfinished);
     laws::log_is_well_formed(&log);
     match ended {
         Ok(end) => Ok((log, end)),
-        // A new log has room for the longest run, so it refuses only if out of memory.
-        Err(_) => Err(Fault::Memory),
+        Err(fault) => Err(fault),
     }
+}
+
+/// Follows the sweep until it is over or the budget is used up, and drains the machine. Returns how the sweep ended.
+///
+/// # Errors
+///
+/// [`Fault::Budget`] if the budget is used up before the sweep is over and an unfinished run is not to be reported, and
+/// [`Fault::Memory`] if there is no memory for the log; then no step is taken.
+fn run_to_end(log: &mut Logged, budget: u32, unfinished: bool) -> Result<SweepEnd, Fault>
+    ensures swept { IfOk result (λ end. IsSwept (most_of budget) log.old end log.new) }
+    ensures wanted { IfOk result (λ end. is_reported unfinished end ≡ true) }
+    ensures records { OnOk result (HaveRecords log.old.machine.config.k log.old.steps →
+        HaveRecords log.new.machine.config.k log.new.steps) }
+    ensures refused { IfErr result (IsNotReported unfinished budget log.old log.new) }
+{
+    let Ok(end) = follow_sweep(log, budget) else {
+        // A new log has room for the longest run, so it refuses only if out of memory.
+        return Err(Fault::Memory);
+    };
+    if !is_reported(end, unfinished) {
+        return Err(Fault::Budget);
+    }
+    Ok(end)
 }

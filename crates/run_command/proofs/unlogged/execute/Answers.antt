@@ -5,10 +5,11 @@ use Rattle.std.proofs.lemmas.Result.{err_from_is_err_and}
 use Rattle.link.specs.Transfer.{AppendsPart}
 use Rattle.command_io.specs.declared.fault.Fault.TheVariants as fault
 use Rattle.command_io.specs.Links.{input, output}
-use Rattle.run_command.specs.SweepRuns.{IsSomeReport, ended_without_log, no_trace, sweep_run, unfinished_without_log, without_log}
+use Rattle.run_command.specs.SweepRuns.{IsSomeReport, ended_without_log, most_unlogged, no_trace, sweep_run, unfinished_without_log, without_log}
 use Rattle.run_command.specs.UnfinishedRuns.{EndsInFault, is_reported}
 use Rattle.run_command.proofs.Budgets.{ends}
-use Rattle.run_command.proofs.WithoutLog.{cut_ends, run_fails, run_report}
+use Rattle.run_command.proofs.Running.{run_fails}
+use Rattle.run_command.proofs.WithoutLog.{cut_ends, run_report}
 use Rattle.run_command.proofs.unlogged.execute.Goals as goal
 
 pub returns-in-Over-clause-reported : goal.returns-in-Over-clause-reported
@@ -50,7 +51,7 @@ returns-in_err-text-clause-fault g c =
     let p = err_from_is_err_and c.from_residual.result c.from_residual.ensures.1 in
     let fails = c.in_err-text.ensures.refused in
     rw (p.1, p.2) (ends (without_log asked) (unfinished_without_log asked) no_trace out c.args.unfinished c.in_err-text.field-0.0 fails.budget
-    (run_fails c.args.config c.args.budget file out c.in_err-text.field-0.0 fails.cause))
+    (run_fails (without_log asked) no_trace out refl (most_unlogged c.args.budget) asked (λ f p. p) c.in_err-text.field-0.0 fails.cause))
 
 pub returns-in_err-print-clause-fault : goal.returns-in_err-print-clause-fault
 returns-in_err-print-clause-fault g c =
