@@ -75,7 +75,7 @@ fn main(rt: HostRuntime) -> ExitCode {
 /// terminal. A call that fails leaves its error in `reason`.
 fn carry_out<
     'r,
-    R: Env + Files + Input + Net + Threads + Wait + Clock + Eprint + Sync + AllocGlobal,
+    R: Env + Files + Input + Net + Threads + Wait + Clock + Eprint + Print + Sync + AllocGlobal,
     W: Write,
     E: Write,
 >(
@@ -101,7 +101,7 @@ fn carry_out<
 /// Does what the words of a command line ask for.
 fn carry_out_words<
     'r,
-    R: Files + Input + Net + Threads + Wait + Clock + Eprint + Sync + AllocGlobal,
+    R: Files + Input + Net + Threads + Wait + Clock + Eprint + Print + Sync + AllocGlobal,
     W: Write,
     E: Write,
 >(
@@ -130,7 +130,7 @@ fn carry_out_words<
 
 /// Does what settings ask for, and reports in a second line which file is at fault.
 fn execute_and_report<
-    R: Files + Input + Net + Threads + Wait + Clock + Eprint + Sync + AllocGlobal,
+    R: Files + Input + Net + Threads + Wait + Clock + Eprint + Print + Sync + AllocGlobal,
     W: LinkWrite,
     E: Write,
 >(rt: &R, settings: &Settings<'_>, terminal: bool, reason: &Reason, out: &mut W, err: &mut E) -> u8
@@ -162,7 +162,7 @@ fn execute_and_report<
 /// Does what settings ask for.
 fn execute<
     'a,
-    R: Files + Input + Net + Threads + Wait + Clock + Eprint + Sync + AllocGlobal,
+    R: Files + Input + Net + Threads + Wait + Clock + Eprint + Print + Sync + AllocGlobal,
     W: LinkWrite,
     E: Write,
 >(
@@ -604,20 +604,18 @@ fn hunt_file<'a, R: Files + Input + Clock + Eprint + AllocGlobal, W: LinkWrite, 
 }
 
 /// Does what `debug FILE` asks for, over standard input and output or at a port.
-fn debug_file<'a, 'r, R: Files + Input + Net + Wait + AllocGlobal, W: Write, E: Write>(
-    rt: &'r R,
+fn debug_file<'a, R: Files + Input + Print + Net + Wait + AllocGlobal, W: Write, E: Write>(
+    rt: &R,
     session: &Session<'a>,
-    reason: &'r Reason,
-    out: &'r mut W,
+    reason: &Reason,
+    out: &mut W,
     err: &mut E,
 ) -> Result<u8, Refusal<'a>> {
     if session.stdio {
         if session.file == STANDARD {
             return Err(Refusal::InputTwice);
         }
-        let out = &mut *out;
-        let out = Some(out);
-        let mut streams = StandardStreams { rt, reason, out };
+        let mut streams = StandardStreams { rt, reason };
         return debug_over(rt, session, &mut streams, reason, err);
     }
     let mut loopback_port = LoopbackPort {

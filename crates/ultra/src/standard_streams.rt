@@ -5,33 +5,39 @@ ghost use Rattle.std.specs.Prelude.{◌≡◌, false, IfOk, ⊤};
 use crate::reports::{Explained, Reason};
 use debug_session::Connect;
 use link::{Failed, Meter};
-use std::io::{Input, Write};
+use std::io::{self, Input, Print, Printer};
 
-/// Standard input and standard output, which are handed out once.
+/// Standard input and standard output. The system's error of a call that fails is left in `reason`.
 #[derive(Drop)]
-pub(crate) struct StandardStreams<'a, R: Input, W: Write> {
+pub(crate) struct StandardStreams<'a, R> {
     pub(crate) rt: &'a R,
-    /// The system's error of a read that fails.
     pub(crate) reason: &'a Reason,
-    /// None after it is handed out.
-    pub(crate) out: Option<&'a mut W>,
 }
 
-impl<'a, R: Input, W: Write> Connect for StandardStreams<'a, R, W> {
+impl<'a, R: Input + Print> Connect for StandardStreams<'a, R> {
     type Reader = Meter<Explained<'a, R::Reader>>;
 
-    type Writer = Meter<&'a mut W>;
+    type Writer = Meter<Explained<'a, Printer<'a, R>>>;
 
     ghost gives = { λ streams link. ⊤ };
 
-    fn connect(&mut self) -> Result<(Meter<Explained<'a, R::Reader>>, Meter<&'a mut W>), Failed> {
-        let Some(out) = self.out.take() else {
-            return Err(Failed);
-        };
+    fn connect(
+        &mut self,
+    ) -> Result<
+        (
+            Meter<Explained<'a, R::Reader>>,
+            Meter<Explained<'a, Printer<'a, R>>>,
+        ),
+        Failed,
+    > {
         let reader = Explained {
             device: self.rt.reader(),
             reason: self.reason,
         };
-        Ok((Meter::new(reader), Meter::new(out)))
+        let writer = Explained {
+            device: io::writer(self.rt),
+            reason: self.reason,
+        };
+        Ok((Meter::new(reader), Meter::new(writer)))
     }
 }
