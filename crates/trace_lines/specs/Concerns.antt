@@ -1,4 +1,5 @@
--- Which steps of a run concern a processor: its own turns and pokes, and what becomes of the message that stands for it.
+-- Which steps of a run concern a processor: its own turns and pokes, and what becomes of the message that stands for
+-- it.
 use Rattle.std.specs.Prelude.{ℕ, Bool, false, ◌==◌, ◌||◌, List, [], ◌∷◌, Option, Some, None, if◌then◌else◌}
 use Rattle.std.specs.List.{list_any}
 use Rattle.std.specs.Option.{option_or}
