@@ -115,9 +115,9 @@ talks_over_stdio() {
     if [ -e /dev/full ]; then
         local ended=0
         echo quit | ./ultra debug --stdio "$room/three.elf" 2>"$room/err" >/dev/full || ended=$?
-        [ "$ended" -eq 3 ] && diff <(printf '%s\n' 'ultra: link' "  standard output: $no_space_left") "$room/err" || return 1
+        [ "$ended" -eq 3 ] && diff <(printf '%s\n' 'ultra: link' "  standard input or output: $no_space_left") "$room/err" || return 1
     fi
-    ends_with_code 3 link "standard input: $is_a_folder" ./ultra debug --stdio "$room/three.elf" <"$room" &&
+    ends_with_code 3 link "standard input or output: $is_a_folder" ./ultra debug --stdio "$room/three.elf" <"$room" &&
         ends 2 'error: standard input is asked for twice' ./ultra debug --stdio - <"$room/three.elf"
 }
 check 'a session over standard input and output is the one over a connection' talks_over_stdio

@@ -82,6 +82,8 @@ pub(crate) enum Place<'a> {
     File(&'a str),
     Port(u16),
     StandardOutput,
+    /// Standard input and output, between which a session's error does not tell.
+    StandardStreams,
     /// The budget of a run that is not reported. Its line says by which option it is.
     Budget,
 }
@@ -93,6 +95,7 @@ impl Display for Place<'_> {
             Place::File(path) => write!(f, "{path}"),
             Place::Port(number) => write!(f, "port {number}"),
             Place::StandardOutput => write!(f, "standard output"),
+            Place::StandardStreams => write!(f, "standard input or output"),
             Place::Budget => write!(f, "--unfinished prints where the processors stand"),
         }
     }
@@ -124,7 +127,7 @@ pub(crate) fn place_of<'a>(settings: &Settings<'a>, letter: u8) -> Option<Place<
         (b'X', Settings::Explore(explore)) => file(explore.trace),
         (b'I', Settings::Hunt(hunt)) => Some(Place::File(hunt.file)),
         (b'I', Settings::Debug(session)) => Some(Place::File(session.file)),
-        (b'l', Settings::Debug(session)) if session.stdio => Some(Place::File(STANDARD)),
+        (b'l', Settings::Debug(session)) if session.stdio => Some(Place::StandardStreams),
         (b'l', Settings::Debug(session)) => Some(Place::Port(session.port)),
         (_, Settings::Trace(_, listing)) => place_of_replay(&listing.replay, letter),
         (_, Settings::Order(lines) | Settings::Story(lines)) => place_of_replay(
