@@ -3,7 +3,7 @@
 ghost use Rattle.std.specs.Prelude.{◌≡◌, ◌↔◌, IsNone, IfSome};
 ghost use Rattle.phi_algebra.specs.Composition.{AreApart, IsComposition, composed, composed_across};
 
-use crate::laws::keeps_its_range;
+use crate::laws;
 use crate::phi::Phi;
 
 /// The function that does `first` and then `second`.
@@ -18,8 +18,8 @@ pub fn compose(first: &Phi, second: &Phi) -> Option<Phi>
     ensures none { IsNone result ↔ AreApart first.now second.now }
 {
     // The proof of the meaning needs both functions in range.
-    keeps_its_range(first);
-    keeps_its_range(second);
+    laws::keeps_its_range(first);
+    laws::keeps_its_range(second);
     match (first, second) {
         (Phi::Add(amount), Phi::Add(further)) => Some(Phi::Add(amount.wrapping_add(*further))),
         (

@@ -15,6 +15,5 @@ mod phi;
 mod range;
 
 pub use composition::compose;
-pub use laws::keeps_its_range;
 pub use phi::Phi;
 pub use range::{SignedRange, UnsignedRange};
