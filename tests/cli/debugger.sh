@@ -156,8 +156,25 @@ serves_the_client() {
     examples/debug_client.py port 'state 0' >"$room/out" 2>"$room/err" || ended=$?
     [ "$ended" -eq 2 ] && [ ! -s "$room/out" ]
 }
+# With what nm prints of an image, the client takes names for addresses, and a pc gets its place. It ends with 2 if a name
+# is unknown or the file cannot be read.
+knows_names() {
+    local port debugger ended=0
+    printf '%s\n' '00010000 T first' '00010004 t second' '80000000 00000004 B count' '         U missing' >"$room/symbols"
+    start_debugger --k 0 "$room/three.elf" || return 1
+    diff <(printf '%s\n' ok 'at 0' '00010004 <second>' 00000001 'at 0' '00010008 <second+0x4>' 00000000 ok) \
+        <(examples/debug_client.py --symbols "$room/symbols" "$port" 'break @first+4' cont 'reg 0 20' 'reg 0 1' 'step 0' 'reg 0 20' \
+            'mem 0 @count 4' quit 2>&1) && ends_debugging 0 '' || return 1
+    start_debugger --k 0 "$room/three.elf" || return 1
+    examples/debug_client.py --symbols "$room/symbols" "$port" 'break @missing' >"$room/out" 2>"$room/err" || ended=$?
+    [ "$ended" -eq 2 ] && [ ! -s "$room/out" ] && grep -q "no symbol 'missing'" "$room/err" && ends_debugging 0 '' || return 1
+    ended=0
+    examples/debug_client.py --symbols "$room/none" "$port" quit >"$room/out" 2>"$room/err" || ended=$?
+    [ "$ended" -eq 2 ] && [ ! -s "$room/out" ]
+}
 if command -v python3 >/dev/null; then
     check 'examples/debug_client.py prints the replies to its lines, and reports that there is no session' serves_the_client
+    check 'examples/debug_client.py takes names for addresses, and names the pc' knows_names
 else
     left_out 'the client of the debugger, because python3 is not installed'
 fi
