@@ -10,16 +10,18 @@ mod output;
 mod refusal;
 mod reports;
 mod standard_streams;
+mod symbols;
 mod traces;
 
 use crate::files::{
     STANDARD, open, open_beside, open_beside_trace, open_image, read_once, trace_to, writer_to,
 };
 use crate::loopback_port::LoopbackPort;
-use crate::output::{Output, shapes_of};
+use crate::output::{Output, format_of};
 use crate::refusal::{Refusal, refuse};
 use crate::reports::{Explained, Place, Reason, Reports, place_of, report_place};
 use crate::standard_streams::StandardStreams;
+use crate::symbols::symbol_bytes;
 use crate::traces::TraceFiles;
 use asm_commands::{asm_command, check_command, dis_command};
 use clap::Error;
@@ -37,7 +39,7 @@ use observed_words::ObservedWords;
 use processor_threads::{Gate, Open};
 use run_command::{Progress, run_command, threaded_run_command, unlogged_run_command};
 use settings::{
-    Explore, Hunt, Lines, Replay, Run, Session, Settings, Sizes, TraceCommand, settings, status_of,
+    Explore, Hunt, Lines, Replay, Run, Session, Settings, Sizes, settings, status_of,
 };
 use std::alloc::{AllocError, Global};
 use std::env;
@@ -48,6 +50,7 @@ use std::rt::{Env, Files};
 use std::sync::Wait;
 use std::thread::Threads;
 use std::time::Clock;
+use symbol_table::SymbolTable;
 use trace_commands::{
     Order, Picture, Report, Stats, Story, TraceReport, lines_command, trace_command,
 };
@@ -57,15 +60,11 @@ use words_command::words_command;
 fn main(rt: HostRuntime) -> ExitCode {
     let (stdout, stderr) = (rt.stdout(), rt.stderr());
     let reason = Reason::new(None);
-    let mut out = Meter::new(Explained {
-        device: Output::new(rt.alloc(), io::writer(&stdout)),
-        reason: &reason,
-    });
     let status = carry_out(
         &rt,
         stderr.is_terminal(),
         &reason,
-        &mut out,
+        io::writer(&stdout),
         &mut io::writer(&stderr),
     );
     ExitCode::from(status)
@@ -74,19 +73,10 @@ fn main(rt: HostRuntime) -> ExitCode {
 /// Does what the command line asks for, and returns the exit status. `terminal` says whether standard error is a
 /// terminal. A call that fails leaves its error in `reason`.
 fn carry_out<
-    'r,
     R: Env + Files + Input + Net + Threads + Wait + Clock + Eprint + Print + Sync + AllocGlobal,
     W: Write,
     E: Write,
->(
-    rt: &R,
-    terminal: bool,
-    reason: &'r Reason,
-    out: &mut Meter<Explained<'r, Output<W>>>,
-    err: &mut E,
-) -> u8
-    requires works { ⟦<Meter<Explained<'r, Output<W>>> as Link>⟧.has_failed out.old ≡ false }
-{
+>(rt: &R, terminal: bool, reason: &Reason, stdout: W, err: &mut E) -> u8 {
     let arguments = match env::args(rt) {
         Ok(arguments) => arguments,
         Err(error) => return refuse_arguments(error.kind(), err),
@@ -95,12 +85,11 @@ fn carry_out<
     let Ok(arguments) = arguments.collect::<Vec<String>>(alloc) else {
         return report_fault(Fault::Memory, err);
     };
-    carry_out_words(rt, arguments.as_slice(), terminal, reason, out, err)
+    carry_out_words(rt, arguments.as_slice(), terminal, reason, stdout, err)
 }
 
 /// Does what the words of a command line ask for.
 fn carry_out_words<
-    'r,
     R: Files + Input + Net + Threads + Wait + Clock + Eprint + Print + Sync + AllocGlobal,
     W: Write,
     E: Write,
@@ -108,23 +97,55 @@ fn carry_out_words<
     rt: &R,
     arguments: &[String],
     terminal: bool,
-    reason: &'r Reason,
-    out: &mut Meter<Explained<'r, Output<W>>>,
+    reason: &Reason,
+    stdout: W,
     err: &mut E,
-) -> u8
-    requires works { ⟦<Meter<Explained<'r, Output<W>>> as Link>⟧.has_failed out.old ≡ false }
-{
+) -> u8 {
     let Ok(words) = texts(rt.alloc(), arguments) else {
         return report_fault(Fault::Memory, err);
     };
     match settings(rt.alloc(), words.as_slice()) {
-        Ok(settings) => {
-            if let Some(shapes) = shapes_of(&settings) {
-                out.device.device.print_json(shapes);
-            }
-            execute_and_report(rt, &settings, terminal, reason, out, err)
-        }
-        Err(error) => refuse_words(words.as_slice(), &error, reason, out, err),
+        Ok(settings) => execute_in_format(rt, &settings, terminal, reason, stdout, err),
+        Err(error) => refuse_words(words.as_slice(), &error, reason, stdout, err),
+    }
+}
+
+/// Does what settings ask for, and prints its lines in the format that they ask for.
+fn execute_in_format<
+    R: Files + Input + Net + Threads + Wait + Clock + Eprint + Print + Sync + AllocGlobal,
+    W: Write,
+    E: Write,
+>(
+    rt: &R,
+    settings: &Settings<'_>,
+    terminal: bool,
+    reason: &Reason,
+    stdout: W,
+    err: &mut E,
+) -> u8 {
+    let bytes = match symbol_bytes(rt, settings, reason) {
+        Ok(bytes) => bytes,
+        Err(refusal) => return refusal.report_fault(err),
+    };
+    let Ok(symbols) = symbols_in(rt.alloc(), &bytes) else {
+        return report_fault(Fault::Memory, err);
+    };
+    let format = format_of(settings, symbols);
+    let mut out = Meter::new(Explained {
+        device: Output::new(rt.alloc(), format, stdout),
+        reason,
+    });
+    execute_and_report(rt, settings, terminal, reason, &mut out, err)
+}
+
+/// The symbols of a file, if there is one.
+fn symbols_in(
+    alloc: Global,
+    file: &Option<Vec<u8>>,
+) -> Result<Option<SymbolTable<'_>>, AllocError> {
+    match file {
+        Some(bytes) => Ok(Some(SymbolTable::of_file(alloc, bytes.as_slice())?)),
+        None => Ok(None),
     }
 }
 
@@ -201,18 +222,16 @@ fn execute<
         Settings::Run(run) => run_file(rt, run, terminal, reason, out, err),
         Settings::Hunt(hunt) => hunt_file(rt, hunt, terminal, reason, out, err),
         Settings::Explore(explore) => explore_file(rt, explore, terminal, reason, out, err),
-        Settings::Trace(command, listing) => match command {
-            TraceCommand::Replay => tell_steps(rt, &listing.replay, &Report, reason, out, err),
-            TraceCommand::Stats => tell_steps(rt, &listing.replay, &Stats, reason, out, err),
-        },
-        Settings::Order(lines) => {
-            let choice = choice_of(lines);
-            tell_lines(rt, lines, &Order { choice }, reason, out, err)
+        Settings::Replay(report) => tell_steps(rt, &report.replay, &Report, reason, out, err),
+        Settings::Order(order) => {
+            let choice = choice_of(&order.lines);
+            tell_lines(rt, &order.lines, &Order { choice }, reason, out, err)
         }
         Settings::Story(lines) => {
             let choice = choice_of(lines);
             tell_lines(rt, lines, &Story { choice }, reason, out, err)
         }
+        Settings::Stats(counts) => tell_steps(rt, &counts.replay, &Stats, reason, out, err),
         Settings::Picture(asked) => {
             let picture = Picture {
                 step: asked.step,
@@ -670,11 +689,11 @@ fn refuse_arguments<E: Write>(kind: ErrorKind, err: &mut E) -> u8 {
 
 /// Reports why the command line is refused, in the words of its parser. Help and the version that were asked for go to
 /// standard output.
-fn refuse_words<W: LinkWrite, E: Write>(
+fn refuse_words<W: Write, E: Write>(
     words: &[&str],
     error: &Error,
     reason: &Reason,
-    out: &mut W,
+    stdout: W,
     err: &mut E,
 ) -> u8 {
     let status = status_of(words, error);
@@ -685,9 +704,13 @@ fn refuse_words<W: LinkWrite, E: Write>(
         let _ = write!(err, "{error}");
         return status;
     }
+    let mut out = Meter::new(Explained {
+        device: stdout,
+        reason,
+    });
     match write!(out, "{error}") {
         // The command line is the first fault, whether its text can be printed or not. The command `help` is none.
-        Err(_) if status == DONE => refuse_help(reason, out, err),
+        Err(_) if status == DONE => refuse_help(reason, &out, err),
         _ => status,
     }
 }

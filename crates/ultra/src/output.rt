@@ -1,39 +1,31 @@
-//! Standard output, to which lines go as they are or as JSON.
+//! Standard output, to which lines go in the format that is asked for.
 
-use json_lines::{JsonLines, Shape, shapes};
-use settings::{Settings, TraceCommand};
+use line_formats::{Format, FormattedLines, Shape, shapes};
+use settings::Settings;
 use std::alloc::Global;
 use std::io::{self, Write};
+use symbol_table::SymbolTable;
 
-/// A writer to which lines go as they are or as JSON. If there is no memory for an object, a write fails.
+/// A writer to which lines go in a format. If there is no memory for a line, a write fails. Lines as they are need none.
 #[derive(Drop)]
-pub(crate) struct Output<W: Write> {
-    lines: JsonLines<'static, W>,
-    is_json: bool,
+pub(crate) struct Output<'a, W: Write> {
+    lines: FormattedLines<Format<'a>, W>,
 }
 
-impl<W: Write> Output<W> {
-    /// A writer to the device, of lines as they are.
-    pub(crate) fn new(alloc: Global, device: W) -> Self {
+impl<'a, W: Write> Output<'a, W> {
+    /// A writer to the device, of lines in this format.
+    pub(crate) fn new(alloc: Global, format: Format<'a>, device: W) -> Self {
         Output {
-            lines: JsonLines::new(alloc, &[], device),
-            is_json: false,
+            lines: FormattedLines::new(alloc, format, device),
         }
     }
-
-    /// From now on, lines of these shapes go as JSON.
-    pub(crate) fn print_json(&mut self, shapes: &'static [Shape]) {
-        self.lines.shapes = shapes;
-        self.is_json = true;
-    }
 }
 
-impl<W: Write> Write for Output<W> {
+impl<W: Write> Write for Output<'_, W> {
     fn write(&mut self, buf: &[u8]) -> io::Result<usize> {
-        if self.is_json {
-            self.lines.write(buf)
-        } else {
-            self.lines.device.write(buf)
+        match self.lines.format {
+            Format::Plain => self.lines.device.write(buf),
+            _ => self.lines.write(buf),
         }
     }
 
@@ -42,18 +34,62 @@ impl<W: Write> Write for Output<W> {
     }
 }
 
-/// The shapes of the lines that are to be printed as JSON, if they are.
-pub(crate) fn shapes_of(settings: &Settings<'_>) -> Option<&'static [Shape]> {
-    match settings {
-        Settings::Check(check) if check.json => Some(shapes::mistakes()),
-        Settings::Run(run) if run.json => Some(shapes::report()),
-        Settings::Hunt(hunt) if hunt.json => Some(shapes::hunt()),
-        Settings::Explore(explore) if explore.json && explore.every => Some(shapes::sizes()),
-        Settings::Explore(explore) if explore.json => Some(shapes::results()),
-        Settings::Trace(TraceCommand::Replay, listing) if listing.json => Some(shapes::report()),
-        Settings::Trace(TraceCommand::Stats, listing) if listing.json => Some(shapes::counts()),
-        Settings::Order(lines) if lines.json => Some(shapes::order()),
-        Settings::Story(lines) if lines.json => Some(shapes::story()),
-        _ => None,
+/// How the lines of a command are to be printed.
+struct Asked {
+    /// As JSON.
+    json: bool,
+    /// With the ABI's names of registers, and with the targets of jumps and branches.
+    abi: bool,
+    /// The shapes of the lines.
+    shapes: &'static [Shape],
+}
+
+/// The format in which a command's lines are to be printed, with these names if there are any.
+pub(crate) fn format_of<'a>(
+    settings: &Settings<'_>,
+    symbols: Option<SymbolTable<'a>>,
+) -> Format<'a> {
+    if prints_csv(settings) {
+        return Format::Csv(shapes::counts());
     }
+    let Some(asked) = asked(settings) else {
+        return Format::Plain;
+    };
+    if asked.json {
+        return Format::Json(asked.shapes);
+    }
+    if symbols.is_none() && !asked.abi {
+        return Format::Plain;
+    }
+    Format::Named {
+        shapes: asked.shapes,
+        symbols,
+        disassembly: asked.abi,
+    }
+}
+
+/// Whether counts are to be printed as CSV.
+fn prints_csv(settings: &Settings<'_>) -> bool {
+    match settings {
+        Settings::Stats(counts) => counts.csv,
+        _ => false,
+    }
+}
+
+/// How a command's lines are to be printed, if that can be chosen.
+fn asked(settings: &Settings<'_>) -> Option<Asked> {
+    let (shapes, json, abi) = match settings {
+        Settings::Check(check) => (shapes::mistakes(), check.json, false),
+        Settings::Dis(dis) => (shapes::listing(), false, dis.abi),
+        Settings::Run(run) => (shapes::report(), run.json, false),
+        Settings::Hunt(hunt) => (shapes::hunt(), hunt.json, false),
+        Settings::Explore(explore) if explore.every => (shapes::sizes(), explore.json, false),
+        Settings::Explore(explore) => (shapes::results(), explore.json, false),
+        Settings::Replay(report) => (shapes::report(), report.json, false),
+        Settings::Stats(counts) => (shapes::counts(), counts.json, false),
+        Settings::Order(order) => (shapes::order(), order.lines.json, order.abi),
+        Settings::Story(lines) => (shapes::story(), lines.json, false),
+        _ => return None,
+    };
+    Some(Asked { json, abi, shapes })
 }

@@ -1,6 +1,7 @@
 //! Why a command does not begin.
 
 use crate::reports::{Place, report_place};
+use crate::symbols::MAX_SYMBOL_BYTES;
 use command_io::{Fault, REFUSED, report_fault};
 use std::io::{self, Write};
 
@@ -25,6 +26,10 @@ pub(crate) enum Refusal<'a> {
     InputTwice,
     /// A trace is to be written to standard output.
     PrintedTrace,
+    /// Lines are asked for as JSON and in another format.
+    Formats,
+    /// The file of symbols at this path is too long.
+    LongSymbols(&'a str),
 }
 
 impl Refusal<'_> {
@@ -44,6 +49,10 @@ impl Refusal<'_> {
             Refusal::Memory => report_fault(Fault::Memory, err),
             Refusal::InputTwice => refuse("standard input is asked for twice", err),
             Refusal::PrintedTrace => refuse("a trace is not written to standard output", err),
+            Refusal::Formats => {
+                refuse("--json goes with none of --symbols, --abi and --csv", err)
+            }
+            Refusal::LongSymbols(path) => refuse_symbols(path, err),
         }
     }
 }
@@ -57,6 +66,16 @@ fn refuse_list<E: Write>(list: &str, words: u32, err: &mut E) -> u8 {
         err,
         "error: invalid value '{list}' for '--observe <LIST>': not numbers and ranges in 0..={last}, the machine's shared \
          words (--words)"
+    );
+    REFUSED
+}
+
+/// Reports that a file of symbols is too long, and returns the exit status.
+fn refuse_symbols<E: Write>(path: &str, err: &mut E) -> u8 {
+    // If standard error fails too, the exit status alone reports it.
+    let _ = writeln!(
+        err,
+        "error: '{path}' has more than {MAX_SYMBOL_BYTES} bytes"
     );
     REFUSED
 }

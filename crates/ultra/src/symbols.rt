@@ -1,0 +1,88 @@
+//! The names that `--symbols` asks for.
+
+use crate::files::{STANDARD, open};
+use crate::refusal::Refusal;
+use crate::reports::Reason;
+use link::{Meter, ReadError, read_within};
+use settings::Settings;
+use std::io::{ErrorKind, Input};
+use std::rt::Files;
+
+/// The most bytes of a file of symbols.
+pub(crate) const MAX_SYMBOL_BYTES: usize = 1 << 24;
+
+/// The bytes of the file of symbols that a command is asked for, if it is asked for one.
+pub(crate) fn symbol_bytes<'a, R: Files + Input + AllocGlobal>(
+    rt: &R,
+    settings: &Settings<'a>,
+    reason: &Reason,
+) -> Result<Option<Vec<u8>>, Refusal<'a>> {
+    if has_two_formats(settings) {
+        return Err(Refusal::Formats);
+    }
+    let Some(path) = symbols_of(settings) else {
+        return Ok(None);
+    };
+    if path == STANDARD && reads_standard_input(settings) {
+        return Err(Refusal::InputTwice);
+    }
+    let mut file = Meter::new(open(rt, path, reason)?);
+    match read_within(rt.alloc(), &mut file, MAX_SYMBOL_BYTES) {
+        Ok(bytes) => Ok(Some(bytes)),
+        Err(ReadError::Link) => {
+            let error = reason.get().unwrap_or(ErrorKind::Other.into());
+            Err(Refusal::Closed(path, error))
+        }
+        Err(ReadError::Memory) => Err(Refusal::Memory),
+        Err(ReadError::TooLong) => Err(Refusal::LongSymbols(path)),
+    }
+}
+
+/// The file of symbols that a command is asked for.
+fn symbols_of<'a>(settings: &Settings<'a>) -> Option<&'a str> {
+    match settings {
+        Settings::Dis(dis) => dis.symbols,
+        Settings::Run(run) => run.symbols,
+        Settings::Hunt(hunt) => hunt.symbols,
+        Settings::Explore(explore) => explore.symbols,
+        Settings::Replay(report) => report.symbols,
+        Settings::Order(order) => order.lines.symbols,
+        Settings::Story(lines) => lines.symbols,
+        _ => None,
+    }
+}
+
+/// Whether lines are asked for as JSON and in another format.
+fn has_two_formats(settings: &Settings<'_>) -> bool {
+    let is_named = symbols_of(settings).is_some();
+    match settings {
+        Settings::Run(run) => run.json && is_named,
+        Settings::Hunt(hunt) => hunt.json && is_named,
+        Settings::Explore(explore) => explore.json && is_named,
+        Settings::Replay(report) => report.json && is_named,
+        Settings::Order(order) => order.lines.json && (is_named || order.abi),
+        Settings::Story(lines) => lines.json && is_named,
+        Settings::Stats(counts) => counts.json && counts.csv,
+        _ => false,
+    }
+}
+
+/// Whether a command that prints names reads standard input.
+fn reads_standard_input(settings: &Settings<'_>) -> bool {
+    match settings {
+        Settings::Dis(dis) => dis.file == STANDARD,
+        Settings::Run(run) => run.file == STANDARD,
+        Settings::Hunt(hunt) => hunt.file == STANDARD,
+        Settings::Explore(explore) => explore.file == STANDARD,
+        Settings::Replay(report) => {
+            report.replay.trace == STANDARD || report.replay.file == STANDARD
+        }
+        Settings::Order(order) => {
+            order.lines.replay.trace == STANDARD || order.lines.replay.file == STANDARD
+        }
+        Settings::Story(lines) => {
+            lines.replay.trace == STANDARD || lines.replay.file == STANDARD
+        }
+        _ => false,
+    }
+}
