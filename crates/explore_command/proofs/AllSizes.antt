@@ -1,26 +1,18 @@
--- The lines of one more size, and why a size is not explored.
-use Rattle.std.proofs.Common.{◌≡◌, inl, inr, ℕ, ◌+◌, ◌<◌, zero, suc, max, Bool, List, [], ◌∷◌, ◌++◌, length, Option, Some}
+-- The lines of one more size.
+use Rattle.std.proofs.Common.{◌≡◌, ℕ, ◌+◌, ◌<◌, zero, suc, max, Bool, List, [], ◌∷◌, ◌++◌, length, Option, Some}
 use Rattle.std.proofs.Common.{append_assoc, length-append, refl, sym, ap, subst, ◌∙◌, arith}
 use Rattle.std.specs.Prelude.{option_to_list, slice_get}
 use Rattle.std.specs.Io.KnownBytes.{Appends}
 use Rattle.std.specs.List.{flat_map}
 use Rattle.std.proofs.KnownBytes.{Appends-nil, Appends-trans}
 use Rattle.std.proofs.lemmas.List.{append-nil}
-use Rattle.elf_image.specs.Images.{ImageContents}
-use Rattle.elf_image.specs.Files.{IsImageOf}
 use Rattle.link.specs.Transfer.{AppendsPart, EndsInTheRest}
 use Rattle.command_io.specs.declared.fault.Fault.{Fault}
 use Rattle.command_io.specs.declared.fault.Fault.TheVariants as fault
-use Rattle.command_io.specs.ErrorOutputs.{ErrorOutput, errors_to}
-use Rattle.command_io.specs.Files.{IsFaultOfImage, IsFaultOfSize}
-use Rattle.command_io.specs.Links.{Output}
-use Rattle.machine_steps.specs.Machines.{MachineLists}
-use Rattle.machine_steps.specs.Openings.{flat_state}
-use Rattle.machine_steps.specs.Runs.{IsOpening}
-use Rattle.explore_command.specs.Causes.{IsNotSearched}
-use Rattle.explore_command.specs.Explorations.{Exploration, Problem, problem_of}
-use Rattle.explore_command.specs.Sizes.{AreReported, AreSizeReports, AreSizesReported, FailsBefore, FailsSize}
-use Rattle.explore_command.specs.Sizes.{FailsSizes, IsSizeLine, IsSizeRefused, IsSizeReport, PrintsFirst, PrintsSize, SizeReport}
+use Rattle.command_io.specs.ErrorOutputs.{errors_to}
+use Rattle.explore_command.specs.Explorations.{Problem}
+use Rattle.explore_command.specs.Sizes.{AreReported, AreSizeReports, AreSizesReported, FailsSize, FailsSizes}
+use Rattle.explore_command.specs.Sizes.{IsSizeLine, IsSizeReport, PrintsFirst, PrintsSize, SizeReport}
 use Rattle.explore_command.specs.Sizes.{faults_of, greatest_exit, lines_of, sizes, with_stages}
 
 -- ---- lists
@@ -147,83 +139,3 @@ module _ (p : Problem) where
       are = subst (λ (x : Option (List ℕ) × E). AreSizesReported p h.reports (Appends old x.0) (errors_to contents start x.1))
           (λ i. (sym why.0 i, sym why.1 i)) h.are;
     }
-
--- ---- why a size is not explored
-
--- If the size is refused, it is not explored, for the same fault.
-pub size_refuses : (p : Problem) (f : Fault) → IsFaultOfSize p.config f → IsSizeRefused p f
-size_refuses p (fault.Line number) why = absurd why
-size_refuses p (fault.Text e) why = absurd why
-size_refuses p fault.NotUtf8 why = absurd why
-size_refuses p (fault.Image e) why = absurd why
-size_refuses p (fault.Trace e) why = absurd why
-size_refuses p fault.Size why = why
-size_refuses p (fault.Stalled place) why = absurd why
-size_refuses p fault.Budget why = absurd why
-size_refuses p fault.Full why = absurd why
-size_refuses p fault.Loan why = absurd why
-size_refuses p fault.Start why = absurd why
-size_refuses p fault.States why = absurd why
-size_refuses p fault.Alone why = absurd why
-size_refuses p fault.Link why = absurd why
-size_refuses p fault.Memory why = tt
-
--- If the search gives up, the size is not explored, for the same fault.
-pub search_refuses : (p : Problem) (opening : MachineLists) (f : Fault) → IsOpening p.config p.image opening →
-    IsNotSearched (flat_state opening) p.asked.limit f → IsSizeRefused p f
-search_refuses p opening (fault.Line number) opens why = absurd why
-search_refuses p opening (fault.Text e) opens why = absurd why
-search_refuses p opening fault.NotUtf8 opens why = absurd why
-search_refuses p opening (fault.Image e) opens why = absurd why
-search_refuses p opening (fault.Trace e) opens why = absurd why
-search_refuses p opening fault.Size opens why = absurd why
-search_refuses p opening (fault.Stalled place) opens why = absurd why
-search_refuses p opening fault.Budget opens why = absurd why
-search_refuses p opening fault.Full opens why = absurd why
-search_refuses p opening fault.Loan opens why = absurd why
-search_refuses p opening fault.Start opens why = absurd why
-search_refuses p opening fault.States opens why = (opening, opens, why)
-search_refuses p opening fault.Alone opens why = (opening, opens)
-search_refuses p opening fault.Link opens why = absurd why
-search_refuses p opening fault.Memory opens why = tt
-
--- ---- why nothing more is printed
-
-module _ {E : Type 0} (e : Exploration) (out : Output) (err : ErrorOutput E) where
-  -- If the image is refused, the command fails with the same fault.
-  pub image_refuses : (f : Fault) → out.new ≡ out.old → err.new ≡ err.old → IsFaultOfImage e.config.shared_words e.file.bytes f →
-      FailsBefore e out err f
-  image_refuses (fault.Line number) unprinted quiet why = absurd why
-  image_refuses (fault.Text x) unprinted quiet why = absurd why
-  image_refuses fault.NotUtf8 unprinted quiet why = absurd why
-  image_refuses (fault.Image x) unprinted quiet why = ((unprinted, quiet), why)
-  image_refuses (fault.Trace x) unprinted quiet why = absurd why
-  image_refuses fault.Size unprinted quiet why = absurd why
-  image_refuses (fault.Stalled place) unprinted quiet why = absurd why
-  image_refuses fault.Budget unprinted quiet why = absurd why
-  image_refuses fault.Full unprinted quiet why = absurd why
-  image_refuses fault.Loan unprinted quiet why = absurd why
-  image_refuses fault.Start unprinted quiet why = absurd why
-  image_refuses fault.States unprinted quiet why = absurd why
-  image_refuses fault.Alone unprinted quiet why = absurd why
-  image_refuses fault.Link unprinted quiet why = absurd why
-  image_refuses fault.Memory unprinted quiet why = inl (unprinted, quiet)
-
-  -- If the lines are not all printed, the command fails with the same fault.
-  pub sizes_refuse : (image : ImageContents) (f : Fault) → IsImageOf e.config.shared_words e.file.bytes image →
-      FailsSizes (problem_of e.config image e.asked) out err f → FailsBefore e out err f
-  sizes_refuse image (fault.Line number) meant why = absurd why
-  sizes_refuse image (fault.Text x) meant why = absurd why
-  sizes_refuse image fault.NotUtf8 meant why = absurd why
-  sizes_refuse image (fault.Image x) meant why = absurd why
-  sizes_refuse image (fault.Trace x) meant why = absurd why
-  sizes_refuse image fault.Size meant why = absurd why
-  sizes_refuse image (fault.Stalled place) meant why = absurd why
-  sizes_refuse image fault.Budget meant why = absurd why
-  sizes_refuse image fault.Full meant why = absurd why
-  sizes_refuse image fault.Loan meant why = absurd why
-  sizes_refuse image fault.Start meant why = absurd why
-  sizes_refuse image fault.States meant why = absurd why
-  sizes_refuse image fault.Alone meant why = absurd why
-  sizes_refuse image fault.Link meant why = record { image = image; meant = meant; fails = why }
-  sizes_refuse image fault.Memory meant why = inr (record { image = image; meant = meant; fails = why })

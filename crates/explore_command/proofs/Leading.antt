@@ -1,7 +1,7 @@
 -- What steps lead to is what a machine leaves that has taken them again.
 use Rattle.std.proofs.Common.{◌≡◌, ℕ, zero, suc, ◌^◌, ◌<◌, ◌==◌, true, false, List, [], ◌∷◌, Option}
 use Rattle.std.proofs.Common.{Some, None, map, length, refl, sym, ap, ap₂, ◌∙◌, subst, arith}
-use Rattle.std.specs.Prelude.{Contains, slice_get, slice_index, slice_index_or, IsSomeAnd}
+use Rattle.std.specs.Prelude.{Contains, slice_get, slice_index_or, IsSomeAnd}
 use Rattle.std.specs.List.{range_with_len}
 use Rattle.std.proofs.lemmas.Bool.{ne_eqb}
 use Rattle.std.proofs.lemmas.Option.{slice_get-get_or}

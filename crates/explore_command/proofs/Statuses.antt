@@ -102,9 +102,6 @@ of_more start ps p o h =
 
 -- ---- results
 
-pub of_no_result : IsGreatestStatus [] None
-of_no_result s h = nothing_in h.0 h.2
-
 abbrev HasIn : FinalResult → Status → Type 0
 HasIn r s = (p : ProcessorResult) × Contains r.processors p × (p.status ≡ s)
 

@@ -28,7 +28,8 @@ use Rattle.explore_command.specs.declared.refused.Refused.TheVariants as refused
 use Rattle.explore_command.specs.Refusals.{HasWitness}
 use Rattle.trace_commands.specs.TraceReports.{HasPartSaved, TraceOutput}
 use Rattle.explore_command.specs.Explorations.{AreResultsOf, Exploration, IsWanted, PrintsSomeResults, Problem}
-use Rattle.explore_command.specs.Explorations.{SearchResult, count_of, marks_of, problem_of}
+use Rattle.explore_command.specs.Explorations.{SearchResult, marks_of, problem_of}
+use Rattle.observed_results.specs.Parts.{count_of}
 
 -- the exit status for a refusal
 abbrev pub status_of : Refused → ℕ

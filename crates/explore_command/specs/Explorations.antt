@@ -1,6 +1,6 @@
 -- What the command prints: from the bytes of a file to all final results of the program in it.
-use Rattle.std.specs.Prelude.{◌≡◌, ℕ, zero, suc, ◌<◌, ◌^◌, Bool, true, List, MatchOption, Option, Some, None, All}
-use Rattle.std.specs.Prelude.{length, option_map, slice_get}
+use Rattle.std.specs.Prelude.{◌≡◌, ℕ, ◌<◌, ◌^◌, Bool, true, List, MatchOption, Option, Some, None, All, length}
+use Rattle.std.specs.Prelude.{option_map}
 use Rattle.flat_machine.specs.declared.config.Config.{Config}
 use Rattle.elf_image.specs.Files.{IsImageOf}
 use Rattle.elf_image.specs.Images.{ImageContents}
@@ -20,7 +20,8 @@ use Rattle.exploration.specs.state_graph.Laws.{IsTerminationOf}
 use Rattle.explore_command.specs.declared.command.Asked.{Asked}
 use Rattle.trace_commands.specs.TraceReports.{HasSaved, TraceOutput}
 use Rattle.explore_command.specs.Witnesses.{IsWitness, target}
-use Rattle.explore_command.specs.Lines.{observed_of, observed_parts, parts_lines, results_lines}
+use Rattle.observed_results.specs.Lines.{observed_parts, parts_lines, results_lines}
+use Rattle.observed_results.specs.Parts.{HasPart}
 
 -- ---- what is found
 
@@ -99,22 +100,11 @@ pub record IsFound (p : Problem) (found : SearchResult) : Type 0 where
 abbrev pub marks_of : Asked → Option (List Bool)
 marks_of asked = option_map (λ words. words.now) asked.observed
 
--- how many results are printed: all of them, or, if words are chosen, the different observed parts
-abbrev pub count_of : (observed : Option (List Bool)) → List FinalResult → ℕ
-count_of None results = length results
-count_of (Some marks) results = length (observed_parts marks results)
-
 -- the lines of what is found: of the results, or, if words are chosen, of the different observed parts
 abbrev pub lines_of : (observed : Option (List Bool)) → SearchResult → List ℕ
 lines_of None found = results_lines found.results found.classes found.states found.termination
 lines_of (Some marks) found =
     parts_lines (observed_parts marks found.results) found.classes found.states found.termination
-
--- The result of this number, counted from 1, has the part of the wanted number; 0 is wanted by 0.
-abbrev pub HasPart : (marks : List Bool) → List FinalResult → (wanted number : ℕ) → Type 0
-HasPart marks results zero number = number ≡ 0
-HasPart marks results (suc part) number = (place : ℕ) × (r : FinalResult) × (number ≡ suc place)
-    × (slice_get results place ≡ Some r) × (slice_get (observed_parts marks results) part ≡ Some (observed_of marks r))
 
 -- ---- what is printed
 

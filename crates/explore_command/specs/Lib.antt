@@ -1,7 +1,5 @@
-pub mod Lines
 pub mod Explorations
 pub mod Causes
 pub mod Sizes
 pub mod Witnesses
 pub mod Refusals
-pub mod Parts

@@ -23,9 +23,10 @@ use Rattle.link.specs.Transfer.{AppendsPart}
 use Rattle.exploration.specs.local_reduction.Results.{FinalResult, ProcessorResult}
 use Rattle.exploration.specs.state_graph.declared.termination.Termination.{Termination}
 use Rattle.explore_command.specs.Causes.{HasTooMany, Opens}
-use Rattle.explore_command.specs.Explorations.{Exploration, IsExitOf, IsFound, Problem, SearchResult, count_of}
-use Rattle.explore_command.specs.Explorations.{marks_of, problem_of}
-use Rattle.explore_command.specs.Lines.{counted, schedules_text}
+use Rattle.explore_command.specs.Explorations.{Exploration, IsExitOf, IsFound, Problem, SearchResult, marks_of}
+use Rattle.explore_command.specs.Explorations.{problem_of}
+use Rattle.observed_results.specs.Lines.{counted, schedules_text}
+use Rattle.observed_results.specs.Parts.{count_of}
 
 -- ---- the greatest status
 

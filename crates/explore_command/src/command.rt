@@ -17,7 +17,7 @@ use exploration::SearchObserver;
 use flat_machine::Config;
 use itoa::Buffer;
 use link::{LinkRead, LinkWrite};
-use observed_words::ObservedWords;
+use observed_results::ObservedWords;
 use std::alloc::Global;
 use std::io::Write;
 

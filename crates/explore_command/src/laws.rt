@@ -5,7 +5,7 @@ ghost use Rattle.exploration.specs.Results.{IsMachineResult};
 ghost use Rattle.exploration.specs.local_reduction.Results.{FinalResult, StandsFor};
 ghost use Rattle.machine_steps.specs.Machines.{MachineLists};
 ghost use Rattle.explore_command.specs.Explorations.{AreResultsOf};
-ghost use Rattle.explore_command.specs.Lines.{observed_of, observed_parts};
+ghost use Rattle.observed_results.specs.Lines.{observed_of, observed_parts};
 
 /// Each observed part that is printed is that of a final result of the machine. For each final result, the part of one
 /// that stands for it is printed. No part is printed twice.
@@ -19,4 +19,6 @@ pub fn observed_parts_are_those_of_the_machine()
     ensures once { (results : List FinalResult) (marks : List Bool) (i j : ℕ) (text : List ℕ) →
         slice_get (observed_parts marks results) i ≡ Some text → slice_get (observed_parts marks results) j ≡ Some text
         → i ≡ j }
-{}
+{
+    observed_results::laws::observed_parts_are_those_of_results();
+}

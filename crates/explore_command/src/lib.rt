@@ -1,22 +1,19 @@
 //! `ultra explore`: from the bytes of an image to every final result of its program.
 //!
-//! The crate `exploration` finds the results. This crate makes the lines of all of them ([`results_text`]), and then
-//! prints them. [`explore_every_size`] prints a line for each size of a machine. If words are chosen, it makes the
-//! lines of the different observed parts of the results in place of the results.
+//! The crate `exploration` finds the results, and `observed_results` makes their lines, or, if words are chosen, those
+//! of their different observed parts. This crate prints them. [`explore_every_size`] prints a line for each size of a
+//! machine.
 //!
 //! If a trace is asked for, that of a witness is written before the lines. On a second machine, [`witness_of`] takes
 //! the path that the search has noted, and compares what is left with the result before it returns the steps. So the
 //! proof that the steps are a witness needs to know nothing about the path.
 #![tactic(auto)]
 
-mod classes;
 mod command;
 mod greatest;
 pub mod laws;
 mod left;
-mod lines;
 mod observing;
-mod parts;
 mod progress;
 mod refused;
 mod searching;
@@ -28,7 +25,6 @@ mod witness;
 
 pub use command::{Asked, explore_command};
 pub use exploration::{NoProgress, SearchObserver};
-pub use lines::results_text;
 pub use progress::SearchProgress;
 pub use refused::Refused;
 pub use sizes::explore_every_size;

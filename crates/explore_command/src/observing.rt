@@ -12,11 +12,10 @@ ghost use Rattle.trace_commands.specs.TraceReports.{IsWorking, trace_output};
 ghost use Rattle.explore_command.specs.Causes.{IsNotFound, IsNotLedTo, IsNotSearched};
 ghost use Rattle.explore_command.specs.Explorations.{AreExplored, AreResultsOf, IsWanted, IsWitnessed};
 ghost use Rattle.explore_command.specs.Explorations.{problem_of};
-ghost use Rattle.explore_command.specs.Parts.{AreParts, texts_of};
+ghost use Rattle.observed_results.specs.Parts.{AreParts};
 ghost use Rattle.trace_file.specs.Traces.{IsTrace, trace_of};
 
 use crate::command::Asked;
-use crate::parts::{Parts, parts_of, parts_text};
 use crate::refused::Refused;
 use crate::searching::{find_results, search_of};
 use crate::status::exit_status;
@@ -27,7 +26,7 @@ use flat_machine::Config;
 use link::LinkWrite;
 use machine_log::Logged;
 use machine_steps::Machine;
-use observed_words::ObservedWords;
+use observed_results::{ObservedWords, Parts, parts_of, parts_text};
 use std::alloc::Global;
 use trace_commands::save;
 
@@ -80,11 +79,11 @@ fn save_wanted<T: LinkWrite, G: SearchObserver>(
     requires all { AreResultsOf machine.now found.now.classes.items found.now.results.items }
     requires fact { IsTerminationOf (flat_state machine.now) found.now.termination }
     ensures saved { OnOk result ((marks : List Bool) →
-        AreParts marks found.now.results.items (texts_of parts.now.texts.keys) parts.now.firsts.items
+        AreParts marks found.now.results.items parts.now
         → IsWitnessed (Some marks) (problem_of config machine.now.image asked.entry) found.now.results.items
         (trace_output T.contents trace.old trace.new)) }
     ensures refused { IfErr result (λ refused. (marks : List Bool) →
-        AreParts marks found.now.results.items (texts_of parts.now.texts.keys) parts.now.firsts.items
+        AreParts marks found.now.results.items parts.now
         → IsNotFound (Some marks) (problem_of config machine.now.image asked.entry)
         (trace_output T.contents trace.old trace.new) refused) }
 {
@@ -111,11 +110,11 @@ fn wanted_log<G: SearchObserver>(
     requires all { AreResultsOf machine.now found.now.classes.items found.now.results.items }
     requires fact { IsTerminationOf (flat_state machine.now) found.now.termination }
     ensures wanted { IfOk result (λ log. (marks : List Bool) →
-        AreParts marks found.now.results.items (texts_of parts.now.texts.keys) parts.now.firsts.items
+        AreParts marks found.now.results.items parts.now
         → IsWanted (Some marks) (problem_of config machine.now.image asked.entry) found.now.results.items log.steps) }
     ensures trace { IfOk result (λ log. IsTrace (trace_of config log.steps)) }
     ensures refused { IfErr result (λ refused. (marks : List Bool) →
-        AreParts marks found.now.results.items (texts_of parts.now.texts.keys) parts.now.firsts.items
+        AreParts marks found.now.results.items parts.now
         → IsNotLedTo (Some marks) (problem_of config machine.now.image asked.entry) refused) }
 {
     if !has_witness(parts.count(), found.termination, asked.witness) {

@@ -17,7 +17,6 @@ ghost use Rattle.explore_command.specs.Refusals.{HasWitness, fault_of_search};
 ghost use Rattle.trace_commands.specs.TraceReports.{trace_output};
 
 use crate::command::Asked;
-use crate::lines::results_text;
 use crate::observing::explore_observed;
 use crate::refused::Refused;
 use crate::status::exit_status;
@@ -28,6 +27,7 @@ use exploration::{Explored, Refusal, Search, SearchObserver, explore};
 use flat_machine::Config;
 use link::LinkWrite;
 use machine_steps::Machine;
+use observed_results::results_text;
 use std::alloc::Global;
 use trace_commands::save;
 

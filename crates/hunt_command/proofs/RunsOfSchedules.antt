@@ -15,7 +15,7 @@ use Rattle.machine_log.specs.Logs.{IsWellFormed, Log}
 use Rattle.schedules.specs.Sweeps.{opened}
 use Rattle.schedules.specs.declared.sweeping.SweepEnd.{SweepEnd}
 use Rattle.command_io.specs.Tallies.{TallyState, nothing_shown}
-use Rattle.hunt_command.specs.Runs.{HasRunAtRandom, IsRandomRun, WasAsked}
+use Rattle.hunt_command.specs.Runs.{HasRunAtRandom, WasAsked}
 use Rattle.hunt_command.specs.Schedules.{schedule}
 use Rattle.hunt_command.specs.Hunts.{IsDrainedTo, IsLogOf, IsResultOf}
 

@@ -1,6 +1,6 @@
 -- The lines of a run's result.
 use Rattle.std.specs.Prelude.{ℕ, zero, suc, ◌^◌, Bool, true, false, List, [], ◌++◌, Option, Some, None, codes}
-use Rattle.std.specs.Prelude.{slice_index_or, if◌then◌else◌}
+use Rattle.std.specs.Prelude.{slice_index_or}
 use Rattle.std.specs.Fmt.{decimal}
 use Rattle.flat_machine.specs.declared.event.Status.{Status}
 use Rattle.machine_steps.specs.Machines.{MachineLists}
@@ -9,10 +9,10 @@ use Rattle.machine_steps.specs.Standing.{processor_of}
 use Rattle.schedules.specs.declared.sweeping.SweepEnd.{SweepEnd}
 use Rattle.schedules.specs.declared.sweeping.SweepEnd.TheVariants.{Over, Budget}
 use Rattle.command_io.specs.Digits.{hex_of_word, line_feed, status_text}
-use Rattle.command_io.specs.Lines.{console_text, word_lines}
+use Rattle.command_io.specs.Lines.{console_text}
 use Rattle.command_io.specs.Tallies.{ShownBy, nothing_shown}
 use Rattle.trace_commands.specs.Reports.{shared_lines}
-use Rattle.observed_words.specs.Lists.{observes}
+use Rattle.observed_results.specs.Lines.{observed_line}
 
 -- how a run ended
 abbrev pub end_line : SweepEnd → List ℕ
@@ -35,10 +35,6 @@ abbrev pub outcome_lines : (has_pc : Bool) → MachineLists → List ShownBy →
 outcome_lines has_pc m shown zero = []
 outcome_lines has_pc m shown (suc p) = outcome_lines has_pc m shown p
     ++ outcome_line has_pc p (processor_of m p).pc (processor_of m p).status (slice_index_or shown p nothing_shown)
-
--- the line of a word; a word that is zero or is not observed has none
-abbrev pub observed_line : (marks : List Bool) → (number word : ℕ) → List ℕ
-observed_line marks number word = if observes marks number then word_lines number word else []
 
 -- the lines of those of the first shared words that are observed: of all, or, if words are chosen, of these
 abbrev pub observed_lines : (observed : Option (List Bool)) → MachineLists → (count : ℕ) → List ℕ

@@ -20,7 +20,7 @@ use command_io::{DONE, Fault, REFUSED, STOPPED_BY_FAULT, image_of, print, report
 use elf_image::{Image, ImageError};
 use flat_machine::Config;
 use link::{LinkRead, LinkWrite};
-use observed_words::ObservedWords;
+use observed_results::ObservedWords;
 use std::alloc::Global;
 use std::io::Write;
 

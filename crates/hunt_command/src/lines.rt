@@ -7,13 +7,13 @@ ghost use Rattle.command_io.specs.Tallies.{nothing_shown};
 ghost use Rattle.machine_steps.specs.Machines.{AreHome};
 ghost use Rattle.machine_steps.specs.machine_theory.Processors.{word_at};
 ghost use Rattle.machine_steps.specs.Standing.{processor_of};
-ghost use Rattle.hunt_command.specs.Lines.{end_line, observed_line, observed_lines, outcome_line, outcome_lines};
-ghost use Rattle.hunt_command.specs.Lines.{pc_text, result_of};
+ghost use Rattle.hunt_command.specs.Lines.{end_line, observed_lines, outcome_line, outcome_lines, pc_text, result_of};
+ghost use Rattle.observed_results.specs.Lines.{observed_line};
 
 use command_io::{Shown, Tally, push_console, push_shared_word, push_status, push_word};
 use flat_machine::Status;
 use machine_steps::Machine;
-use observed_words::ObservedWords;
+use observed_results::ObservedWords;
 use schedules::SweepEnd;
 use std::alloc::{AllocError, Global};
 use std::fmt::Write;

@@ -17,7 +17,7 @@ use elf_image::Image;
 use flat_machine::Config;
 use machine_log::{Logged, laws};
 use machine_steps::Machine;
-use observed_words::ObservedWords;
+use observed_results::ObservedWords;
 use schedules::SweepEnd;
 use std::alloc::Global;
 use trace_commands::{drain_counted, exit_status};

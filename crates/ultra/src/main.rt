@@ -35,7 +35,7 @@ use flat_machine::Config;
 use hunt_command::{Hunt as Hunted, HuntProgress, NoHuntProgress, hunt_command};
 use link::{Link, LinkRead, LinkWrite, Meter};
 use machine_picture::Svg;
-use observed_words::ObservedWords;
+use observed_results::ObservedWords;
 use processor_threads::{Gate, Open};
 use run_command::{Progress, run_command, threaded_run_command, unlogged_run_command};
 use settings::{

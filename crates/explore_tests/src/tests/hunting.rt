@@ -8,7 +8,7 @@ mod devices;
 use flat_machine::Config;
 use hunt_command::{Hunt, HuntObserver, Traces, UNEXPECTED, UNFINISHED, hunt_command};
 use link::Meter;
-use observed_words::ObservedWords;
+use observed_results::ObservedWords;
 use std::alloc::{AllocError, AllocGlobal, Global};
 use std::io::Write;
 use std::process::Abort;

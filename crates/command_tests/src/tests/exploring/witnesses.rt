@@ -3,7 +3,7 @@
 use super::{config_of, each, up_to_exchanges};
 use explore_command::{Asked, NoProgress, explore_command};
 use link::Meter;
-use observed_words::ObservedWords;
+use observed_results::ObservedWords;
 use std::alloc::Global;
 use std::process::Abort;
 use std::test::Fail;

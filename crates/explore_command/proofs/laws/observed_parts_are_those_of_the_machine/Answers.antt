@@ -1,11 +1,22 @@
-use Rattle.explore_command.proofs.PartLaws.{parts_of_machine, part_of_each, parts_once}
+use Rattle.std.proofs.Common.{List, ℕ, refl}
+use Rattle.exploration.specs.local_reduction.Results.{FinalResult, StandsFor}
 use Rattle.explore_command.proofs.laws.observed_parts_are_those_of_the_machine.Goals as goal
 
+-- A result stands for itself.
+stands_for_itself : (classes : List ℕ) (r : FinalResult) → StandsFor classes r r
+stands_for_itself classes r = (
+  record { place = λ k. k; taker = λ k. k; taken = λ i. refl; takes = λ k. refl; alike = λ k. refl },
+  record { words = refl; each = λ k. refl },
+)
+
 pub returns-clause-sound : goal.returns-clause-sound
-returns-clause-sound c = λ m classes results marks text all inside. parts_of_machine marks m classes results text all inside
+returns-clause-sound c = λ m classes results marks text all inside.
+    let x = c.observed_parts_are_those_of_results.ensures.sound results marks text inside in
+    (x.0, all.stand.sound x.0 x.0 x.1 (stands_for_itself classes x.0), x.2)
 
 pub returns-clause-complete : goal.returns-clause-complete
-returns-clause-complete c = λ m classes results marks q all one. part_of_each marks m classes results q all one
+returns-clause-complete c = λ m classes results marks q all one.
+    let x = all.stand.complete q one in (x.0, x.2, c.observed_parts_are_those_of_results.ensures.complete results marks x.0 x.1)
 
 pub returns-clause-once : goal.returns-clause-once
-returns-clause-once c = λ results marks i j text h k. parts_once marks results i j text h k
+returns-clause-once c = c.observed_parts_are_those_of_results.ensures.once

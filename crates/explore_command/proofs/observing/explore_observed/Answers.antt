@@ -1,28 +1,23 @@
-use Rattle.std.proofs.Common.{◌<◌, ◌^◌, Some, not, subst, ap, ◌∙◌}
+use Rattle.std.proofs.Common.{◌<◌, ◌^◌, not, subst, ap, ◌∙◌}
 use Rattle.std.proofs.lemmas.Result.{err_from_is_err_and}
 use Rattle.flat_machine.specs.declared.config.Config.{Config}
 use Rattle.exploration.specs.Endings.{AreSingle}
-use Rattle.exploration.specs.local_reduction.Results.{FinalResult}
 use Rattle.explore_command.specs.Explorations.{IsExitOf}
-use Rattle.explore_command.specs.Lines.{parts_lines}
-use Rattle.explore_command.specs.Parts.{AreParts, texts_of}
+use Rattle.observed_results.specs.Lines.{parts_lines}
+use Rattle.observed_results.specs.Parts.{AreParts}
 use Rattle.explore_command.proofs.observing.explore_observed.Goals as goal
 
 pub returns-in_err-save_wanted-clause-refused : goal.returns-in_err-save_wanted-clause-refused
 returns-in_err-save_wanted-clause-refused g c =
     let p = err_from_is_err_and c.from_residual-in_err-save_wanted.result c.from_residual-in_err-save_wanted.ensures.1 in
-    let kept = c.in_ok-parts.parts in
-    let parts = subst (λ rs. AreParts c.args.words.now rs (texts_of kept.texts.keys) kept.firsts.items) c.as_slice-results.ensures.value
-    c.in_ok-parts.ensures in
+    let parts = subst (λ rs. AreParts c.args.words.now rs c.in_ok-parts.parts) c.as_slice-results.ensures.value c.in_ok-parts.ensures in
     rw (p.1, p.2) (c.in_err-save_wanted.ensures.refused c.args.words.now parts)
 
 pub returns-clause-lines : goal.returns-clause-lines
 returns-clause-lines g c =
     let found = c.in_ok-found.found in
     let marks = c.args.words.now in
-    let kept = c.in_ok-parts.parts in
-    let parts = subst (λ rs. AreParts marks rs (texts_of kept.texts.keys) kept.firsts.items) c.as_slice-results.ensures.value
-    c.in_ok-parts.ensures in
+    let parts = subst (λ rs. AreParts marks rs c.in_ok-parts.parts) c.as_slice-results.ensures.value c.in_ok-parts.ensures in
     record {
       found = record { classes = found.classes.items; results = found.results.items; termination = found.termination; states = found.states };
       is = record {

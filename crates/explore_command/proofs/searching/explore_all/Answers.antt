@@ -4,7 +4,7 @@ use Rattle.exploration.specs.Endings.{AreSingle}
 use Rattle.exploration.specs.local_reduction.Results.{FinalResult}
 use Rattle.explore_command.specs.Explorations.{IsExitOf, IsWitnessed, problem_of}
 use Rattle.trace_commands.specs.TraceReports.{trace_output}
-use Rattle.explore_command.specs.Lines.{results_lines}
+use Rattle.observed_results.specs.Lines.{results_lines}
 use Rattle.explore_command.proofs.searching.explore_all.Goals as goal
 
 pub returns-clause-lines : goal.returns-clause-lines

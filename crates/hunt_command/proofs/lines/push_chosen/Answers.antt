@@ -1,7 +1,8 @@
 use native.Mathlib.Numerals.{unary_clauses}
 use Rattle.std.proofs.Common.{◌++◌, ◌∙◌, List, ℕ, Some, ap, append_assoc, string_bytes}
 use Rattle.machine_steps.specs.machine_theory.Processors.{word_at}
-use Rattle.hunt_command.specs.Lines.{observed_line, observed_lines}
+use Rattle.hunt_command.specs.Lines.{observed_lines}
+use Rattle.observed_results.specs.Lines.{observed_line}
 use Rattle.hunt_command.proofs.lines.push_chosen.Goals as goal
 
 pub loop-number-preserved : goal.loop-number-preserved

@@ -1,7 +1,0 @@
-use Rattle.std.proofs.Common.{◌≡◌}
-use Rattle.std.specs.Prelude.{string_bytes}
-use Rattle.explore_command.specs.Lines.{first_lines}
-use Rattle.explore_command.proofs.lines.results_text.Given as goal
-
-abbrev pub invariant-loop-place : goal.invariant-loop-place
-invariant-loop-place l = string_bytes l.text ≡ first_lines l.results l.place

@@ -1,0 +1,4 @@
+pub mod Listing
+pub mod Words
+pub mod ObservedParts
+pub mod PartLaws

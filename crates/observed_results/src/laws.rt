@@ -1,0 +1,17 @@
+//! What observed parts say of results, as the contract of a function that does nothing.
+
+ghost use Rattle.std.specs.Prelude.{◌≡◌, ℕ, Bool, Contains, List, Some, slice_get};
+ghost use Rattle.exploration.specs.local_reduction.Results.{FinalResult};
+ghost use Rattle.observed_results.specs.Lines.{observed_of, observed_parts};
+
+/// Each observed part is that of one of the results, the part of each result is there, and no part is there twice.
+pub fn observed_parts_are_those_of_results()
+    ensures sound { (results : List FinalResult) (marks : List Bool) (text : List ℕ) →
+        Contains (observed_parts marks results) text →
+        (r : FinalResult) × Contains results r × (text ≡ observed_of marks r) }
+    ensures complete { (results : List FinalResult) (marks : List Bool) (r : FinalResult) → Contains results r →
+        Contains (observed_parts marks results) (observed_of marks r) }
+    ensures once { (results : List FinalResult) (marks : List Bool) (i j : ℕ) (text : List ℕ) →
+        slice_get (observed_parts marks results) i ≡ Some text → slice_get (observed_parts marks results) j ≡ Some text
+        → i ≡ j }
+{}

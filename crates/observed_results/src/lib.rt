@@ -1,0 +1,17 @@
+//! Final results as they are printed, whole or by chosen shared words.
+//!
+//! A list such as `0-3,8` names a set of shared words ([`ObservedWords`]). A result that is observed by such a set has
+//! only these words. So results that differ in other words have one *observed part*. [`results_text`] makes the lines
+//! of results, and [`parts_text`] those of their different observed parts.
+#![tactic(auto)]
+
+mod classes;
+mod items;
+pub mod laws;
+mod lines;
+mod observed;
+mod parts;
+
+pub use lines::{push_count, push_schedules, results_text};
+pub use observed::ObservedWords;
+pub use parts::{Parts, count_of, parts_of, parts_text};
