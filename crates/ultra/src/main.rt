@@ -16,7 +16,7 @@ use crate::files::{
     STANDARD, open, open_beside, open_beside_trace, open_image, read_once, trace_to, writer_to,
 };
 use crate::loopback_port::LoopbackPort;
-use crate::output::{Output, shapes_of};
+use crate::output::{NoNames, Output, shapes_of};
 use crate::refusal::{Refusal, refuse};
 use crate::reports::{Explained, Place, Reason, Reports, place_of, report_place};
 use crate::standard_streams::StandardStreams;
@@ -82,10 +82,10 @@ fn carry_out<
     rt: &R,
     terminal: bool,
     reason: &'r Reason,
-    out: &mut Meter<Explained<'r, Output<W>>>,
+    out: &mut Meter<Explained<'r, Output<NoNames, W>>>,
     err: &mut E,
 ) -> u8
-    requires works { ⟦<Meter<Explained<'r, Output<W>>> as Link>⟧.has_failed out.old ≡ false }
+    requires works { ⟦<Meter<Explained<'r, Output<NoNames, W>>> as Link>⟧.has_failed out.old ≡ false }
 {
     let arguments = match env::args(rt) {
         Ok(arguments) => arguments,
@@ -109,10 +109,10 @@ fn carry_out_words<
     arguments: &[String],
     terminal: bool,
     reason: &'r Reason,
-    out: &mut Meter<Explained<'r, Output<W>>>,
+    out: &mut Meter<Explained<'r, Output<NoNames, W>>>,
     err: &mut E,
 ) -> u8
-    requires works { ⟦<Meter<Explained<'r, Output<W>>> as Link>⟧.has_failed out.old ≡ false }
+    requires works { ⟦<Meter<Explained<'r, Output<NoNames, W>>> as Link>⟧.has_failed out.old ≡ false }
 {
     let Ok(words) = texts(rt.alloc(), arguments) else {
         return report_fault(Fault::Memory, err);

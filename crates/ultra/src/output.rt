@@ -1,44 +1,66 @@
-//! Standard output, to which lines go as they are or as JSON.
+//! Standard output, to which lines go in a format.
 
-use json_lines::{JsonLines, Shape, shapes};
+use line_formats::{Format, FormattedLines, Names, Places, Shape, shapes};
 use settings::{Settings, TraceCommand};
 use std::alloc::Global;
 use std::io::{self, Write};
 
-/// A writer to which lines go as they are or as JSON. If there is no memory for an object, a write fails.
+/// A writer to which bytes go as they are, or lines in a format, perhaps with names from a table of type P. If there is
+/// no memory for the text of a line, a write fails.
 #[derive(Drop)]
-pub(crate) struct Output<W: Write> {
-    lines: JsonLines<'static, W>,
-    is_json: bool,
+pub(crate) struct Output<P: Places, W: Write> {
+    lines: FormattedLines<Format<P>, W>,
 }
 
-impl<W: Write> Output<W> {
-    /// A writer to the device, of lines as they are.
+impl<P: Places + Drop, W: Write> Output<P, W> {
+    /// A writer to the device, of bytes as they are.
     pub(crate) fn new(alloc: Global, device: W) -> Self {
         Output {
-            lines: JsonLines::new(alloc, &[], device),
-            is_json: false,
+            lines: FormattedLines::new(alloc, Format::Plain, device),
         }
     }
 
     /// From now on, lines of these shapes go as JSON.
     pub(crate) fn print_json(&mut self, shapes: &'static [Shape]) {
-        self.lines.shapes = shapes;
-        self.is_json = true;
+        self.lines.format = Format::Json(shapes);
+    }
+
+    /// From now on, the numbers of lines of these shapes go as comma-separated values.
+    pub(crate) fn print_csv(&mut self, shapes: &'static [Shape]) {
+        self.lines.format = Format::Csv(shapes);
+    }
+
+    /// From now on, lines go with names.
+    pub(crate) fn print_names(&mut self, names: Names<'static, P>) {
+        self.lines.format = Format::Named(names);
     }
 }
 
-impl<W: Write> Write for Output<W> {
+impl<P: Places, W: Write> Write for Output<P, W> {
     fn write(&mut self, buf: &[u8]) -> io::Result<usize> {
-        if self.is_json {
-            self.lines.write(buf)
-        } else {
-            self.lines.device.write(buf)
+        match self.lines.format {
+            // Bytes may be no lines, as those of an image.
+            Format::Plain => self.lines.device.write(buf),
+            _ => self.lines.write(buf),
         }
     }
 
     fn flush(&mut self) -> io::Result<()> {
         self.lines.device.flush()
+    }
+}
+
+/// A table without names.
+#[derive(Drop)]
+pub(crate) struct NoNames;
+
+impl Places for NoNames {
+    ghost use Rattle.std.specs.Prelude.{None};
+
+    ghost place = { λ names address. None };
+
+    fn place(&self, _address: u32) -> Option<(&str, u32)> {
+        None
     }
 }
 
