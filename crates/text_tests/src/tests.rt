@@ -7,8 +7,8 @@ mod disassembling;
 mod door;
 mod fault_lists;
 mod fault_texts;
+mod formats;
 mod lines;
-mod objects;
 mod printing;
 
 use assembler::{AsmError, assemble};

@@ -1,6 +1,6 @@
 //! Standard output, to which lines go in the format that is asked for.
 
-use line_formats::{Format, FormattedLines, Shape, shapes};
+use line_formats::{Format, FormattedLines, Names, Shape, shapes};
 use settings::Settings;
 use std::alloc::Global;
 use std::io::{self, Write};
@@ -9,12 +9,12 @@ use symbol_table::SymbolTable;
 /// A writer to which lines go in a format. If there is no memory for a line, a write fails. Lines as they are need none.
 #[derive(Drop)]
 pub(crate) struct Output<'a, W: Write> {
-    lines: FormattedLines<Format<'a>, W>,
+    lines: FormattedLines<Format<SymbolTable<'a>>, W>,
 }
 
 impl<'a, W: Write> Output<'a, W> {
     /// A writer to the device, of lines in this format.
-    pub(crate) fn new(alloc: Global, format: Format<'a>, device: W) -> Self {
+    pub(crate) fn new(alloc: Global, format: Format<SymbolTable<'a>>, device: W) -> Self {
         Output {
             lines: FormattedLines::new(alloc, format, device),
         }
@@ -48,7 +48,7 @@ struct Asked {
 pub(crate) fn format_of<'a>(
     settings: &Settings<'_>,
     symbols: Option<SymbolTable<'a>>,
-) -> Format<'a> {
+) -> Format<SymbolTable<'a>> {
     if prints_csv(settings) {
         return Format::Csv(shapes::counts());
     }
@@ -61,11 +61,10 @@ pub(crate) fn format_of<'a>(
     if symbols.is_none() && !asked.abi {
         return Format::Plain;
     }
-    Format::Named {
+    Format::Named(Names {
         shapes: asked.shapes,
-        symbols,
-        disassembly: asked.abi,
-    }
+        places: symbols,
+    })
 }
 
 /// Whether counts are to be printed as CSV.

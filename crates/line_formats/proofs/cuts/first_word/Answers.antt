@@ -1,0 +1,8 @@
+use Rattle.line_formats.proofs.Cutting.{first_of, rest_shorter}
+use Rattle.line_formats.proofs.cuts.first_word.Goals as goal
+
+pub returns-clause-words : goal.returns-clause-words
+returns-clause-words c = first_of c.args.text.now c.split_once.result c.split_once.ensures.cases
+
+pub returns-clause-shorter : goal.returns-clause-shorter
+returns-clause-shorter c = rest_shorter c.args.text.now c.split_once.result c.split_once.ensures.cases

@@ -1,0 +1,11 @@
+pub mod Cuts
+pub mod Fields
+pub mod Found
+pub mod Shapes
+pub mod Lines
+pub mod Parts
+pub mod Numbers
+pub mod Places
+pub mod Names
+pub mod Csv
+pub mod Formats

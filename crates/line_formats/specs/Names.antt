@@ -1,0 +1,52 @@
+-- Lines with the names of their addresses.
+use Rattle.std.specs.Prelude.{ℕ, ◌+◌, ◌*◌, ◌^◌, ◌||◌, nat_lt, Bool, List, [], ◌++◌, Option, Some, None, bytes_eq, codes}
+use Rattle.std.specs.Prelude.{flat_map, if◌then◌else◌, option_and_then}
+use Rattle.std.specs.Option.{option_map_or}
+use Rattle.line_formats.specs.Numbers.{decimal_value, word_value}
+use Rattle.line_formats.specs.Parts.{cuts_of, shape_of}
+use Rattle.line_formats.specs.Places.{NamedPlace, bracketed}
+use Rattle.line_formats.specs.declared.shape.Kind.{Kind}
+use Rattle.line_formats.specs.declared.shape.Kind.TheVariants as kinds
+use Rattle.line_formats.specs.declared.shape.Part.{Part}
+use Rattle.line_formats.specs.declared.shape.Part.TheVariants as part
+use Rattle.line_formats.specs.declared.shape.Shape.{Shape}
+
+-- ---- addresses
+
+-- the address of the shared word with this number, if it has one
+abbrev pub address_of_number : ℕ → Option ℕ
+address_of_number number = if nat_lt number (2 ^ 29) then Some (0x8000_0000 + 4 * number) else None
+
+-- the address of the shared word whose number is this text
+abbrev pub address_of_word : List ℕ → Option ℕ
+address_of_word text = option_and_then address_of_number (decimal_value text)
+
+-- whether a field of this name has an address
+abbrev pub is_address : (name : List ℕ) → Bool
+is_address name = bytes_eq name (codes "pc") || bytes_eq name (codes "address")
+
+-- ---- lines
+
+-- what is printed after a field: the place of its address, or of its shared word
+abbrev pub place_after : (place : ℕ → Option NamedPlace) → (name : List ℕ) → Kind → (text : List ℕ) → List ℕ
+place_after place name kinds.Word text =
+    if is_address name then bracketed (codes " <") (codes ">") (option_and_then place (word_value text)) else []
+place_after place name kinds.Number text =
+    if bytes_eq name (codes "word")
+    then bracketed (codes " (") (codes ")") (option_and_then place (address_of_word text))
+    else []
+place_after place name other text = []
+
+-- a part as it stands, and the place of its field
+abbrev pub named_part : (place : ℕ → Option NamedPlace) → Part → (text : List ℕ) → List ℕ
+named_part place (part.Literal word) text = word.now
+named_part place (part.Field word name kind) text = word.now ++ text ++ place_after place name.now kind text
+
+-- a line that has these parts, with names
+abbrev pub named_parts : (place : ℕ → Option NamedPlace) → List (Part × List ℕ) → List ℕ
+named_parts place cuts = flat_map (λ c. named_part place c.0 c.1) cuts
+
+-- A line with names, by the first of these shapes that it has. A line that has none goes as it is.
+unfoldable pub named_line : (place : ℕ → Option NamedPlace) → List Shape → (line : List ℕ) → List ℕ
+named_line place shapes line =
+    option_map_or (λ s. named_parts place (cuts_of s.1.now line)) (shape_of shapes line) line

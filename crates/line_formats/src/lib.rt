@@ -1,0 +1,37 @@
+//! The formats in which lines that commands print can go out.
+//!
+//! A line has one of the shapes of its command ([`shapes`]): words, and fields between them. A format ([`LineFormat`])
+//! says what is printed for a line, by the first of these shapes that it has:
+//!
+//! - [`Json`]: the object of the line, with its kind and then its fields, in the order of the line. A line that has
+//!   none of the shapes is an object too, of kind `text`, so that no line is lost. `specs/Shapes.antt` says which object
+//!   a line has.
+//! - [`Csv`]: a row for each number of the line (`specs/Csv.antt`).
+//! - [`Names`]: the line, and after each address and each number of a shared word the name of the place, from a table
+//!   ([`Places`]; `specs/Names.antt`).
+//!
+//! [`FormattedLines`] is a writer that passes on, for each line that is written to it, what a format prints for it.
+//! [`Format`] is a format that is chosen while the program runs.
+#![tactic(auto)]
+
+mod csv;
+mod cuts;
+mod fields;
+mod format;
+pub mod laws;
+mod lines;
+mod names;
+mod numbers;
+mod objects;
+mod parts;
+mod places;
+mod shape;
+pub mod shapes;
+
+pub use csv::Csv;
+pub use format::{Format, Json, LineFormat};
+pub use lines::FormattedLines;
+pub use names::Names;
+pub use objects::object_text;
+pub use places::Places;
+pub use shape::{Kind, Part, Shape};

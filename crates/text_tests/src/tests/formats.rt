@@ -1,0 +1,222 @@
+//! The formats of lines: what they print for some lines.
+
+use line_formats::{Csv, FormattedLines, Json, LineFormat, Names, Places, Shape, shapes};
+use std::alloc::Global;
+use std::io::Write;
+use std::process::Abort;
+use std::test::Fail;
+use test_support::assert_same;
+
+/// Whether a line that is written in two parts is passed on as this text.
+// The shapes are an argument, so that no proof computes with their table.
+fn passes_on<F: LineFormat + Drop, R: Abort>(
+    rt: &R,
+    alloc: Global,
+    format: F,
+    line: &str,
+    text: &str,
+) -> Result<(), Fail> {
+    let mut lines = FormattedLines::new(alloc, format, Vec::new(alloc));
+    let bytes = line.as_bytes();
+    let middle = bytes.len() / 2;
+    lines.write_all(&bytes[..middle])?;
+    lines.write_all(&bytes[middle..])?;
+    lines.write_all(b"\n")?;
+    assert_same!(rt; lines.device.as_slice(), text.as_bytes(), line);
+    Ok(())
+}
+
+/// Whether a line is passed on as this object.
+fn has_object<R: Abort>(
+    rt: &R,
+    alloc: Global,
+    shapes: &[Shape],
+    line: &str,
+    object: &str,
+) -> Result<(), Fail> {
+    let text = format!(in alloc; "{object}\n")?;
+    passes_on(rt, alloc, Json(shapes), line, text.as_str())
+}
+
+/// A line of a report, one that none has, an empty one, and bytes that JSON escapes.
+#[test]
+fn lines_of_reports_have_objects(rt: HostRuntime) -> Result<(), Fail> {
+    for (line, object) in [
+        ("word 3 0000002a", r#"{"kind":"word","word":3,"value":42}"#),
+        (
+            "word 3 0000002A",
+            r#"{"kind":"text","text":"word 3 0000002A"}"#,
+        ),
+        ("", r#"{"kind":"text","text":""}"#),
+        ("Ä\t", r#"{"kind":"text","text":"Ä\t"}"#),
+    ] {
+        has_object(&rt, rt.alloc(), shapes::report(), line, object)?;
+    }
+    Ok(())
+}
+
+/// Numbers before nouns, a list of groups, and a mistake with quotes in it.
+#[test]
+fn other_lines_have_objects(rt: HostRuntime) -> Result<(), Fail> {
+    let alloc = rt.alloc();
+    let results = shapes::results();
+    let object = r#"{"kind":"results","results":2,"states":1}"#;
+    has_object(&rt, alloc, results, "2 results, 1 state", object)?;
+    let object = r#"{"kind":"text","text":"1 results, 2 states"}"#;
+    has_object(&rt, alloc, results, "1 results, 2 states", object)?;
+    let object = r#"{"kind":"module","module":3,"serves":9,"groups":[[1,5],[4,1]]}"#;
+    has_object(
+        &rt,
+        alloc,
+        shapes::counts(),
+        "module 3 serves 9 1x5 4x1",
+        object,
+    )?;
+    let line = r#"line 2 column 7: A2 \x22"": a "word" is wanted"#;
+    let object =
+        r#"{"kind":"fault","line":2,"column":7,"code":"A2","word":"\\x22\"\"","advice":"a \"word\" is wanted"}"#;
+    has_object(&rt, alloc, shapes::mistakes(), line, object)
+}
+
+/// Lines of `dis`: an instruction, a word that is none, and one with a comment.
+#[test]
+fn lines_of_code_have_objects(rt: HostRuntime) -> Result<(), Fail> {
+    for (line, object) in [
+        (
+            "0001000c 0072a42f amoadd.w x8, x7, (x5)",
+            r#"{"kind":"code","address":65548,"encoding":7513135,"instruction":"amoadd.w x8, x7, (x5)"}"#,
+        ),
+        (
+            "00010000 ffffffff -",
+            r#"{"kind":"code","address":65536,"encoding":4294967295}"#,
+        ),
+        (
+            "00010010 1002a42f - # lr.w",
+            r#"{"kind":"code","address":65552,"encoding":268608559,"comment":"lr.w"}"#,
+        ),
+    ] {
+        has_object(&rt, rt.alloc(), shapes::listing(), line, object)?;
+    }
+    Ok(())
+}
+
+/// `push` begins at 0x00010000, and `count` is the first shared word.
+#[derive(Drop)]
+struct TwoNames;
+
+impl Places for TwoNames {
+    ghost use Rattle.std.specs.Prelude.{◌-◌, None, Some, codes, if◌then◌else◌, nat_lt};
+
+    ghost place = { λ names address. if nat_lt address 0x80000000
+        then (if nat_lt address 0x10000 then None else Some (codes "push", address - 0x10000))
+        else Some (codes "count", address - 0x80000000) };
+
+    fn place(&self, address: u32) -> Option<(&str, u32)> {
+        if address >= 0x8000_0000 {
+            Some(("count", address - 0x8000_0000))
+        } else if address >= 0x1_0000 {
+            Some(("push", address - 0x1_0000))
+        } else {
+            None
+        }
+    }
+}
+
+/// Whether a line is passed on as this line with names.
+fn has_names<R: Abort>(
+    rt: &R,
+    alloc: Global,
+    shapes: &[Shape],
+    line: &str,
+    named: &str,
+) -> Result<(), Fail> {
+    let format = Names {
+        shapes,
+        places: Some(TwoNames),
+    };
+    let text = format!(in alloc; "{named}\n")?;
+    passes_on(rt, alloc, format, line, text.as_str())
+}
+
+/// Addresses and shared words, with and without an offset, without a name, and in a line that has no shape.
+#[test]
+fn addresses_have_names(rt: HostRuntime) -> Result<(), Fail> {
+    for (line, named) in [
+        (
+            "5 1 00010004 amoadd.w x8, x7, (x5) = 00000100 word 0 00000100 00000107",
+            "5 1 00010004 <push+0x4> amoadd.w x8, x7, (x5) = 00000100 word 0 (count) 00000100 00000107",
+        ),
+        (
+            "7 1 00010000 halt 00",
+            "7 1 00010000 <push> halt 00",
+        ),
+        ("7 1 0000fffc halt 00", "7 1 0000fffc halt 00"),
+        (
+            "2 - poke 80000401 01 word 256 00000000 00000100",
+            "2 - poke 80000401 <count+0x401> 01 word 256 (count+0x400) 00000000 00000100",
+        ),
+        ("3 0 poke x5 00010000", "3 0 poke x5 00010000"),
+        ("pc 00010000", "pc 00010000"),
+    ] {
+        has_names(&rt, rt.alloc(), shapes::order(), line, named)?;
+    }
+    let report = "processor 0 pc 00010010 run retired 4 console -";
+    let named = "processor 0 pc 00010010 <push+0x10> run retired 4 console -";
+    has_names(&rt, rt.alloc(), shapes::report(), report, named)
+}
+
+/// Without a table, no line has names.
+#[test]
+fn lines_have_no_names_without_a_table(rt: HostRuntime) -> Result<(), Fail> {
+    let places: Option<TwoNames> = None;
+    let format = Names {
+        shapes: shapes::report(),
+        places,
+    };
+    passes_on(&rt, rt.alloc(), format, "word 3 0000002a", "word 3 0000002a\n")
+}
+
+/// Whether these rows are passed on for a line.
+fn has_rows<R: Abort>(
+    rt: &R,
+    alloc: Global,
+    shapes: &[Shape],
+    line: &str,
+    rows: &str,
+) -> Result<(), Fail> {
+    passes_on(rt, alloc, Csv(shapes), line, rows)
+}
+
+/// Each line of `stats`, and a line that is none.
+#[test]
+fn numbers_of_counts_have_rows(rt: HostRuntime) -> Result<(), Fail> {
+    for (line, rows) in [
+        (
+            "machine k 6 c 4 b 4 r 1",
+            "subject,number,count,value\nmachine,,k,6\nmachine,,c,4\nmachine,,b,4\nmachine,,r,1\n",
+        ),
+        (
+            "steps 89584 turns 51584 up 25200 serve 200 down 12600 poke 0 rounds 2806",
+            "steps,,steps,89584\nsteps,,turns,51584\nsteps,,up,25200\nsteps,,serve,200\nsteps,,down,12600
+steps,,poke,0\nsteps,,rounds,2806\n",
+        ),
+        (
+            "stage 0 up 6400 combined 6400 down 0 split 6400 requests 1 records 1 replies 1",
+            "stage,0,up,6400\nstage,0,combined,6400\nstage,0,down,0\nstage,0,split,6400\nstage,0,requests,1
+stage,0,records,1\nstage,0,replies,1\n",
+        ),
+        ("module 7 serves 0", "module,7,serves,0\n"),
+        (
+            "module 0 serves 200 1x150 64x50",
+            "module,0,serves,200\nmodule,0,groups of 1,150\nmodule,0,groups of 64,50\n",
+        ),
+        (
+            "processor 0 turns 806 retired 605",
+            "processor,0,turns,806\nprocessor,0,retired,605\n",
+        ),
+        ("word 3 0000002a", ""),
+    ] {
+        has_rows(&rt, rt.alloc(), shapes::counts(), line, rows)?;
+    }
+    Ok(())
+}
