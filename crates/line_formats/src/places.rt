@@ -5,6 +5,7 @@ ghost use Rattle.line_formats.specs.Places.{bracketed, place_in, place_text};
 
 use std::alloc::AllocError;
 use std::fmt::Write;
+use symbol_table::SymbolTable;
 
 /// Names for addresses.
 pub trait Places {
@@ -17,6 +18,20 @@ pub trait Places {
     /// The place of an address, if it has one.
     fn place(&self, address: u32) -> Option<(&str, u32)>
         ensures { option_map (λ p. (p.0.now, p.1)) result ≡ Self.place self.now address };
+}
+
+impl Places for SymbolTable<'_> {
+    ghost use Rattle.std.specs.Option.{option_map};
+    ghost use Rattle.symbol_table.specs.Rows.{place_in};
+
+    ghost place = { λ symbols address. option_map (λ p. (p.name, p.offset)) (place_in symbols address) };
+
+    fn place(&self, address: u32) -> Option<(&str, u32)> {
+        match SymbolTable::place(self, address) {
+            Some(place) => Some((place.name, place.offset)),
+            None => None,
+        }
+    }
 }
 
 /// Appends the place of an address between brackets, if there is one.
