@@ -22,9 +22,9 @@ pub trait Places {
 
 impl Places for SymbolTable<'_> {
     ghost use Rattle.std.specs.Option.{option_map};
-    ghost use Rattle.symbol_table.specs.Rows.{place_in};
+    ghost use Rattle.symbol_table.specs.Rows.{place_in as symbol_place};
 
-    ghost place = { λ symbols address. option_map (λ p. (p.name, p.offset)) (place_in symbols address) };
+    ghost place = { λ symbols address. option_map (λ p. (p.name, p.offset)) (symbol_place symbols address) };
 
     fn place(&self, address: u32) -> Option<(&str, u32)> {
         match SymbolTable::place(self, address) {
