@@ -36,9 +36,7 @@ use machine_picture::Svg;
 use observed_words::ObservedWords;
 use processor_threads::{Gate, Open};
 use run_command::{Progress, run_command, threaded_run_command, unlogged_run_command};
-use settings::{
-    Explore, Hunt, Lines, Replay, Run, Session, Settings, Sizes, TraceCommand, settings, status_of,
-};
+use settings::{Explore, Hunt, Lines, Replay, Run, Session, Settings, Sizes, settings, status_of};
 use std::alloc::{AllocError, Global};
 use std::env;
 use std::io::{self, ErrorKind, Input, IsTerminal, Read, Write};
@@ -201,18 +199,16 @@ fn execute<
         Settings::Run(run) => run_file(rt, run, terminal, reason, out, err),
         Settings::Hunt(hunt) => hunt_file(rt, hunt, terminal, reason, out, err),
         Settings::Explore(explore) => explore_file(rt, explore, terminal, reason, out, err),
-        Settings::Trace(command, listing) => match command {
-            TraceCommand::Replay => tell_steps(rt, &listing.replay, &Report, reason, out, err),
-            TraceCommand::Stats => tell_steps(rt, &listing.replay, &Stats, reason, out, err),
-        },
-        Settings::Order(lines) => {
-            let choice = choice_of(lines);
-            tell_lines(rt, lines, &Order { choice }, reason, out, err)
+        Settings::Replay(report) => tell_steps(rt, &report.replay, &Report, reason, out, err),
+        Settings::Order(order) => {
+            let choice = choice_of(&order.lines);
+            tell_lines(rt, &order.lines, &Order { choice }, reason, out, err)
         }
         Settings::Story(lines) => {
             let choice = choice_of(lines);
             tell_lines(rt, lines, &Story { choice }, reason, out, err)
         }
+        Settings::Stats(counts) => tell_steps(rt, &counts.replay, &Stats, reason, out, err),
         Settings::Picture(asked) => {
             let picture = Picture {
                 step: asked.step,

@@ -1,7 +1,7 @@
 //! Standard output, to which lines go as they are or as JSON.
 
 use json_lines::{JsonLines, Shape, shapes};
-use settings::{Settings, TraceCommand};
+use settings::Settings;
 use std::alloc::Global;
 use std::io::{self, Write};
 
@@ -50,10 +50,10 @@ pub(crate) fn shapes_of(settings: &Settings<'_>) -> Option<&'static [Shape]> {
         Settings::Hunt(hunt) if hunt.json => Some(shapes::hunt()),
         Settings::Explore(explore) if explore.json && explore.every => Some(shapes::sizes()),
         Settings::Explore(explore) if explore.json => Some(shapes::results()),
-        Settings::Trace(TraceCommand::Replay, listing) if listing.json => Some(shapes::report()),
-        Settings::Trace(TraceCommand::Stats, listing) if listing.json => Some(shapes::counts()),
-        Settings::Order(lines) if lines.json => Some(shapes::order()),
+        Settings::Replay(report) if report.json => Some(shapes::report()),
+        Settings::Order(order) if order.lines.json => Some(shapes::order()),
         Settings::Story(lines) if lines.json => Some(shapes::story()),
+        Settings::Stats(counts) if counts.json => Some(shapes::counts()),
         _ => None,
     }
 }

@@ -129,11 +129,10 @@ pub(crate) fn place_of<'a>(settings: &Settings<'a>, letter: u8) -> Option<Place<
         (b'I', Settings::Debug(session)) => Some(Place::File(session.file)),
         (b'l', Settings::Debug(session)) if session.stdio => Some(Place::StandardStreams),
         (b'l', Settings::Debug(session)) => Some(Place::Port(session.port)),
-        (_, Settings::Trace(_, listing)) => place_of_replay(&listing.replay, letter),
-        (_, Settings::Order(lines) | Settings::Story(lines)) => place_of_replay(
-            &lines.replay,
-            letter,
-        ),
+        (_, Settings::Replay(report)) => place_of_replay(&report.replay, letter),
+        (_, Settings::Order(order)) => place_of_replay(&order.lines.replay, letter),
+        (_, Settings::Story(lines)) => place_of_replay(&lines.replay, letter),
+        (_, Settings::Stats(counts)) => place_of_replay(&counts.replay, letter),
         (_, Settings::Picture(asked)) => place_of_replay(&asked.replay, letter),
         _ => None,
     }
