@@ -17,7 +17,7 @@ use crate::files::{
 };
 use crate::loopback_port::LoopbackPort;
 use crate::output::{Output, shapes_of};
-use crate::refusal::{Refusal, refuse};
+use crate::refusal::{Refusal, print_in_one_form, refuse};
 use crate::reports::{Explained, Place, Reason, Reports, place_of, report_place};
 use crate::standard_streams::StandardStreams;
 use crate::traces::TraceFiles;
@@ -173,6 +173,7 @@ fn execute<
 ) -> Result<u8, Refusal<'a>>
     requires works { W.has_failed out.old ≡ false }
 {
+    print_in_one_form(settings)?;
     let alloc = rt.alloc();
     match settings {
         Settings::Words(words) => {

@@ -2,6 +2,7 @@
 
 use crate::reports::{Place, report_place};
 use command_io::{Fault, REFUSED, report_fault};
+use settings::Settings;
 use std::io::{self, Write};
 
 /// Why a command does not begin.
@@ -17,6 +18,8 @@ pub(crate) enum Refusal<'a> {
     Every,
     /// A run without a log is asked for on threads, or with a trace.
     NoLog,
+    /// Lines are asked for as JSON and in another form.
+    TwoForms,
     /// This text is no list of shared words of a machine that has this many.
     NoList(&'a str, u32),
     /// There is no memory for what the command line asks for.
@@ -40,6 +43,7 @@ impl Refusal<'_> {
             Refusal::Half => refuse("--witness and --trace go together", err),
             Refusal::Every => refuse("--every goes with neither --witness nor --trace", err),
             Refusal::NoLog => refuse("--no-log goes with --sweep, and not with --trace", err),
+            Refusal::TwoForms => refuse("--json goes with none of --symbols, --abi and --csv", err),
             Refusal::NoList(list, words) => refuse_list(list, words, err),
             Refusal::Memory => report_fault(Fault::Memory, err),
             Refusal::InputTwice => refuse("standard input is asked for twice", err),
@@ -66,4 +70,26 @@ pub(crate) fn refuse<E: Write>(what: &str, err: &mut E) -> u8 {
     // If standard error fails too, the exit status alone reports it.
     let _ = writeln!(err, "error: {what}");
     REFUSED
+}
+
+/// Refuses to print lines as JSON and in another form.
+pub(crate) fn print_in_one_form<'a>(settings: &Settings<'a>) -> Result<(), Refusal<'a>> {
+    if has_two_forms(settings) {
+        return Err(Refusal::TwoForms);
+    }
+    Ok(())
+}
+
+/// Whether lines are asked for as JSON and in another form.
+fn has_two_forms(settings: &Settings<'_>) -> bool {
+    match settings {
+        Settings::Run(run) => run.json && run.symbols.is_some(),
+        Settings::Hunt(hunt) => hunt.json && hunt.symbols.is_some(),
+        Settings::Explore(explore) => explore.json && explore.symbols.is_some(),
+        Settings::Replay(report) => report.json && report.symbols.is_some(),
+        Settings::Order(order) => order.lines.json && (order.abi || order.lines.symbols.is_some()),
+        Settings::Story(lines) => lines.json && lines.symbols.is_some(),
+        Settings::Stats(counts) => counts.json && counts.csv,
+        _ => false,
+    }
 }
