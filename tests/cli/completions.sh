@@ -52,6 +52,8 @@ ultra run --r |1 2 3
 ultra run --words |
 ultra run --k 3 a|a.elf a.s
 ultra run --trace b|b.trace
+ultra run --symbols a|a.elf a.s
+ultra story --s|--symbols
 ultra run --trace b.trace a|a.elf a.s
 ultra explore a.elf --e|--each --every
 ultra order b.trace a.elf b|
@@ -88,8 +90,8 @@ offers_in_bash() {
 }
 check 'bash completes the value after an equals sign' offers_in_bash 'ultra run --r=' '1 2 3'
 check 'bash completes a begun value after an equals sign' offers_in_bash 'ultra run --c=1' '10 11 12 13 14 15 16'
-check 'bash offers an option once' offers_in_bash 'ultra dis --words 3 -' '--comments --help'
-check 'bash offers all options if no file is due' offers_in_bash 'ultra dis FILE ' '--comments --help --words'
+check 'bash offers an option once' offers_in_bash 'ultra dis --words 3 -' '--abi --comments --help --symbols'
+check 'bash offers all options if no file is due' offers_in_bash 'ultra dis FILE ' '--abi --comments --help --symbols --words'
 check 'bash offers no option after two dashes' offers_in_bash 'ultra dis -- FILE ' ''
 check 'bash offers topics in letters of either case' offers_in_bash 'ultra explain e0' 'E01 E02 E03 E04 E05 E06'
 

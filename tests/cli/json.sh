@@ -52,3 +52,22 @@ fails_to_print_objects() {
         "$room/barrier_phase_late.elf"
 }
 check 'with --json a full device is reported as without: link, status 3' fails_to_print_objects
+
+# With --json another form of lines is refused. Nothing else is printed, and no file is opened.
+refuses_two_forms() {
+    local words
+    while read -r words; do
+        # shellcheck disable=SC2086 # the options are words
+        ends 2 'error: --json goes with none of --symbols, --abi and --csv' ./ultra $words --json "$room/none" || { echo "$words" && return 1; }
+    done <<'WORDS'
+run --symbols none
+hunt --symbols none
+explore --symbols none
+replay --symbols none none
+order --symbols none none
+order --abi none
+story --symbols none none
+stats --csv none
+WORDS
+}
+check '--json is refused with --symbols, --abi and --csv, with status 2' refuses_two_forms

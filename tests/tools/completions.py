@@ -155,7 +155,7 @@ def commands():
     constants = Constants(FORMS, "forms.rt", "help.rt", "ranges.rt")
     text = (FORMS / "forms.rt").read_text()
     listed = re.search(r"^pub\(crate\) fn commands\(\).*?^\{\n    \[\n(.*?)^    \]", text, re.M | re.S)[1]
-    names = [found[1] or found[2] for found in re.finditer(r"^\s*(?:\w+::(\w+)\.form|(\w+))\(\),$", listed, re.M)]
+    names = re.findall(r"^\s*(\w+)\(\),$", listed, re.M)
     return [Command(constants.value(name.upper())) for name in names]
 
 

@@ -1,11 +1,9 @@
 -- The command that `clap` parses: its subcommands, each with its files and its options.
-use Rattle.std.specs.Prelude.{ℕ, pos, List, [], ◌∷◌, codes, Some, true}
+use Rattle.std.specs.Prelude.{ℕ, pos, List, [], ◌∷◌, ◌++◌, codes, Some, true}
 use Rattle.clap.specs.Words.{App, Rule, Text, new_app, new_rule, with_rule, with_subcommand}
 use Rattle.clap.specs.Simple.{Shape, on_top}
 use Rattle.clap.specs.declared.builder.action.ArgAction.TheVariants.{SetTrue}
 use Rattle.clap.specs.declared.builder.value_parser.ValueParser.TheVariants as vp
-use Rattle.command_forms.specs.declared.forms.TraceCommand.{TraceCommand}
-use Rattle.command_forms.specs.declared.forms.TraceCommand.TheVariants as trace
 
 -- ---- the options with a number
 
@@ -88,7 +86,7 @@ witness = record { name = codes "witness"; low = 0; high = 4294967295 }
 abbrev pub step : Bounds
 step = record { name = codes "step"; low = 0; high = 4294967295 }
 
--- ---- the command
+-- ---- the arguments
 
 -- a file, which is required
 abbrev pub path : Text → Rule
@@ -110,83 +108,91 @@ number o = record (option o.name) { parser = Some (vp.Signed (pos o.low) (pos o.
 abbrev pub flag : Text → Rule
 flag name = record (new_rule name) { long = Some name; action = Some SetTrue }
 
-abbrev pub with_file : App → App
-with_file a = with_rule a (path (codes "FILE"))
+-- the image or the text that a command reads
+abbrev pub file : Rule
+file = path (codes "FILE")
 
-abbrev pub with_number : Ranged → App → App
-with_number o a = with_rule a (number o.bounds)
+-- the file with the names that are printed beside addresses
+abbrev pub symbols : Rule
+symbols = option (codes "symbols")
 
-unfoldable pub words_command : App
-words_command = with_file (new_app (codes "words"))
+-- whether lines are printed as JSON
+abbrev pub json : Rule
+json = flag (codes "json")
 
-unfoldable pub check_command : App
-check_command = with_rule (with_file (new_app (codes "check"))) (flag (codes "json"))
-
-unfoldable pub asm_command : App
-asm_command = with_rule (with_file (new_app (codes "asm"))) (path (codes "OUT"))
-
-unfoldable pub dis_command : App
-dis_command = with_number shared_words (with_rule (with_file (new_app (codes "dis"))) (flag (codes "comments")))
-
--- the options for a machine's sizes
-abbrev pub with_sizes : App → App
-with_sizes a = with_number shared_words (with_number combinations
-    (with_number records (with_number queue (with_number stages a))))
-
-unfoldable pub run_command : App
-run_command =
-    with_number start (with_number budget (with_sizes
-    (with_rule (with_rule (with_rule (with_rule (with_rule (with_rule (with_file (new_app (codes "run")))
-    (option (codes "trace"))) (flag (codes "sweep"))) (flag (codes "no-log"))) (flag (codes "unfinished")))
-    (flag (codes "quiet"))) (flag (codes "json")))))
+-- the sizes of a machine
+abbrev pub sizes : List Rule
+sizes = number stages.bounds ∷ number queue.bounds ∷ number records.bounds ∷ number combinations.bounds
+    ∷ number shared_words.bounds ∷ []
 
 -- a trace, the image of its run, and the number of shared words
-abbrev pub replaying : Text → App
-replaying name = with_number shared_words (with_file (with_rule (new_app name) (path (codes "TRACE"))))
+abbrev pub replay : List Rule
+replay = path (codes "TRACE") ∷ file ∷ number shared_words.bounds ∷ []
 
--- the name of a command that takes these, and `--json`, and no option of its own
-abbrev pub trace_name : TraceCommand → Text
-trace_name trace.Replay = codes "replay"
-trace_name trace.Stats = codes "stats"
+-- the same, which of its numbered lines are printed, and the names in them
+abbrev pub lines : List Rule
+lines = replay ++ (number processor ∷ number shared_word ∷ number first_line ∷ number last_line ∷ symbols ∷ [])
 
-unfoldable pub trace_command : TraceCommand → App
-trace_command command = with_rule (replaying (trace_name command)) (flag (codes "json"))
+-- ---- the commands
 
-unfoldable pub explain_command : App
-explain_command = with_rule (new_app (codes "explain")) (words (codes "CODE"))
+abbrev pub with_rules : List Rule → App → App
+with_rules [] a = a
+with_rules (r ∷ rs) a = with_rules rs (with_rule a r)
 
--- the same with a choice of numbered lines
-abbrev pub choosing : Text → App
-choosing name =
-    with_rule (with_rule (with_rule (with_rule (with_rule (replaying name) (number processor)) (number shared_word))
-    (number first_line)) (number last_line)) (flag (codes "json"))
+-- a command, with its arguments in their order
+abbrev pub command : Text → List Rule → App
+command name rules = with_rules rules (new_app name)
 
-unfoldable pub order_command : App
-order_command = choosing (codes "order")
+unfoldable pub words_command : App
+words_command = command (codes "words") (file ∷ [])
 
-unfoldable pub story_command : App
-story_command = choosing (codes "story")
+unfoldable pub check_command : App
+check_command = command (codes "check") (file ∷ json ∷ [])
 
-unfoldable pub debug_command : App
-debug_command = with_number port (with_number steps (with_sizes
-    (with_rule (with_rule (with_file (new_app (codes "debug"))) (option (codes "trace"))) (flag (codes "stdio")))))
+unfoldable pub asm_command : App
+asm_command = command (codes "asm") (file ∷ path (codes "OUT") ∷ [])
 
-unfoldable pub picture_command : App
-picture_command = with_rule (replaying (codes "picture")) (number step)
+unfoldable pub dis_command : App
+dis_command = command (codes "dis")
+    (file ∷ flag (codes "comments") ∷ symbols ∷ flag (codes "abi") ∷ number shared_words.bounds ∷ [])
 
-unfoldable pub explore_command : App
-explore_command =
-    with_rule (with_number states (with_sizes
-    (with_rule (with_rule (with_rule (with_rule (with_rule (with_rule (with_file (new_app (codes "explore")))
-    (option (codes "trace"))) (option (codes "observe"))) (flag (codes "each"))) (flag (codes "every")))
-    (flag (codes "quiet"))) (flag (codes "json"))))) (number witness)
+unfoldable pub run_command : App
+run_command = command (codes "run")
+    (file ∷ option (codes "trace") ∷ flag (codes "sweep") ∷ flag (codes "no-log") ∷ flag (codes "unfinished")
+    ∷ flag (codes "quiet") ∷ symbols ∷ json ∷ (sizes ++ (number budget.bounds ∷ number start.bounds ∷ [])))
 
 unfoldable pub hunt_command : App
-hunt_command =
-    with_number start (with_number runs (with_number steps (with_sizes
-    (with_rule (with_rule (with_rule (with_rule (with_rule (with_rule (with_file (new_app (codes "hunt")))
-    (option (codes "trace"))) (option (codes "observe"))) (flag (codes "overwrite"))) (flag (codes "expect-one")))
-    (flag (codes "quiet"))) (flag (codes "json"))))))
+hunt_command = command (codes "hunt")
+    (file ∷ option (codes "trace") ∷ option (codes "observe") ∷ flag (codes "overwrite") ∷ flag (codes "expect-one")
+    ∷ flag (codes "quiet") ∷ symbols ∷ json
+    ∷ (sizes ++ (number steps.bounds ∷ number runs.bounds ∷ number start.bounds ∷ [])))
+
+unfoldable pub explore_command : App
+explore_command = command (codes "explore")
+    (file ∷ option (codes "trace") ∷ option (codes "observe") ∷ flag (codes "each") ∷ flag (codes "every")
+    ∷ flag (codes "quiet") ∷ symbols ∷ json ∷ (sizes ++ (number states.bounds ∷ number witness ∷ [])))
+
+unfoldable pub replay_command : App
+replay_command = command (codes "replay") (replay ++ (symbols ∷ json ∷ []))
+
+unfoldable pub order_command : App
+order_command = command (codes "order") (lines ++ (flag (codes "abi") ∷ json ∷ []))
+
+unfoldable pub story_command : App
+story_command = command (codes "story") (lines ++ (json ∷ []))
+
+unfoldable pub stats_command : App
+stats_command = command (codes "stats") (replay ++ (flag (codes "csv") ∷ json ∷ []))
+
+unfoldable pub picture_command : App
+picture_command = command (codes "picture") (replay ++ (number step ∷ []))
+
+unfoldable pub debug_command : App
+debug_command = command (codes "debug")
+    (file ∷ option (codes "trace") ∷ flag (codes "stdio") ∷ (sizes ++ (number steps.bounds ∷ number port.bounds ∷ [])))
+
+unfoldable pub explain_command : App
+explain_command = command (codes "explain") (words (codes "CODE") ∷ [])
 
 -- the program, which has a version and requires a subcommand
 abbrev pub program : App
@@ -206,10 +212,10 @@ ultra_command = with_subcommands (
     ∷ run_command.top
     ∷ hunt_command.top
     ∷ explore_command.top
-    ∷ (trace_command trace.Replay).top
+    ∷ replay_command.top
     ∷ order_command.top
     ∷ story_command.top
-    ∷ (trace_command trace.Stats).top
+    ∷ stats_command.top
     ∷ picture_command.top
     ∷ debug_command.top
     ∷ explain_command.top

@@ -1,11 +1,11 @@
 //! The commands of the program, each with its arguments and its help.
 
-ghost use Rattle.std.specs.Prelude.{◌≡◌, ◌≢◌, IfSome, None};
+ghost use Rattle.std.specs.Prelude.{◌≡◌};
 ghost use Rattle.command_forms.specs.Forms.{app_of_form, with_forms};
 ghost use Rattle.command_forms.specs.Commands.{asm_command, check_command, debug_command, dis_command};
 ghost use Rattle.command_forms.specs.Commands.{explain_command, explore_command, hunt_command, order_command};
-ghost use Rattle.command_forms.specs.Commands.{picture_command, program, run_command, story_command, trace_command};
-ghost use Rattle.command_forms.specs.Commands.{trace_name, ultra_command, words_command};
+ghost use Rattle.command_forms.specs.Commands.{picture_command, program, replay_command, run_command, stats_command};
+ghost use Rattle.command_forms.specs.Commands.{story_command, ultra_command, words_command};
 
 use crate::help::{
     ASM_ENDS, CHECK_ENDS, DEBUG_ENDS, DIS_ENDS, EXPLAIN_ENDS, EXPLORE_ENDS, HUNT_ENDS, ORDER_ENDS,
@@ -58,13 +58,6 @@ pub(crate) enum Argument {
     Choice(ChoiceOption),
 }
 
-/// A command that takes a trace, the image of its run and how many shared words the machine has, and nothing else.
-#[derive(Clone, Copy, Debug, PartialEq, Eq, Drop)]
-pub enum TraceCommand {
-    Replay,
-    Stats,
-}
-
 /// An image to read.
 const IMAGE: Argument = Argument::Path {
     id: "FILE",
@@ -95,26 +88,18 @@ const QUIET: Argument = Argument::Flag {
     help: "Show no progress line on a terminal",
 };
 
+/// The names that are printed beside addresses and words.
+const SYMBOLS: Argument = Argument::Text {
+    name: "symbols",
+    value: "FILE",
+    help: "Print names beside addresses and words, from the symbol table of an ELF file or from what `nm` prints; not with --json",
+};
+
 /// Whether lines are printed as JSON.
 const JSON: Argument = Argument::Flag {
     name: "json",
     help: "Print each line as a JSON object",
 };
-
-/// The arguments of a command that replays a trace and prints lines.
-const REPLAYED: &[Argument] = &[TRACE, TRACED_IMAGE, Argument::Number(SHARED_WORDS), JSON];
-
-/// Those of a command that prints numbered lines for a trace.
-const LINES: &[Argument] = &[
-    TRACE,
-    TRACED_IMAGE,
-    Argument::Number(SHARED_WORDS),
-    Argument::Choice(PROCESSOR),
-    Argument::Choice(SHARED_WORD),
-    Argument::Choice(FIRST_LINE),
-    Argument::Choice(LAST_LINE),
-    JSON,
-];
 
 const WORDS: CommandForm = CommandForm {
     name: "words",
@@ -155,6 +140,15 @@ const DIS: CommandForm = CommandForm {
             name: "comments",
             help: "Write the name of an instruction that the machine does not have behind its word, as `# lr.w`",
         },
+        Argument::Text {
+            name: "symbols",
+            value: "FILE",
+            help: "Print names beside addresses, from the symbol table of an ELF file or from what `nm` prints",
+        },
+        Argument::Flag {
+            name: "abi",
+            help: "Write registers by their ABI names, and the target of a jump or branch as an address",
+        },
         Argument::Number(SHARED_WORDS),
     ],
     ends: DIS_ENDS,
@@ -183,6 +177,7 @@ const RUN: CommandForm = CommandForm {
             help: "Print the report, and write the trace, also if the budget ends the run",
         },
         QUIET,
+        SYMBOLS,
         JSON,
         Argument::Number(STAGES),
         Argument::Number(QUEUE),
@@ -219,6 +214,7 @@ const HUNT: CommandForm = CommandForm {
             help: "Expect all runs to come to one result; if they do not, the exit status says so",
         },
         QUIET,
+        SYMBOLS,
         JSON,
         Argument::Number(STAGES),
         Argument::Number(QUEUE),
@@ -256,6 +252,7 @@ const EXPLORE: CommandForm = CommandForm {
             help: "Explore every k from 0 to 6, and print a line for each; not with --witness",
         },
         QUIET,
+        SYMBOLS,
         JSON,
         Argument::Number(STAGES),
         Argument::Number(QUEUE),
@@ -271,28 +268,67 @@ const EXPLORE: CommandForm = CommandForm {
 const REPLAY: CommandForm = CommandForm {
     name: "replay",
     about: "Take the steps of a trace on a machine that opens on an image, and print its report",
-    arguments: REPLAYED,
+    arguments: &[
+        TRACE,
+        TRACED_IMAGE,
+        Argument::Number(SHARED_WORDS),
+        SYMBOLS,
+        JSON,
+    ],
     ends: REPLAY_ENDS,
 };
 
 const ORDER: CommandForm = CommandForm {
     name: "order",
     about: "Print the serial order of whole instructions that explains the run of a trace",
-    arguments: LINES,
+    arguments: &[
+        TRACE,
+        TRACED_IMAGE,
+        Argument::Number(SHARED_WORDS),
+        Argument::Choice(PROCESSOR),
+        Argument::Choice(SHARED_WORD),
+        Argument::Choice(FIRST_LINE),
+        Argument::Choice(LAST_LINE),
+        SYMBOLS,
+        Argument::Flag {
+            name: "abi",
+            help: "Write registers by their ABI names, and the target of a jump or branch as an address; not with --json",
+        },
+        JSON,
+    ],
     ends: ORDER_ENDS,
 };
 
 const STORY: CommandForm = CommandForm {
     name: "story",
     about: "Print what the machine did in each step of a trace",
-    arguments: LINES,
+    arguments: &[
+        TRACE,
+        TRACED_IMAGE,
+        Argument::Number(SHARED_WORDS),
+        Argument::Choice(PROCESSOR),
+        Argument::Choice(SHARED_WORD),
+        Argument::Choice(FIRST_LINE),
+        Argument::Choice(LAST_LINE),
+        SYMBOLS,
+        JSON,
+    ],
     ends: STORY_ENDS,
 };
 
 const STATS: CommandForm = CommandForm {
     name: "stats",
     about: "Count what the switches, the modules and the processors did in the steps of a trace",
-    arguments: REPLAYED,
+    arguments: &[
+        TRACE,
+        TRACED_IMAGE,
+        Argument::Number(SHARED_WORDS),
+        Argument::Flag {
+            name: "csv",
+            help: "Print the counts as CSV, a row for each number; not with --json",
+        },
+        JSON,
+    ],
     ends: STATS_ENDS,
 };
 
@@ -394,6 +430,13 @@ fn explore() -> CommandForm
     EXPLORE
 }
 
+#[tactic(auto, unfolding(crate::specs::Commands::replay_command))]
+fn replay() -> CommandForm
+    ensures { app_of_form result ≡ replay_command }
+{
+    REPLAY
+}
+
 #[tactic(auto, unfolding(crate::specs::Commands::order_command))]
 fn order() -> CommandForm
     ensures { app_of_form result ≡ order_command }
@@ -406,6 +449,13 @@ fn story() -> CommandForm
     ensures { app_of_form result ≡ story_command }
 {
     STORY
+}
+
+#[tactic(auto, unfolding(crate::specs::Commands::stats_command))]
+fn stats() -> CommandForm
+    ensures { app_of_form result ≡ stats_command }
+{
+    STATS
 }
 
 #[tactic(auto, unfolding(crate::specs::Commands::picture_command))]
@@ -429,31 +479,6 @@ fn explain() -> CommandForm
     EXPLAIN
 }
 
-impl TraceCommand {
-    /// The command of this name.
-    pub fn of_name(name: &str) -> Option<Self>
-        ensures some { IfSome result (λ command. name.now ≡ trace_name command) }
-        ensures none { result ≡ None → (command : TraceCommand) → name.now ≢ trace_name command }
-    {
-        match name {
-            "replay" => Some(TraceCommand::Replay),
-            "stats" => Some(TraceCommand::Stats),
-            _ => None,
-        }
-    }
-
-    /// Its form.
-    #[tactic(auto, unfolding(crate::specs::Commands::trace_command))]
-    pub(crate) fn form(self) -> CommandForm
-        ensures { app_of_form result ≡ trace_command self }
-    {
-        match self {
-            TraceCommand::Replay => REPLAY,
-            TraceCommand::Stats => STATS,
-        }
-    }
-}
-
 /// All commands, in the order in which the help lists them.
 #[tactic(auto, unfolding(crate::specs::Commands::ultra_command))]
 pub(crate) fn commands() -> [CommandForm; 14]
@@ -467,10 +492,10 @@ pub(crate) fn commands() -> [CommandForm; 14]
         run(),
         hunt(),
         explore(),
-        TraceCommand::Replay.form(),
+        replay(),
         order(),
         story(),
-        TraceCommand::Stats.form(),
+        stats(),
         picture(),
         debug(),
         explain(),

@@ -8,7 +8,6 @@ mod help;
 mod matching;
 mod ranges;
 
-pub use forms::TraceCommand;
 pub use matching::matches_of;
 pub use ranges::{
     BUDGET, COMBINATIONS, ChoiceOption, FIRST_LINE, FIRST_START, LAST_LINE, NumberOption, PORT,

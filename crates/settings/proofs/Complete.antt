@@ -13,18 +13,15 @@ use Rattle.clap.specs.Takes.{is_given}
 use Rattle.clap.specs.Walk.{Row, Text, answers_to, finished, nothing_held, rows_after, settled, walk, walk_from}
 use Rattle.command_forms.specs.Commands.{Bounds, asm_command, budget, check_command, combinations, debug_command}
 use Rattle.command_forms.specs.Commands.{dis_command, explain_command, explore_command, hunt_command, order_command}
-use Rattle.command_forms.specs.Commands.{port, processor, queue, records, picture_command, run_command, runs}
-use Rattle.command_forms.specs.Commands.{shared_word, shared_words, stages, start, states, step, steps}
-use Rattle.command_forms.specs.Commands.{first_line, last_line, story_command, trace_command, trace_name, ultra_command, witness, words_command}
-use Rattle.command_forms.specs.declared.forms.TraceCommand.{TraceCommand}
-use Rattle.command_forms.specs.declared.forms.TraceCommand.TheVariants as trace
+use Rattle.command_forms.specs.Commands.{port, processor, queue, records, picture_command, replay_command, run_command, runs}
+use Rattle.command_forms.specs.Commands.{shared_word, shared_words, stages, start, states, stats_command, step, steps}
+use Rattle.command_forms.specs.Commands.{first_line, last_line, story_command, ultra_command, witness, words_command}
 use Rattle.command_forms.proofs.Lemmas.{commands}
 use Rattle.settings.specs.Given.{HasAsm, HasDebug, HasDis, HasExplore, HasHunt, HasLines, HasPath, HasPicture}
-use Rattle.settings.specs.Given.{HasReplay, HasRun, HasSizes, IsComplete, IsOneOf, IsTraceName, IsWhole, command_names}
+use Rattle.settings.specs.Given.{HasReplay, HasRun, HasSizes, IsComplete, IsOneOf, IsWhole, command_names}
 use Rattle.settings.proofs.NoHelp.{IsNoHelp, StopsAtNoHelp, walk_stops}
 use Rattle.settings.proofs.Numbers.{is_apart_or_number, number_there}
 use Rattle.settings.proofs.Rows.{gives_value, required_there}
-use Rattle.settings.proofs.TraceNames.{is_trace_name}
 use Rattle.settings.proofs.Walks.{neither}
 
 -- A missing required argument is a fault.
@@ -72,12 +69,13 @@ Has name rows =
     (Where (bytes_eq name (codes "run")) (HasRun rows)
     (Where (bytes_eq name (codes "hunt")) (HasHunt rows)
     (Where (bytes_eq name (codes "explore")) (HasExplore rows)
-    (Where (is_trace_name name) (HasReplay rows)
+    (Where (bytes_eq name (codes "replay")) (HasReplay rows)
     (Where (bytes_eq name (codes "order")) (HasLines rows)
     (Where (bytes_eq name (codes "story")) (HasLines rows)
+    (Where (bytes_eq name (codes "stats")) (HasReplay rows)
     (Where (bytes_eq name (codes "picture")) (HasPicture rows)
     (Where (bytes_eq name (codes "debug")) (HasDebug rows)
-    ⊤)))))))))))
+    ⊤))))))))))))
 
 is_one_of : (name : Text) (names : List Text) → list_any (λ x. bytes_eq name x) names ≡ true → IsOneOf name names
 is_one_of name [] e = absurd (true≢false (sym e))
@@ -88,19 +86,9 @@ is_one_of name (x ∷ xs) e = go (bytes_eq name x) refl (is_one_of name xs) e
     go true is rest e = inl ((bytes_eq-Decides name x).0 is)
     go false is rest e = inr (rest e)
 
--- A command on a trace has what it requires.
-has_replay : (c : TraceCommand) (rows : List Row) → Has (trace_name c) rows → HasReplay rows
-has_replay trace.Replay rows has = has
-has_replay trace.Stats rows has = has
-
--- What a command on a trace requires is what the subcommand with its name requires.
-replay_has : (c : TraceCommand) (rows : List Row) → HasReplay rows → Has (trace_name c) rows
-replay_has trace.Replay rows has = has
-replay_has trace.Stats rows has = has
-
-whole_if : (name : Text) (rows : List Row) → IsTraceName name ⊎ IsOneOf name command_names → Has name rows → IsWhole name rows
-whole_if name rows known has = record {
-  known = known;
+whole : (name : Text) (rows : List Row) → list_any (λ x. bytes_eq name x) command_names ≡ true → Has name rows → IsWhole name rows
+whole name rows known has = record {
+  known = is_one_of name command_names known;
   words = λ is. subst (λ n. Has n rows) is has;
   check = λ is. subst (λ n. Has n rows) is has;
   asm = λ is. subst (λ n. Has n rows) is has;
@@ -108,15 +96,13 @@ whole_if name rows known has = record {
   run = λ is. subst (λ n. Has n rows) is has;
   hunt = λ is. subst (λ n. Has n rows) is has;
   explore = λ is. subst (λ n. Has n rows) is has;
-  trace = λ c is. has_replay c rows (subst (λ n. Has n rows) is has);
+  replay = λ is. subst (λ n. Has n rows) is has;
   order = λ is. subst (λ n. Has n rows) is has;
   story = λ is. subst (λ n. Has n rows) is has;
+  stats = λ is. subst (λ n. Has n rows) is has;
   picture = λ is. subst (λ n. Has n rows) is has;
   debug = λ is. subst (λ n. Has n rows) is has;
 }
-
-whole : (name : Text) (rows : List Row) → list_any (λ x. bytes_eq name x) command_names ≡ true → Has name rows → IsWhole name rows
-whole name rows known has = whole_if name rows (inr (is_one_of name command_names known)) has
 
 -- A subcommand whose words have no fault has everything that it requires.
 abbrev IsProvided : Shape → Type 0
@@ -171,6 +157,12 @@ run_provided words e = whole (codes "run") _ refl (
   number_there (built_leaf run_command.top) start.bounds words refl e,
 )
 
+-- If a required trace and its image cause no fault, both are given.
+files_required : (rows : List Row)
+    → check_kinds false false (not (is_given (codes "TRACE") rows) || (not (is_given (codes "FILE") rows) || false)) ≡ []
+    → (is_given (codes "TRACE") rows ≡ true) × (is_given (codes "FILE") rows ≡ true)
+files_required rows = both_required (is_given (codes "TRACE") rows) (is_given (codes "FILE") rows)
+
 -- The subcommand requires a trace and the image of its run.
 abbrev WantsFiles : Shape → Type 0
 WantsFiles s = (rows : List Row) → check_fault s rows false ≡ [] → (is_given (codes "TRACE") rows ≡ true) × (is_given (codes "FILE") rows ≡ true)
@@ -183,10 +175,15 @@ replay_there s words all wants n e = (
   number_there s shared_words.bounds words n e,
 )
 
-trace_provided : (c : TraceCommand) → IsProvided (built_leaf (trace_command c).top)
+replay_provided : IsProvided (built_leaf replay_command.top)
 unfolding commands
-trace_provided c words e = whole_if (trace_name c) _ (inl (c, refl)) (replay_has c (rows_after (built_leaf (trace_command c).top).rules [] words)
-    (replay_there (built_leaf (trace_command c).top) words refl (λ rows. both_required (is_given (codes "TRACE") rows) (is_given (codes "FILE") rows)) refl e))
+replay_provided words e = whole (codes "replay") _ refl
+    (replay_there (built_leaf replay_command.top) words refl files_required refl e)
+
+stats_provided : IsProvided (built_leaf stats_command.top)
+unfolding commands
+stats_provided words e = whole (codes "stats") _ refl
+    (replay_there (built_leaf stats_command.top) words refl files_required refl e)
 
 explain_provided : IsProvided (built_leaf explain_command.top)
 unfolding commands
@@ -206,14 +203,12 @@ lines_there s words all wants n p w from to e = (
 order_provided : IsProvided (built_leaf order_command.top)
 unfolding commands
 order_provided words e = whole (codes "order") _ refl
-    (lines_there (built_leaf order_command.top) words refl (λ rows. both_required (is_given (codes "TRACE") rows) (is_given (codes "FILE") rows))
-    refl refl refl refl refl e)
+    (lines_there (built_leaf order_command.top) words refl files_required refl refl refl refl refl e)
 
 story_provided : IsProvided (built_leaf story_command.top)
 unfolding commands
 story_provided words e = whole (codes "story") _ refl
-    (lines_there (built_leaf story_command.top) words refl (λ rows. both_required (is_given (codes "TRACE") rows) (is_given (codes "FILE") rows))
-    refl refl refl refl refl e)
+    (lines_there (built_leaf story_command.top) words refl files_required refl refl refl refl refl e)
 
 debug_provided : IsProvided (built_leaf debug_command.top)
 unfolding commands
@@ -227,7 +222,7 @@ debug_provided words e = whole (codes "debug") _ refl (
 picture_provided : IsProvided (built_leaf picture_command.top)
 unfolding commands
 picture_provided words e = whole (codes "picture") _ refl (
-  replay_there (built_leaf picture_command.top) words refl (λ rows. both_required (is_given (codes "TRACE") rows) (is_given (codes "FILE") rows)) refl e,
+  replay_there (built_leaf picture_command.top) words refl files_required refl e,
   number_there (built_leaf picture_command.top) step words refl e,
 )
 
@@ -292,10 +287,10 @@ enters (Some p) unhelped e has =
     let provided : AreProvidedFrom p.0 13 = ((λ is. explain_provided), provided) in
     let provided : AreProvidedFrom p.0 12 = ((λ is. debug_provided), provided) in
     let provided : AreProvidedFrom p.0 11 = ((λ is. picture_provided), provided) in
-    let provided : AreProvidedFrom p.0 10 = ((λ is. trace_provided trace.Stats), provided) in
+    let provided : AreProvidedFrom p.0 10 = ((λ is. stats_provided), provided) in
     let provided : AreProvidedFrom p.0 9 = ((λ is. story_provided), provided) in
     let provided : AreProvidedFrom p.0 8 = ((λ is. order_provided), provided) in
-    let provided : AreProvidedFrom p.0 7 = ((λ is. trace_provided trace.Replay), provided) in
+    let provided : AreProvidedFrom p.0 7 = ((λ is. replay_provided), provided) in
     let provided : AreProvidedFrom p.0 6 = ((λ is. explore_provided), provided) in
     let provided : AreProvidedFrom p.0 5 = ((λ is. hunt_provided), provided) in
     let provided : AreProvidedFrom p.0 4 = ((λ is. run_provided), provided) in

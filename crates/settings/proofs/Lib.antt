@@ -5,4 +5,3 @@ pub mod Numbers
 pub mod Plain
 pub mod Rows
 pub mod Walks
-pub mod TraceNames

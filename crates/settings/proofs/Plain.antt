@@ -1,6 +1,6 @@
 -- The command lines without options.
 use Rattle.std.proofs.Common.{◌≡◌, ◌∙◌, ◌==◌, Bool, true, false, true≢false, refl, sym, ap, subst, inl, inr, arith}
-use Rattle.std.proofs.Common.{List, [], ◌∷◌, Option, None, Some, Result, Ok, Err, IfOk, MatchResult, codes}
+use Rattle.std.proofs.Common.{List, [], ◌∷◌, map, Option, None, Some, Result, Ok, Err, IfOk, MatchResult, codes}
 use Rattle.std.proofs.Common.{option_map}
 use Rattle.std.specs.Borrow.{Bor}
 use Rattle.std.specs.Str.{bytes_eq}
@@ -19,15 +19,10 @@ use Rattle.settings.specs.declared.choice.Settings.TheVariants as asked
 use Rattle.clap.proofs.OnLiterals.{clap_on_literals}
 use Rattle.settings.specs.declared.choice.Explain.{Explain}
 use Rattle.settings.specs.declared.choice.Replay.{Replay}
-use Rattle.settings.specs.Lines.{IsAsked, IsChosen, GivesAsm, GivesCheck, GivesDis, GivesExplain, GivesExplore}
-use Rattle.settings.specs.Lines.{GivesHunt, GivesLines, GivesListing, GivesPicture, GivesReplay, GivesRun}
-use Rattle.settings.specs.Lines.{GivesSession, GivesWords, Named}
-use Rattle.command_forms.specs.Commands.{trace_name, ultra_command}
-use Rattle.command_forms.specs.declared.forms.TraceCommand.{TraceCommand}
-use Rattle.command_forms.specs.declared.forms.TraceCommand.TheVariants as trace
+use Rattle.settings.specs.Lines.{Gives, IsAsked, IsChosen, GivesExplain, name_of}
+use Rattle.command_forms.specs.Commands.{ultra_command}
 use Rattle.settings.specs.Plain.{HasFile, HasFiles, HasOthers, HasTrace, IsNoOption, IsPlain, texts_of}
 use Rattle.command_forms.proofs.Lemmas.{commands}
-use Rattle.settings.proofs.TraceNames.{no_trace}
 
 no_hyphen : (file : Text) → IsNoOption file → strip_byte 45 file ≡ None
 no_hyphen [] h = refl
@@ -47,68 +42,15 @@ no_hyphens file h = go (bytes_eq file (45 ∷ 45 ∷ [])) refl
 
 -- ---- the subcommand and its rows
 
--- an argument with its one value
-row : Text → Text → ValueSource → Row
-row id value source = record { id = id; values = value ∷ []; count = None; source = Some source; reading = AsWritten }
-
--- the subcommand of the settings
-name_of : Settings → Text
-name_of (asked.Words w) = codes "words"
-name_of (asked.Check c) = codes "check"
-name_of (asked.Asm a) = codes "asm"
-name_of (asked.Dis d) = codes "dis"
-name_of (asked.Run r) = codes "run"
-name_of (asked.Hunt h) = codes "hunt"
-name_of (asked.Explore x) = codes "explore"
-name_of (asked.Trace c r) = trace_name c
-name_of (asked.Order o) = codes "order"
-name_of (asked.Story o) = codes "story"
-name_of (asked.Picture p) = codes "picture"
-name_of (asked.Debug d) = codes "debug"
-name_of (asked.Explain e) = codes "explain"
-
--- The settings are those of the rows.
-abbrev AreOf : List Row → Settings → Type 0
-AreOf rows (asked.Words w) = GivesWords rows w
-AreOf rows (asked.Check c) = GivesCheck rows c
-AreOf rows (asked.Asm a) = GivesAsm rows a
-AreOf rows (asked.Dis d) = GivesDis rows d
-AreOf rows (asked.Run r) = GivesRun rows r
-AreOf rows (asked.Hunt h) = GivesHunt rows h
-AreOf rows (asked.Explore x) = GivesExplore rows x
-AreOf rows (asked.Trace c l) = GivesListing rows l
-AreOf rows (asked.Order o) = GivesLines rows o
-AreOf rows (asked.Story o) = GivesLines rows o
-AreOf rows (asked.Picture p) = GivesPicture rows p
-AreOf rows (asked.Debug d) = GivesSession rows d
-AreOf rows (asked.Explain e) = GivesExplain rows e
-
 same_pair : (x y : Text × List Row) → Some x ≡ Some y → x ≡ y
 same_pair x y e = cc
 
-named_as : (stop : Option (Text × List Row)) (name other : Text) (rows : List Row) (rest : List Row → Type 0) → stop ≡ Some (name, rows) → Named stop other rest
-    → (other ≡ name) × rest rows
-named_as stop name other rows rest is chosen =
-    let pair = same_pair (other, chosen.0) (name, rows) (sym chosen.1 ∙ is) in
-    (ap (λ (p : Text × List Row). p.0) pair, subst rest (ap (λ (p : Text × List Row). p.1) pair) chosen.2)
-
 -- If the subcommand and its rows are known, the settings are those of that subcommand and its rows.
 chosen_as : (stop : Option (Text × List Row)) (name : Text) (rows : List Row) (s : Settings) → stop ≡ Some (name, rows) → IsChosen stop s →
-    (name_of s ≡ name) × AreOf rows s
-unfolding name_of
-chosen_as stop name rows (asked.Words w) is chosen = named_as stop name (codes "words") rows (λ them. GivesWords them w) is chosen
-chosen_as stop name rows (asked.Check c) is chosen = named_as stop name (codes "check") rows (λ them. GivesCheck them c) is chosen
-chosen_as stop name rows (asked.Asm a) is chosen = named_as stop name (codes "asm") rows (λ them. GivesAsm them a) is chosen
-chosen_as stop name rows (asked.Dis d) is chosen = named_as stop name (codes "dis") rows (λ them. GivesDis them d) is chosen
-chosen_as stop name rows (asked.Run r) is chosen = named_as stop name (codes "run") rows (λ them. GivesRun them r) is chosen
-chosen_as stop name rows (asked.Hunt h) is chosen = named_as stop name (codes "hunt") rows (λ them. GivesHunt them h) is chosen
-chosen_as stop name rows (asked.Explore x) is chosen = named_as stop name (codes "explore") rows (λ them. GivesExplore them x) is chosen
-chosen_as stop name rows (asked.Trace c l) is chosen = named_as stop name (trace_name c) rows (λ them. GivesListing them l) is chosen
-chosen_as stop name rows (asked.Order o) is chosen = named_as stop name (codes "order") rows (λ them. GivesLines them o) is chosen
-chosen_as stop name rows (asked.Story o) is chosen = named_as stop name (codes "story") rows (λ them. GivesLines them o) is chosen
-chosen_as stop name rows (asked.Picture p) is chosen = named_as stop name (codes "picture") rows (λ them. GivesPicture them p) is chosen
-chosen_as stop name rows (asked.Debug d) is chosen = named_as stop name (codes "debug") rows (λ them. GivesSession them d) is chosen
-chosen_as stop name rows (asked.Explain e) is chosen = named_as stop name (codes "explain") rows (λ them. GivesExplain them e) is chosen
+    (name_of s ≡ name) × Gives rows s
+chosen_as stop name rows s is chosen =
+    let pair = same_pair (name_of s, chosen.0) (name, rows) (sym chosen.1 ∙ is) in
+    (ap (λ (p : Text × List Row). p.0) pair, subst (λ them. Gives them s) (ap (λ (p : Text × List Row). p.1) pair) chosen.2)
 
 -- Texts with different bytes are different.
 apart : {P : Type 0} (x y : Text) → bytes_eq x y ≡ false → x ≡ y → P
@@ -125,7 +67,7 @@ abbrev Give : List Text → (Settings → Type 0) → Type 0
 Give words Q = (r : Result Settings Error) → IfOk r (IsAsked words) → FailsBy (fault_of ultra_command words) r → MatchResult r Q (λ e. kind_of e ≡ OutOfMemory)
 
 give : (Q : Settings → Type 0) (words : List Text) (name : Text) (rows : List Row) → Meets words name rows
-    → ((s : Settings) → (name_of s ≡ name) × AreOf rows s → Q s) → Give words Q
+    → ((s : Settings) → (name_of s ≡ name) × Gives rows s → Q s) → Give words Q
 give Q words name rows met are (Ok s) chosen kinds = are s (chosen_as (subcommand_of ultra_command words) name rows s met.1 chosen)
 give Q words name rows met are (Err e) chosen kinds = go (rw met.0 at kinds)
   where
@@ -137,16 +79,13 @@ give Q words name rows met are (Err e) chosen kinds = go (rw met.0 at kinds)
 abbrev GivePlain : List Text → Type 0
 GivePlain words = Give words (λ given. IsPlain given words)
 
--- one file, and whether the command has `--json`
-file_rows : (has_json : Bool) → (file : Text) → List Row
-file_rows true file = row (codes "FILE") file CommandLine ∷ row (codes "json") (codes "false") DefaultValue ∷ []
-file_rows false file = row (codes "FILE") file CommandLine ∷ []
+-- an argument with its one value
+row : Text → Text → ValueSource → Row
+row id value source = record { id = id; values = value ∷ []; count = None; source = Some source; reading = AsWritten }
 
--- a trace and an image, and whether the command has `--json`
-trace_rows : (has_json : Bool) → (trace file : Text) → List Row
-trace_rows true trace file =
-    row (codes "TRACE") trace CommandLine ∷ row (codes "FILE") file CommandLine ∷ row (codes "json") (codes "false") DefaultValue ∷ []
-trace_rows false trace file = row (codes "TRACE") trace CommandLine ∷ row (codes "FILE") file CommandLine ∷ []
+-- flags that are not given
+unset_flags : List Text → List Row
+unset_flags = map (λ name. row name (codes "false") DefaultValue)
 
 -- Two texts that are both present and equal are the same.
 same_text : (x y : Text) → Some x ≡ Some y → x ≡ y
@@ -162,13 +101,6 @@ files_read : {command : Text} (one read other second : Text) (words : List Text)
 files_read {command} one read other second words named e f =
     subst (λ g. HasFiles command g second words) (same_text one read e) (subst (λ g. HasFiles command one g words) (same_text other second f) named)
 
--- The rows of a trace and an image give both files, and 1,024 shared words.
-replay_is : {command : Text} (has_json : Bool) (trace file : Text) (r : Replay) (words : List Text) → HasFiles command trace file words
-    → GivesReplay (trace_rows has_json trace file) r → HasTrace command r words
-unfolding row trace_rows
-replay_is true trace file r words named said = (files_read trace r.trace.now file r.file.now words named said.0 said.1, said.2.0)
-replay_is false trace file r words named said = (files_read trace r.trace.now file r.file.now words named said.0 said.1, said.2.0)
-
 no_text : (o : Option (Bor Text)) → None ≡ option_map (λ t. t.now) o → o ≡ None
 no_text None e = refl
 no_text (Some t) e = cc
@@ -177,232 +109,107 @@ unset : (b : Bool) → (b ≡ true → Some (codes "false") ≡ Some (codes "tru
 unset false f = refl
 unset true f = let bad : Some (codes "false") ≡ Some (codes "true") = f refl in cc
 
--- ---- the commands with one file and no flag but `--json`: `words FILE` and `check FILE`
+-- ---- the commands with one file
 
-data FileCommand : Type 0 where
-  OfWords : FileCommand
-  OfCheck : FileCommand
+data OnFile : Type 0 where
+  OfWords : OnFile
+  OfCheck : OnFile
+  OfDis : OnFile
+  OfRun : OnFile
+  OfHunt : OnFile
+  OfExplore : OnFile
+  OfDebug : OnFile
 
-abbrev file_command : FileCommand → Text
-file_command OfWords = codes "words"
-file_command OfCheck = codes "check"
+abbrev name_on_file : OnFile → Text
+name_on_file OfWords = codes "words"
+name_on_file OfCheck = codes "check"
+name_on_file OfDis = codes "dis"
+name_on_file OfRun = codes "run"
+name_on_file OfHunt = codes "hunt"
+name_on_file OfExplore = codes "explore"
+name_on_file OfDebug = codes "debug"
 
-abbrev file_json : FileCommand → Bool
-file_json OfWords = false
-file_json OfCheck = true
+abbrev flags_on_file : OnFile → List Text
+flags_on_file OfWords = []
+flags_on_file OfCheck = codes "json" ∷ []
+flags_on_file OfDis = codes "comments" ∷ codes "abi" ∷ []
+flags_on_file OfRun = codes "sweep" ∷ codes "no-log" ∷ codes "unfinished" ∷ codes "quiet" ∷ codes "json" ∷ []
+flags_on_file OfHunt = codes "overwrite" ∷ codes "expect-one" ∷ codes "quiet" ∷ codes "json" ∷ []
+flags_on_file OfExplore = codes "each" ∷ codes "every" ∷ codes "quiet" ∷ codes "json" ∷ []
+flags_on_file OfDebug = codes "stdio" ∷ []
 
-file_met : (c : FileCommand) (program file : Text) → IsNoOption file
-    → Meets (program ∷ file_command c ∷ file ∷ []) (file_command c) (file_rows (file_json c) file)
-unfolding row file_rows clap_on_literals commands
+-- the file, and no flag
+file_rows : OnFile → (file : Text) → List Row
+file_rows c file = row (codes "FILE") file CommandLine ∷ unset_flags (flags_on_file c)
+
+file_met : (c : OnFile) (program file : Text) → IsNoOption file → Meets (program ∷ name_on_file c ∷ file ∷ []) (name_on_file c) (file_rows c file)
+unfolding row unset_flags file_rows clap_on_literals commands
 file_met OfWords program file h = rw (no_hyphens file h, no_hyphen file h, no_hyphen file h) (refl, refl)
 file_met OfCheck program file h = rw (no_hyphens file h, no_hyphen file h, no_hyphen file h) (refl, refl)
+file_met OfDis program file h = rw (no_hyphens file h, no_hyphen file h, no_hyphen file h) (refl, refl)
+file_met OfRun program file h = rw (no_hyphens file h, no_hyphen file h, no_hyphen file h) (refl, refl)
+file_met OfHunt program file h = rw (no_hyphens file h, no_hyphen file h, no_hyphen file h) (refl, refl)
+file_met OfExplore program file h = rw (no_hyphens file h, no_hyphen file h, no_hyphen file h) (refl, refl)
+file_met OfDebug program file h = rw (no_hyphens file h, no_hyphen file h, no_hyphen file h) (refl, refl)
 
-file_are : (c : FileCommand) (file : Text) (words : List Text) → HasFile (file_command c) file words → (s : Settings)
-    → (name_of s ≡ file_command c) × AreOf (file_rows (file_json c) file) s → IsPlain s words
-unfolding name_of row file_rows
+file_are : (c : OnFile) (file : Text) (words : List Text) → HasFile (name_on_file c) file words → (s : Settings)
+    → (name_of s ≡ name_on_file c) × Gives (file_rows c file) s → IsPlain s words
+unfolding row unset_flags file_rows
 file_are OfWords file words named (asked.Words w) said = file_read file w.file.now words named said.1
-file_are OfWords file words named (asked.Trace d r) said = no_trace d (codes "words") refl said.0
-file_are OfWords file words named other said = apart (name_of other) (codes "words") refl said.0
 file_are OfCheck file words named (asked.Check c) said = (file_read file c.file.now words named said.1.0, unset c.json said.1.1.0)
-file_are OfCheck file words named (asked.Trace d r) said = no_trace d (codes "check") refl said.0
-file_are OfCheck file words named other said = apart (name_of other) (codes "check") refl said.0
-
--- The words give the command's file, and no flag.
-file_given : (c : FileCommand) (file : Text) (words : List Text) → HasFile (file_command c) file words → GivePlain words
-file_given c file words named =
-    give _ words (file_command c) (file_rows (file_json c) file) (rw named.1 (file_met c named.0 file named.2)) (file_are c file words named)
-
--- ---- the commands with a trace and an image: those of `TraceCommand`, and `order`, `story` and `picture TRACE FILE`
-
-data OnTrace : Type 0 where
-  Alone : TraceCommand → OnTrace
-  OfOrder : OnTrace
-  OfStory : OnTrace
-  OfPicture : OnTrace
-
-abbrev name_on_trace : OnTrace → Text
-name_on_trace (Alone c) = trace_name c
-name_on_trace OfOrder = codes "order"
-name_on_trace OfStory = codes "story"
-name_on_trace OfPicture = codes "picture"
-
-abbrev json_on_trace : OnTrace → Bool
-json_on_trace (Alone c) = true
-json_on_trace OfOrder = true
-json_on_trace OfStory = true
-json_on_trace OfPicture = false
-
-trace_met : (c : OnTrace) (program one file : Text) → IsNoOption one → IsNoOption file →
-    Meets (program ∷ name_on_trace c ∷ one ∷ file ∷ []) (name_on_trace c) (trace_rows (json_on_trace c) one file)
-unfolding row trace_rows clap_on_literals commands
-trace_met (Alone trace.Replay) program one file h k =
-    rw (no_hyphens one h, no_hyphen one h, no_hyphen one h, no_hyphens file k, no_hyphen file k, no_hyphen file k) (refl, refl)
-trace_met (Alone trace.Stats) program one file h k =
-    rw (no_hyphens one h, no_hyphen one h, no_hyphen one h, no_hyphens file k, no_hyphen file k, no_hyphen file k) (refl, refl)
-trace_met OfOrder program one file h k =
-    rw (no_hyphens one h, no_hyphen one h, no_hyphen one h, no_hyphens file k, no_hyphen file k, no_hyphen file k) (refl, refl)
-trace_met OfStory program one file h k =
-    rw (no_hyphens one h, no_hyphen one h, no_hyphen one h, no_hyphens file k, no_hyphen file k, no_hyphen file k) (refl, refl)
-trace_met OfPicture program one file h k =
-    rw (no_hyphens one h, no_hyphen one h, no_hyphen one h, no_hyphens file k, no_hyphen file k, no_hyphen file k) (refl, refl)
-
-trace_are : (c : OnTrace) (one file : Text) (words : List Text) → HasFiles (name_on_trace c) one file words → (s : Settings)
-    → (name_of s ≡ name_on_trace c) × AreOf (trace_rows (json_on_trace c) one file) s → IsPlain s words
-unfolding name_of row trace_rows
-trace_are (Alone c) one file words named (asked.Trace d l) said =
-    (subst (λ name. HasTrace name l.replay words) (sym said.0) (replay_is true one file l.replay words named said.1.0), unset l.json said.1.1.0)
-trace_are (Alone c) one file words named other said = no_trace c (name_of other) refl (sym said.0)
-trace_are OfOrder one file words named (asked.Order o) said =
-    (replay_is true one file o.replay words named said.1.0, (said.1.1, said.1.2, said.1.3, said.1.4, unset o.json said.1.5.0))
-trace_are OfOrder one file words named (asked.Trace d r) said = no_trace d (codes "order") refl said.0
-trace_are OfOrder one file words named other said = apart (name_of other) (codes "order") refl said.0
-trace_are OfStory one file words named (asked.Story o) said =
-    (replay_is true one file o.replay words named said.1.0, (said.1.1, said.1.2, said.1.3, said.1.4, unset o.json said.1.5.0))
-trace_are OfStory one file words named (asked.Trace d r) said = no_trace d (codes "story") refl said.0
-trace_are OfStory one file words named other said = apart (name_of other) (codes "story") refl said.0
-trace_are OfPicture one file words named (asked.Picture p) said = (replay_is false one file p.replay words named said.1.0, said.1.1)
-trace_are OfPicture one file words named (asked.Trace d r) said = no_trace d (codes "picture") refl said.0
-trace_are OfPicture one file words named other said = apart (name_of other) (codes "picture") refl said.0
-
--- The words give both files of the command, 1,024 shared words, no choice, and no flag.
-trace_given : (c : OnTrace) (one file : Text) (words : List Text) → HasFiles (name_on_trace c) one file words → GivePlain words
-trace_given c one file words named =
-    give _ words (name_on_trace c) (trace_rows (json_on_trace c) one file) (rw named.1 (trace_met c named.0 one file named.2 named.3))
-    (trace_are c one file words named)
-
--- ---- `asm FILE OUT`
-
-asm_rows : (file out : Text) → List Row
-asm_rows file out = row (codes "FILE") file CommandLine ∷ row (codes "OUT") out CommandLine ∷ []
-
-asm_met : (program file out : Text) → IsNoOption file → IsNoOption out → Meets (program ∷ codes "asm" ∷ file ∷ out ∷ []) (codes "asm") (asm_rows file out)
-unfolding row asm_rows clap_on_literals commands
-asm_met program file out h k =
-    rw (no_hyphens file h, no_hyphen file h, no_hyphen file h, no_hyphens out k, no_hyphen out k, no_hyphen out k) (refl, refl)
-
-asm_are : (file out : Text) (words : List Text) → HasFiles (codes "asm") file out words → (s : Settings)
-    → (name_of s ≡ codes "asm") × AreOf (asm_rows file out) s → IsPlain s words
-unfolding name_of row asm_rows
-asm_are file out words named (asked.Asm a) said = files_read file a.file.now out a.out.now words named said.1.0 said.1.1
-asm_are file out words named (asked.Trace d r) said = no_trace d (codes "asm") refl said.0
-asm_are file out words named other said = apart (name_of other) (codes "asm") refl said.0
-
--- `asm FILE OUT` gives both files.
-asm_given : (file out : Text) (words : List Text) → HasFiles (codes "asm") file out words → GivePlain words
-asm_given file out words named =
-    give _ words (codes "asm") (asm_rows file out) (rw named.1 (asm_met named.0 file out named.2 named.3)) (asm_are file out words named)
-
--- ---- `dis FILE`
-
-dis_rows : (file : Text) → List Row
-dis_rows file = row (codes "FILE") file CommandLine ∷ row (codes "comments") (codes "false") DefaultValue ∷ []
-
-dis_met : (program file : Text) → IsNoOption file → Meets (program ∷ codes "dis" ∷ file ∷ []) (codes "dis") (dis_rows file)
-unfolding row dis_rows clap_on_literals commands
-dis_met program file h = rw (no_hyphens file h, no_hyphen file h, no_hyphen file h) (refl, refl)
-
-dis_are : (file : Text) (words : List Text) → HasFile (codes "dis") file words → (s : Settings) → (name_of s ≡ codes "dis") × AreOf (dis_rows file) s →
-    IsPlain s words
-unfolding name_of row dis_rows
-dis_are file words named (asked.Dis d) said =
-    let shared = said.1.2 in
-    (file_read file d.file.now words named said.1.0, unset d.comments said.1.1.0, shared.0)
-dis_are file words named (asked.Trace d r) said = no_trace d (codes "dis") refl said.0
-dis_are file words named other said = apart (name_of other) (codes "dis") refl said.0
-
--- `dis FILE` gives the file, no flag, and the default of each number.
-dis_given : (file : Text) (words : List Text) → HasFile (codes "dis") file words → GivePlain words
-dis_given file words named = give _ words (codes "dis") (dis_rows file) (rw named.1 (dis_met named.0 file named.2)) (dis_are file words named)
-
--- ---- `run FILE`
-
-run_rows : (file : Text) → List Row
-run_rows file =
-    row (codes "FILE") file CommandLine ∷ row (codes "sweep") (codes "false") DefaultValue
-    ∷ row (codes "no-log") (codes "false") DefaultValue ∷ row (codes "unfinished") (codes "false") DefaultValue
-    ∷ row (codes "quiet") (codes "false") DefaultValue ∷ row (codes "json") (codes "false") DefaultValue ∷ []
-
-run_met : (program file : Text) → IsNoOption file → Meets (program ∷ codes "run" ∷ file ∷ []) (codes "run") (run_rows file)
-unfolding row run_rows clap_on_literals commands
-run_met program file h = rw (no_hyphens file h, no_hyphen file h, no_hyphen file h) (refl, refl)
-
-run_are : (file : Text) (words : List Text) → HasFile (codes "run") file words → (s : Settings) → (name_of s ≡ codes "run") × AreOf (run_rows file) s →
-    IsPlain s words
-unfolding name_of row run_rows
-run_are file words named (asked.Run r) said =
-    let sizes = said.1.7 in
-    let budget = said.1.8 in
-    let start = said.1.9 in (
+file_are OfDis file words named (asked.Dis d) said =
+    let shared = said.1.4 in
+    (file_read file d.file.now words named said.1.0, unset d.comments said.1.1.0, no_text d.symbols said.1.2, unset d.abi said.1.3.0, shared.0)
+file_are OfRun file words named (asked.Run r) said =
+    let sizes = said.1.8 in
+    let budget = said.1.9 in
+    let start = said.1.10 in (
       file_read file r.file.now words named said.1.0,
       no_text r.trace said.1.1,
       unset r.sweep said.1.2.0,
       unset r.no_log said.1.3.0,
       unset r.unfinished said.1.4.0,
       unset r.quiet said.1.5.0,
-      unset r.json said.1.6.0,
+      no_text r.symbols said.1.6,
+      unset r.json said.1.7.0,
       (sizes.0.0, sizes.1.0, sizes.2.0, sizes.3.0, sizes.4.0),
       budget.0,
       start.0,
     )
-run_are file words named (asked.Trace d r) said = no_trace d (codes "run") refl said.0
-run_are file words named other said = apart (name_of other) (codes "run") refl said.0
-
--- `run FILE` gives the file, no trace, no flag, and the default of each number.
-run_given : (file : Text) (words : List Text) → HasFile (codes "run") file words → GivePlain words
-run_given file words named = give _ words (codes "run") (run_rows file) (rw named.1 (run_met named.0 file named.2)) (run_are file words named)
-
--- ---- `hunt FILE`
-
-hunt_rows : (file : Text) → List Row
-hunt_rows file =
-    row (codes "FILE") file CommandLine ∷ row (codes "overwrite") (codes "false") DefaultValue ∷ row (codes "expect-one") (codes "false") DefaultValue
-    ∷ row (codes "quiet") (codes "false") DefaultValue
-    ∷ row (codes "json") (codes "false") DefaultValue ∷ []
-
-hunt_met : (program file : Text) → IsNoOption file → Meets (program ∷ codes "hunt" ∷ file ∷ []) (codes "hunt") (hunt_rows file)
-unfolding row hunt_rows clap_on_literals commands
-hunt_met program file h = rw (no_hyphens file h, no_hyphen file h, no_hyphen file h) (refl, refl)
-
-hunt_are : (file : Text) (words : List Text) → HasFile (codes "hunt") file words → (s : Settings) → (name_of s ≡ codes "hunt") × AreOf (hunt_rows file) s →
-    IsPlain s words
-unfolding name_of row hunt_rows
-hunt_are file words named (asked.Hunt h) said =
-    let sizes = said.1.7 in
-    let budget = said.1.8 in
-    let runs = said.1.9 in
-    let start = said.1.10 in (
+file_are OfHunt file words named (asked.Hunt h) said =
+    let sizes = said.1.8 in
+    let budget = said.1.9 in
+    let runs = said.1.10 in
+    let start = said.1.11 in (
       file_read file h.file.now words named said.1.0,
       no_text h.trace said.1.1,
       no_text h.observe said.1.2,
       unset h.overwrite said.1.3.0,
       unset h.expect_one said.1.4.0,
       unset h.quiet said.1.5.0,
-      unset h.json said.1.6.0,
+      no_text h.symbols said.1.6,
+      unset h.json said.1.7.0,
       (sizes.0.0, sizes.1.0, sizes.2.0, sizes.3.0, sizes.4.0),
       budget.0,
       runs.0,
       start.0,
     )
-hunt_are file words named (asked.Trace d r) said = no_trace d (codes "hunt") refl said.0
-hunt_are file words named other said = apart (name_of other) (codes "hunt") refl said.0
-
--- `hunt FILE` gives the file, no trace, no list, no flag, and the default of each number.
-hunt_given : (file : Text) (words : List Text) → HasFile (codes "hunt") file words → GivePlain words
-hunt_given file words named = give _ words (codes "hunt") (hunt_rows file) (rw named.1 (hunt_met named.0 file named.2)) (hunt_are file words named)
-
--- ---- `debug FILE`
-
-debug_rows : (file : Text) → List Row
-debug_rows file = row (codes "FILE") file CommandLine ∷ row (codes "stdio") (codes "false") DefaultValue ∷ []
-
-debug_met : (program file : Text) → IsNoOption file → Meets (program ∷ codes "debug" ∷ file ∷ []) (codes "debug") (debug_rows file)
-unfolding row debug_rows clap_on_literals commands
-debug_met program file h = rw (no_hyphens file h, no_hyphen file h, no_hyphen file h) (refl, refl)
-
-debug_are : (file : Text) (words : List Text) → HasFile (codes "debug") file words → (s : Settings)
-    → (name_of s ≡ codes "debug") × AreOf (debug_rows file) s → IsPlain s words
-unfolding name_of row debug_rows
-debug_are file words named (asked.Debug d) said =
+file_are OfExplore file words named (asked.Explore x) said =
+    let sizes = said.1.8 in
+    let states = said.1.9 in (
+      file_read file x.file.now words named said.1.0,
+      no_text x.trace said.1.1,
+      no_text x.observe said.1.2,
+      unset x.each said.1.3.0,
+      unset x.every said.1.4.0,
+      unset x.quiet said.1.5.0,
+      no_text x.symbols said.1.6,
+      unset x.json said.1.7.0,
+      (sizes.0.0, sizes.1.0, sizes.2.0, sizes.3.0, sizes.4.0),
+      states.0,
+      said.1.10,
+    )
+file_are OfDebug file words named (asked.Debug d) said =
     let sizes = said.1.3 in
     let budget = said.1.4 in
     let port = said.1.5 in (
@@ -413,13 +220,103 @@ debug_are file words named (asked.Debug d) said =
       budget.0,
       port.0,
     )
-debug_are file words named (asked.Trace d r) said = no_trace d (codes "debug") refl said.0
-debug_are file words named other said = apart (name_of other) (codes "debug") refl said.0
+file_are c file words named other said = apart (name_of other) (name_on_file c) refl said.0
 
--- `debug FILE` gives the file, no trace, no flag, and the default of each number.
-debug_given : (file : Text) (words : List Text) → HasFile (codes "debug") file words → GivePlain words
-debug_given file words named =
-    give _ words (codes "debug") (debug_rows file) (rw named.1 (debug_met named.0 file named.2)) (debug_are file words named)
+-- The words give the command's file, no other file and no list, no flag, no witness, and the default of each number.
+file_given : (c : OnFile) (file : Text) (words : List Text) → HasFile (name_on_file c) file words → GivePlain words
+file_given c file words named =
+    give _ words (name_on_file c) (file_rows c file) (rw named.1 (file_met c named.0 file named.2)) (file_are c file words named)
+
+-- ---- the commands with two files: `asm FILE OUT`, and those with a trace and an image
+
+data OnFiles : Type 0 where
+  OfAsm : OnFiles
+  OfReplay : OnFiles
+  OfOrder : OnFiles
+  OfStory : OnFiles
+  OfStats : OnFiles
+  OfPicture : OnFiles
+
+abbrev name_on_files : OnFiles → Text
+name_on_files OfAsm = codes "asm"
+name_on_files OfReplay = codes "replay"
+name_on_files OfOrder = codes "order"
+name_on_files OfStory = codes "story"
+name_on_files OfStats = codes "stats"
+name_on_files OfPicture = codes "picture"
+
+abbrev flags_on_files : OnFiles → List Text
+flags_on_files OfAsm = []
+flags_on_files OfReplay = codes "json" ∷ []
+flags_on_files OfOrder = codes "abi" ∷ codes "json" ∷ []
+flags_on_files OfStory = codes "json" ∷ []
+flags_on_files OfStats = codes "csv" ∷ codes "json" ∷ []
+flags_on_files OfPicture = []
+
+-- both files, and no flag
+files_rows : OnFiles → (one other : Text) → List Row
+files_rows OfAsm one other = row (codes "FILE") one CommandLine ∷ row (codes "OUT") other CommandLine ∷ []
+files_rows c one other = row (codes "TRACE") one CommandLine ∷ row (codes "FILE") other CommandLine ∷ unset_flags (flags_on_files c)
+
+files_met : (c : OnFiles) (program one other : Text) → IsNoOption one → IsNoOption other
+    → Meets (program ∷ name_on_files c ∷ one ∷ other ∷ []) (name_on_files c) (files_rows c one other)
+unfolding row unset_flags files_rows clap_on_literals commands
+files_met OfAsm program one other h k =
+    rw (no_hyphens one h, no_hyphen one h, no_hyphen one h, no_hyphens other k, no_hyphen other k, no_hyphen other k) (refl, refl)
+files_met OfReplay program one other h k =
+    rw (no_hyphens one h, no_hyphen one h, no_hyphen one h, no_hyphens other k, no_hyphen other k, no_hyphen other k) (refl, refl)
+files_met OfOrder program one other h k =
+    rw (no_hyphens one h, no_hyphen one h, no_hyphen one h, no_hyphens other k, no_hyphen other k, no_hyphen other k) (refl, refl)
+files_met OfStory program one other h k =
+    rw (no_hyphens one h, no_hyphen one h, no_hyphen one h, no_hyphens other k, no_hyphen other k, no_hyphen other k) (refl, refl)
+files_met OfStats program one other h k =
+    rw (no_hyphens one h, no_hyphen one h, no_hyphen one h, no_hyphens other k, no_hyphen other k, no_hyphen other k) (refl, refl)
+files_met OfPicture program one other h k =
+    rw (no_hyphens one h, no_hyphen one h, no_hyphen one h, no_hyphens other k, no_hyphen other k, no_hyphen other k) (refl, refl)
+
+-- A trace and an image that are those read give both files, and 1,024 shared words if no other number is given.
+trace_read : {command : Text} (one other : Text) (r : Replay) (words : List Text) → HasFiles command one other words → Some one ≡ Some r.trace.now →
+    Some other ≡ Some r.file.now → r.words ≡ 1024 → HasTrace command r words
+trace_read one other r words named e f shared = (files_read one r.trace.now other r.file.now words named e f, shared)
+
+files_are : (c : OnFiles) (one other : Text) (words : List Text) → HasFiles (name_on_files c) one other words → (s : Settings)
+    → (name_of s ≡ name_on_files c) × Gives (files_rows c one other) s → IsPlain s words
+unfolding row unset_flags files_rows
+files_are OfAsm one other words named (asked.Asm a) said = files_read one a.file.now other a.out.now words named said.1.0 said.1.1
+files_are OfReplay one other words named (asked.Replay r) said =
+    let files = said.1.0 in
+    let shared = files.2 in
+    (trace_read one other r.replay words named files.0 files.1 shared.0, no_text r.symbols said.1.1, unset r.json said.1.2.0)
+files_are OfOrder one other words named (asked.Order o) said =
+    let lines = said.1.0 in
+    let files = lines.0 in
+    let shared = files.2 in (
+      trace_read one other o.lines.replay words named files.0 files.1 shared.0,
+      (lines.1, lines.2, lines.3, lines.4, no_text o.lines.symbols lines.5, unset o.lines.json lines.6.0),
+      unset o.abi said.1.1.0,
+    )
+files_are OfStory one other words named (asked.Story l) said =
+    let lines = said.1 in
+    let files = lines.0 in
+    let shared = files.2 in (
+      trace_read one other l.replay words named files.0 files.1 shared.0,
+      (lines.1, lines.2, lines.3, lines.4, no_text l.symbols lines.5, unset l.json lines.6.0),
+    )
+files_are OfStats one other words named (asked.Stats n) said =
+    let files = said.1.0 in
+    let shared = files.2 in
+    (trace_read one other n.replay words named files.0 files.1 shared.0, unset n.csv said.1.1.0, unset n.json said.1.2.0)
+files_are OfPicture one other words named (asked.Picture p) said =
+    let files = said.1.0 in
+    let shared = files.2 in
+    (trace_read one other p.replay words named files.0 files.1 shared.0, said.1.1)
+files_are c one other words named chosen said = apart (name_of chosen) (name_on_files c) refl said.0
+
+-- The words give both files of the command, 1,024 shared words, no names, no choice, and no flag.
+files_given : (c : OnFiles) (one other : Text) (words : List Text) → HasFiles (name_on_files c) one other words → GivePlain words
+files_given c one other words named =
+    give _ words (name_on_files c) (files_rows c one other) (rw named.1 (files_met c named.0 one other named.2 named.3))
+    (files_are c one other words named)
 
 -- ---- `explain [CODE]..`
 
@@ -459,52 +356,13 @@ explain_words [] x said = sym said
 explain_words (word ∷ others) x said = sym said
 
 explain_are : (others words : List Text) → HasOthers (codes "explain") others words → (s : Settings)
-    → (name_of s ≡ codes "explain") × AreOf (explain_rows others) s → IsPlain s words
-unfolding name_of
+    → (name_of s ≡ codes "explain") × Gives (explain_rows others) s → IsPlain s words
 explain_are others words named (asked.Explain x) said = subst (λ them. HasOthers (codes "explain") them words) (explain_words others x said.1) named
-explain_are others words named (asked.Trace d r) said = no_trace d (codes "explain") refl said.0
 explain_are others words named other said = apart (name_of other) (codes "explain") refl said.0
 
 -- `explain` gives the words after it, of which there are at most four.
 explain_given : (others words : List Text) → HasOthers (codes "explain") others words → GivePlain words
 explain_given others words named = give _ words (codes "explain") (explain_rows others) (explain_met others words named) (explain_are others words named)
-
--- ---- `explore FILE`
-
-explore_rows : (file : Text) → List Row
-explore_rows file =
-    row (codes "FILE") file CommandLine ∷ row (codes "each") (codes "false") DefaultValue
-    ∷ row (codes "every") (codes "false") DefaultValue ∷ row (codes "quiet") (codes "false") DefaultValue
-    ∷ row (codes "json") (codes "false") DefaultValue ∷ []
-
-explore_met : (program file : Text) → IsNoOption file → Meets (program ∷ codes "explore" ∷ file ∷ []) (codes "explore") (explore_rows file)
-unfolding row explore_rows clap_on_literals commands
-explore_met program file h = rw (no_hyphens file h, no_hyphen file h, no_hyphen file h) (refl, refl)
-
-explore_are : (file : Text) (words : List Text) → HasFile (codes "explore") file words → (s : Settings)
-    → (name_of s ≡ codes "explore") × AreOf (explore_rows file) s → IsPlain s words
-unfolding name_of row explore_rows
-explore_are file words named (asked.Explore x) said =
-    let sizes = said.1.7 in
-    let states = said.1.8 in (
-      file_read file x.file.now words named said.1.0,
-      no_text x.trace said.1.1,
-      no_text x.observe said.1.2,
-      unset x.each said.1.3.0,
-      unset x.every said.1.4.0,
-      unset x.quiet said.1.5.0,
-      unset x.json said.1.6.0,
-      (sizes.0.0, sizes.1.0, sizes.2.0, sizes.3.0, sizes.4.0),
-      states.0,
-      said.1.9,
-    )
-explore_are file words named (asked.Trace d r) said = no_trace d (codes "explore") refl said.0
-explore_are file words named other said = apart (name_of other) (codes "explore") refl said.0
-
--- `explore FILE` gives the file, no trace, no list, no flag, no witness, and the default of each number.
-explore_given : (file : Text) (words : List Text) → HasFile (codes "explore") file words → GivePlain words
-explore_given file words named =
-    give _ words (codes "explore") (explore_rows file) (rw named.1 (explore_met named.0 file named.2)) (explore_are file words named)
 
 -- ---- all commands
 
@@ -512,14 +370,15 @@ explore_given file words named =
 pub plain_given : (s : Settings) (words : List Text) → IsPlain s words → GivePlain words
 plain_given (asked.Words w) words said = file_given OfWords w.file.now words said
 plain_given (asked.Check c) words said = file_given OfCheck c.file.now words said.0
-plain_given (asked.Asm a) words said = asm_given a.file.now a.out.now words said
-plain_given (asked.Dis d) words said = dis_given d.file.now words said.0
-plain_given (asked.Run r) words said = run_given r.file.now words said.0
-plain_given (asked.Hunt h) words said = hunt_given h.file.now words said.0
-plain_given (asked.Explore x) words said = explore_given x.file.now words said.0
-plain_given (asked.Trace c l) words said = trace_given (Alone c) l.replay.trace.now l.replay.file.now words said.0.0
-plain_given (asked.Order o) words said = trace_given OfOrder o.replay.trace.now o.replay.file.now words said.0.0
-plain_given (asked.Story o) words said = trace_given OfStory o.replay.trace.now o.replay.file.now words said.0.0
-plain_given (asked.Picture p) words said = trace_given OfPicture p.replay.trace.now p.replay.file.now words said.0.0
-plain_given (asked.Debug d) words said = debug_given d.file.now words said.0
+plain_given (asked.Asm a) words said = files_given OfAsm a.file.now a.out.now words said
+plain_given (asked.Dis d) words said = file_given OfDis d.file.now words said.0
+plain_given (asked.Run r) words said = file_given OfRun r.file.now words said.0
+plain_given (asked.Hunt h) words said = file_given OfHunt h.file.now words said.0
+plain_given (asked.Explore x) words said = file_given OfExplore x.file.now words said.0
+plain_given (asked.Replay r) words said = files_given OfReplay r.replay.trace.now r.replay.file.now words said.0.0
+plain_given (asked.Order o) words said = files_given OfOrder o.lines.replay.trace.now o.lines.replay.file.now words said.0.0
+plain_given (asked.Story l) words said = files_given OfStory l.replay.trace.now l.replay.file.now words said.0.0
+plain_given (asked.Stats c) words said = files_given OfStats c.replay.trace.now c.replay.file.now words said.0.0
+plain_given (asked.Picture p) words said = files_given OfPicture p.replay.trace.now p.replay.file.now words said.0.0
+plain_given (asked.Debug d) words said = file_given OfDebug d.file.now words said.0
 plain_given (asked.Explain e) words said = explain_given (texts_of e.words.items) words said

@@ -3,8 +3,7 @@ use Rattle.std.specs.Prelude.{◌≡◌, ◌⊎◌, pos, true, List, [], ◌∷�
 use Rattle.clap.specs.Words.{IsSignedIn, Row, Text, first_of, one_of, without_minus}
 use Rattle.command_forms.specs.Commands.{Bounds, budget, combinations, first_line, last_line, port, processor}
 use Rattle.command_forms.specs.Commands.{queue, records, runs, shared_word, shared_words, stages, start, states}
-use Rattle.command_forms.specs.Commands.{step, steps, trace_name, witness}
-use Rattle.command_forms.specs.declared.forms.TraceCommand.{TraceCommand}
+use Rattle.command_forms.specs.Commands.{step, steps, witness}
 
 abbrev pub HasPath : Text → List Row → Type 0
 HasPath id rows = is_some (first_of id rows) ≡ true
@@ -50,15 +49,12 @@ HasHunt rows =
     HasPath (codes "FILE") rows × HasSizes rows × HasNumber steps.bounds rows × HasNumber runs.bounds rows
     × HasNumber start.bounds rows
 
--- the program's subcommands except those of `TraceCommand`
+-- the program's subcommands
 abbrev pub command_names : List Text
 command_names =
     codes "words" ∷ codes "check" ∷ codes "asm" ∷ codes "dis" ∷ codes "run" ∷ codes "hunt" ∷ codes "explore"
-    ∷ codes "order" ∷ codes "story" ∷ codes "picture" ∷ codes "debug" ∷ codes "explain" ∷ []
-
--- The name is that of a subcommand of `TraceCommand`.
-abbrev pub IsTraceName : Text → Type 0
-IsTraceName name = (command : TraceCommand) × (name ≡ trace_name command)
+    ∷ codes "replay" ∷ codes "order" ∷ codes "story" ∷ codes "stats" ∷ codes "picture" ∷ codes "debug"
+    ∷ codes "explain" ∷ []
 
 abbrev pub IsOneOf : Text → List Text → Type 0
 IsOneOf name [] = ⊥
@@ -66,7 +62,7 @@ IsOneOf name (x ∷ xs) = (name ≡ x) ⊎ IsOneOf name xs
 
 -- The name is that of one of the program's subcommands, and the rows have everything that it requires.
 pub record IsWhole (name : Text) (rows : List Row) : Type 0 where
-  pub known : IsTraceName name ⊎ IsOneOf name command_names
+  pub known : IsOneOf name command_names
   pub words : name ≡ codes "words" → HasPath (codes "FILE") rows
   pub check : name ≡ codes "check" → HasPath (codes "FILE") rows
   pub asm : name ≡ codes "asm" → HasAsm rows
@@ -74,9 +70,10 @@ pub record IsWhole (name : Text) (rows : List Row) : Type 0 where
   pub run : name ≡ codes "run" → HasRun rows
   pub hunt : name ≡ codes "hunt" → HasHunt rows
   pub explore : name ≡ codes "explore" → HasExplore rows
-  pub trace : (command : TraceCommand) → name ≡ trace_name command → HasReplay rows
+  pub replay : name ≡ codes "replay" → HasReplay rows
   pub order : name ≡ codes "order" → HasLines rows
   pub story : name ≡ codes "story" → HasLines rows
+  pub stats : name ≡ codes "stats" → HasReplay rows
   pub picture : name ≡ codes "picture" → HasPicture rows
   pub debug : name ≡ codes "debug" → HasDebug rows
 

@@ -1,6 +1,7 @@
 -- The settings for the words of a command line.
 use Rattle.std.specs.Prelude.{◌≡◌, ◌≤◌, ◌↔◌, ℕ, pos, Bool, true, List, [], codes, Option, Some, None, option_map}
 use Rattle.std.specs.Prelude.{unwrap_or, IsSomeAnd, MatchOption}
+use Rattle.std.specs.Borrow.{Bor}
 use Rattle.std.specs.Str.Parse.{signed_digits_value}
 use Rattle.clap.specs.Words.{Row, Text, all_of, first_of, subcommand_of}
 use Rattle.settings.specs.Plain.{texts_of}
@@ -14,22 +15,24 @@ use Rattle.settings.specs.declared.choice.Run.{Run}
 use Rattle.settings.specs.declared.choice.Hunt.{Hunt}
 use Rattle.settings.specs.declared.choice.Explore.{Explore}
 use Rattle.settings.specs.declared.choice.Replay.{Replay}
-use Rattle.settings.specs.declared.choice.Listing.{Listing}
+use Rattle.settings.specs.declared.choice.Report.{Report}
 use Rattle.settings.specs.declared.choice.Lines.{Lines}
+use Rattle.settings.specs.declared.choice.Order.{Order}
+use Rattle.settings.specs.declared.choice.Counts.{Counts}
 use Rattle.settings.specs.declared.choice.Picture.{Picture}
 use Rattle.settings.specs.declared.choice.Session.{Session}
 use Rattle.settings.specs.declared.choice.Explain.{Explain}
 use Rattle.settings.specs.declared.choice.Sizes.{Sizes}
 use Rattle.command_forms.specs.Commands.{Bounds, Ranged, stages, queue, records, combinations, shared_words}
 use Rattle.command_forms.specs.Commands.{budget, steps, port, states, runs, start, processor, shared_word}
-use Rattle.command_forms.specs.Commands.{witness, step, first_line, last_line, trace_name, ultra_command}
+use Rattle.command_forms.specs.Commands.{witness, step, first_line, last_line, ultra_command}
 
 abbrev pub IsPath : Text → List Row → Text → Type 0
 IsPath id rows file = first_of id rows ≡ Some file
 
 -- The text is that of an optional argument.
-abbrev pub IsOption : Text → List Row → Option Text → Type 0
-IsOption id rows file = first_of id rows ≡ file
+abbrev pub IsOption : Text → List Row → Option (Bor Text) → Type 0
+IsOption id rows text = first_of id rows ≡ option_map (λ t. t.now) text
 
 -- The flag is set exactly if its entry is `true`. The entry of a flag that is not given is `false`.
 abbrev pub IsFlag : Text → List Row → Bool → Type 0
@@ -63,72 +66,99 @@ GivesAsm rows a = IsPath (codes "FILE") rows a.file.now × IsPath (codes "OUT") 
 
 abbrev pub GivesDis : List Row → Dis → Type 0
 GivesDis rows d = IsPath (codes "FILE") rows d.file.now × IsFlag (codes "comments") rows d.comments
-    × IsNumber shared_words rows d.words
+    × IsOption (codes "symbols") rows d.symbols × IsFlag (codes "abi") rows d.abi × IsNumber shared_words rows d.words
 
 abbrev pub GivesRun : List Row → Run → Type 0
 GivesRun rows r = IsPath (codes "FILE") rows r.file.now
-    × IsOption (codes "trace") rows (option_map (λ t. t.now) r.trace) × IsFlag (codes "sweep") rows r.sweep
+    × IsOption (codes "trace") rows r.trace × IsFlag (codes "sweep") rows r.sweep
     × IsFlag (codes "no-log") rows r.no_log × IsFlag (codes "unfinished") rows r.unfinished
-    × IsFlag (codes "quiet") rows r.quiet × IsFlag (codes "json") rows r.json × AreSizes rows r.sizes
+    × IsFlag (codes "quiet") rows r.quiet × IsOption (codes "symbols") rows r.symbols
+    × IsFlag (codes "json") rows r.json × AreSizes rows r.sizes
     × IsNumber budget rows r.budget × IsNumber start rows r.start
+
+abbrev pub GivesHunt : List Row → Hunt → Type 0
+GivesHunt rows h = IsPath (codes "FILE") rows h.file.now
+    × IsOption (codes "trace") rows h.trace × IsOption (codes "observe") rows h.observe
+    × IsFlag (codes "overwrite") rows h.overwrite × IsFlag (codes "expect-one") rows h.expect_one
+    × IsFlag (codes "quiet") rows h.quiet × IsOption (codes "symbols") rows h.symbols
+    × IsFlag (codes "json") rows h.json × AreSizes rows h.sizes
+    × IsNumber steps rows h.budget × IsNumber runs rows h.runs × IsNumber start rows h.start
+
+abbrev pub GivesExplore : List Row → Explore → Type 0
+GivesExplore rows x = IsPath (codes "FILE") rows x.file.now
+    × IsOption (codes "trace") rows x.trace × IsOption (codes "observe") rows x.observe
+    × IsFlag (codes "each") rows x.each × IsFlag (codes "every") rows x.every
+    × IsFlag (codes "quiet") rows x.quiet × IsOption (codes "symbols") rows x.symbols
+    × IsFlag (codes "json") rows x.json × AreSizes rows x.sizes
+    × IsNumber states rows x.states × IsChoice witness rows x.witness
 
 abbrev pub GivesReplay : List Row → Replay → Type 0
 GivesReplay rows r = IsPath (codes "TRACE") rows r.trace.now × IsPath (codes "FILE") rows r.file.now
     × IsNumber shared_words rows r.words
 
-abbrev pub GivesListing : List Row → Listing → Type 0
-GivesListing rows l = GivesReplay rows l.replay × IsFlag (codes "json") rows l.json
-
-abbrev pub GivesExplain : List Row → Explain → Type 0
-GivesExplain rows e = texts_of e.words.items ≡ unwrap_or (all_of (codes "CODE") rows) []
+abbrev pub GivesReport : List Row → Report → Type 0
+GivesReport rows r = GivesReplay rows r.replay × IsOption (codes "symbols") rows r.symbols
+    × IsFlag (codes "json") rows r.json
 
 abbrev pub GivesLines : List Row → Lines → Type 0
-GivesLines rows o = GivesReplay rows o.replay × IsChoice processor rows o.processor × IsChoice shared_word rows o.word
-    × IsChoice first_line rows o.from × IsChoice last_line rows o.to × IsFlag (codes "json") rows o.json
+GivesLines rows l = GivesReplay rows l.replay × IsChoice processor rows l.processor × IsChoice shared_word rows l.word
+    × IsChoice first_line rows l.from × IsChoice last_line rows l.to × IsOption (codes "symbols") rows l.symbols
+    × IsFlag (codes "json") rows l.json
+
+abbrev pub GivesOrder : List Row → Order → Type 0
+GivesOrder rows o = GivesLines rows o.lines × IsFlag (codes "abi") rows o.abi
+
+abbrev pub GivesCounts : List Row → Counts → Type 0
+GivesCounts rows c = GivesReplay rows c.replay × IsFlag (codes "csv") rows c.csv × IsFlag (codes "json") rows c.json
 
 abbrev pub GivesPicture : List Row → Picture → Type 0
 GivesPicture rows p = GivesReplay rows p.replay × IsChoice step rows p.step
 
 abbrev pub GivesSession : List Row → Session → Type 0
 GivesSession rows d = IsPath (codes "FILE") rows d.file.now
-    × IsOption (codes "trace") rows (option_map (λ t. t.now) d.trace) × IsFlag (codes "stdio") rows d.stdio
+    × IsOption (codes "trace") rows d.trace × IsFlag (codes "stdio") rows d.stdio
     × AreSizes rows d.sizes × IsNumber steps rows d.budget × IsNumber port rows d.port
 
-abbrev pub GivesExplore : List Row → Explore → Type 0
-GivesExplore rows x = IsPath (codes "FILE") rows x.file.now
-    × IsOption (codes "trace") rows (option_map (λ t. t.now) x.trace)
-    × IsOption (codes "observe") rows (option_map (λ list. list.now) x.observe)
-    × IsFlag (codes "each") rows x.each × IsFlag (codes "every") rows x.every × IsFlag (codes "quiet") rows x.quiet
-    × IsFlag (codes "json") rows x.json × AreSizes rows x.sizes × IsNumber states rows x.states
-    × IsChoice witness rows x.witness
+abbrev pub GivesExplain : List Row → Explain → Type 0
+GivesExplain rows e = texts_of e.words.items ≡ unwrap_or (all_of (codes "CODE") rows) []
 
-abbrev pub GivesHunt : List Row → Hunt → Type 0
-GivesHunt rows h = IsPath (codes "FILE") rows h.file.now
-    × IsOption (codes "trace") rows (option_map (λ prefix. prefix.now) h.trace)
-    × IsOption (codes "observe") rows (option_map (λ list. list.now) h.observe)
-    × IsFlag (codes "overwrite") rows h.overwrite × IsFlag (codes "expect-one") rows h.expect_one
-    × IsFlag (codes "quiet") rows h.quiet × IsFlag (codes "json") rows h.json × AreSizes rows h.sizes
-    × IsNumber steps rows h.budget × IsNumber runs rows h.runs × IsNumber start rows h.start
+-- the name of the command that the settings are of
+abbrev pub name_of : Settings → Text
+name_of (asked.Words w) = codes "words"
+name_of (asked.Check c) = codes "check"
+name_of (asked.Asm a) = codes "asm"
+name_of (asked.Dis d) = codes "dis"
+name_of (asked.Run r) = codes "run"
+name_of (asked.Hunt h) = codes "hunt"
+name_of (asked.Explore x) = codes "explore"
+name_of (asked.Replay r) = codes "replay"
+name_of (asked.Order o) = codes "order"
+name_of (asked.Story l) = codes "story"
+name_of (asked.Stats c) = codes "stats"
+name_of (asked.Picture p) = codes "picture"
+name_of (asked.Debug d) = codes "debug"
+name_of (asked.Explain e) = codes "explain"
 
--- The subcommand has this name, and its rows have the property.
-abbrev pub Named : Option (Text × List Row) → Text → (List Row → Type 0) → Type 0
-Named stop name rest = (rows : List Row) × (stop ≡ Some (name, rows)) × rest rows
+-- The settings are those that the rows give.
+abbrev pub Gives : List Row → Settings → Type 0
+Gives rows (asked.Words w) = GivesWords rows w
+Gives rows (asked.Check c) = GivesCheck rows c
+Gives rows (asked.Asm a) = GivesAsm rows a
+Gives rows (asked.Dis d) = GivesDis rows d
+Gives rows (asked.Run r) = GivesRun rows r
+Gives rows (asked.Hunt h) = GivesHunt rows h
+Gives rows (asked.Explore x) = GivesExplore rows x
+Gives rows (asked.Replay r) = GivesReport rows r
+Gives rows (asked.Order o) = GivesOrder rows o
+Gives rows (asked.Story l) = GivesLines rows l
+Gives rows (asked.Stats c) = GivesCounts rows c
+Gives rows (asked.Picture p) = GivesPicture rows p
+Gives rows (asked.Debug d) = GivesSession rows d
+Gives rows (asked.Explain e) = GivesExplain rows e
 
 -- The settings are those of the subcommand and its rows.
 abbrev pub IsChosen : Option (Text × List Row) → Settings → Type 0
-IsChosen stop (asked.Words w) = Named stop (codes "words") (λ rows. GivesWords rows w)
-IsChosen stop (asked.Check c) = Named stop (codes "check") (λ rows. GivesCheck rows c)
-IsChosen stop (asked.Asm a) = Named stop (codes "asm") (λ rows. GivesAsm rows a)
-IsChosen stop (asked.Dis d) = Named stop (codes "dis") (λ rows. GivesDis rows d)
-IsChosen stop (asked.Run r) = Named stop (codes "run") (λ rows. GivesRun rows r)
-IsChosen stop (asked.Hunt h) = Named stop (codes "hunt") (λ rows. GivesHunt rows h)
-IsChosen stop (asked.Explore x) = Named stop (codes "explore") (λ rows. GivesExplore rows x)
-IsChosen stop (asked.Trace c l) = Named stop (trace_name c) (λ rows. GivesListing rows l)
-IsChosen stop (asked.Order o) = Named stop (codes "order") (λ rows. GivesLines rows o)
-IsChosen stop (asked.Story o) = Named stop (codes "story") (λ rows. GivesLines rows o)
-IsChosen stop (asked.Picture p) = Named stop (codes "picture") (λ rows. GivesPicture rows p)
-IsChosen stop (asked.Debug d) = Named stop (codes "debug") (λ rows. GivesSession rows d)
-IsChosen stop (asked.Explain e) = Named stop (codes "explain") (λ rows. GivesExplain rows e)
+IsChosen stop s = (rows : List Row) × (stop ≡ Some (name_of s, rows)) × Gives rows s
 
 -- The settings are those of the words.
 abbrev pub IsAsked : List Text → Settings → Type 0

@@ -3,7 +3,6 @@ use Rattle.std.specs.Prelude.{◌≡◌, ◌≢◌, ◌≤◌, false, List, [], 
 use Rattle.std.specs.List.{All}
 use Rattle.std.specs.Borrow.{Bor}
 use Rattle.clap.specs.Words.{Text}
-use Rattle.command_forms.specs.Commands.{trace_name}
 use Rattle.settings.specs.declared.choice.Settings.{Settings}
 use Rattle.settings.specs.declared.choice.Settings.TheVariants as asked
 use Rattle.settings.specs.declared.choice.Lines.{Lines}
@@ -42,27 +41,31 @@ AreUsual s = (s.k ≡ 2) × (s.c ≡ 4) × (s.b ≡ 4) × (s.r ≡ 1) × (s.word
 
 -- No line is left out, and lines are printed as they are.
 abbrev pub TakesAll : Lines → Type 0
-TakesAll o = (o.processor ≡ None) × (o.word ≡ None) × (o.from ≡ None) × (o.to ≡ None) × (o.json ≡ false)
+TakesAll l = (l.processor ≡ None) × (l.word ≡ None) × (l.from ≡ None) × (l.to ≡ None) × (l.symbols ≡ None)
+    × (l.json ≡ false)
 
 -- The words are just the command of these settings with its files, or `explain` with at most four words. So no flag is
--- set, no trace is written, no choice is made, and each number is its default.
+-- set, no trace is written, no names are printed, no choice is made, and each number is its default.
 abbrev pub IsPlain : Settings → List Text → Type 0
 IsPlain (asked.Words w) words = HasFile (codes "words") w.file.now words
 IsPlain (asked.Check c) words = HasFile (codes "check") c.file.now words × (c.json ≡ false)
 IsPlain (asked.Asm a) words = HasFiles (codes "asm") a.file.now a.out.now words
-IsPlain (asked.Dis d) words = HasFile (codes "dis") d.file.now words × (d.comments ≡ false) × (d.words ≡ 1024)
+IsPlain (asked.Dis d) words = HasFile (codes "dis") d.file.now words × (d.comments ≡ false) × (d.symbols ≡ None)
+    × (d.abi ≡ false) × (d.words ≡ 1024)
 IsPlain (asked.Run r) words = HasFile (codes "run") r.file.now words
     × (r.trace ≡ None) × (r.sweep ≡ false) × (r.no_log ≡ false) × (r.unfinished ≡ false) × (r.quiet ≡ false)
-    × (r.json ≡ false) × AreUsual r.sizes × (r.budget ≡ 10000000) × (r.start ≡ 1)
+    × (r.symbols ≡ None) × (r.json ≡ false) × AreUsual r.sizes × (r.budget ≡ 10000000) × (r.start ≡ 1)
 IsPlain (asked.Hunt h) words = HasFile (codes "hunt") h.file.now words
     × (h.trace ≡ None) × (h.observe ≡ None) × (h.overwrite ≡ false) × (h.expect_one ≡ false) × (h.quiet ≡ false)
-    × (h.json ≡ false) × AreUsual h.sizes × (h.budget ≡ 100000) × (h.runs ≡ 1000) × (h.start ≡ 1)
+    × (h.symbols ≡ None) × (h.json ≡ false) × AreUsual h.sizes × (h.budget ≡ 100000) × (h.runs ≡ 1000)
+    × (h.start ≡ 1)
 IsPlain (asked.Explore x) words = HasFile (codes "explore") x.file.now words
     × (x.trace ≡ None) × (x.observe ≡ None) × (x.each ≡ false) × (x.every ≡ false) × (x.quiet ≡ false)
-    × (x.json ≡ false) × AreUsual x.sizes × (x.states ≡ 1000000) × (x.witness ≡ None)
-IsPlain (asked.Trace c l) words = HasTrace (trace_name c) l.replay words × (l.json ≡ false)
-IsPlain (asked.Order o) words = HasTrace (codes "order") o.replay words × TakesAll o
-IsPlain (asked.Story o) words = HasTrace (codes "story") o.replay words × TakesAll o
+    × (x.symbols ≡ None) × (x.json ≡ false) × AreUsual x.sizes × (x.states ≡ 1000000) × (x.witness ≡ None)
+IsPlain (asked.Replay r) words = HasTrace (codes "replay") r.replay words × (r.symbols ≡ None) × (r.json ≡ false)
+IsPlain (asked.Order o) words = HasTrace (codes "order") o.lines.replay words × TakesAll o.lines × (o.abi ≡ false)
+IsPlain (asked.Story l) words = HasTrace (codes "story") l.replay words × TakesAll l
+IsPlain (asked.Stats c) words = HasTrace (codes "stats") c.replay words × (c.csv ≡ false) × (c.json ≡ false)
 IsPlain (asked.Picture p) words = HasTrace (codes "picture") p.replay words × (p.step ≡ None)
 IsPlain (asked.Debug d) words = HasFile (codes "debug") d.file.now words
     × (d.trace ≡ None) × (d.stdio ≡ false) × AreUsual d.sizes × (d.budget ≡ 100000) × (d.port ≡ 3333)

@@ -1,7 +1,5 @@
 //! What the program is asked to do.
 
-use command_forms::TraceCommand;
-
 /// A command, with its files and numbers.
 #[derive(Debug, PartialEq, Eq, Drop)]
 pub enum Settings<'a> {
@@ -12,9 +10,10 @@ pub enum Settings<'a> {
     Run(Run<'a>),
     Hunt(Hunt<'a>),
     Explore(Explore<'a>),
-    Trace(TraceCommand, Listing<'a>),
-    Order(Lines<'a>),
+    Replay(Report<'a>),
+    Order(Order<'a>),
     Story(Lines<'a>),
+    Stats(Counts<'a>),
     Picture(Picture<'a>),
     Debug(Session<'a>),
     Explain(Explain<'a>),
@@ -66,6 +65,10 @@ pub struct Dis<'a> {
     pub file: &'a str,
     /// Whether to write the names of missing instructions as comments.
     pub comments: bool,
+    /// The file with the names that are printed beside addresses, if given.
+    pub symbols: Option<&'a str>,
+    /// Whether to write registers by their ABI names, and the target of a jump or branch as an address.
+    pub abi: bool,
     /// How many shared words the machine has for which the image is read, from 1 to 262,144.
     pub words: u32,
 }
@@ -85,6 +88,8 @@ pub struct Run<'a> {
     pub unfinished: bool,
     /// Whether to leave out reports of the run's progress.
     pub quiet: bool,
+    /// The file with the names that are printed beside addresses and words, if given.
+    pub symbols: Option<&'a str>,
     /// Whether lines are printed as JSON.
     pub json: bool,
     /// The sizes of the machine.
@@ -106,11 +111,24 @@ pub struct Replay<'a> {
     pub words: u32,
 }
 
-/// `replay TRACE FILE`, or another command of [`TraceCommand`].
+/// `replay TRACE FILE`.
 #[derive(Debug, PartialEq, Eq, Drop)]
-pub struct Listing<'a> {
+pub struct Report<'a> {
     /// The trace and its machine.
     pub replay: Replay<'a>,
+    /// The file with the names that are printed beside addresses and words, if given.
+    pub symbols: Option<&'a str>,
+    /// Whether lines are printed as JSON.
+    pub json: bool,
+}
+
+/// `stats TRACE FILE`.
+#[derive(Debug, PartialEq, Eq, Drop)]
+pub struct Counts<'a> {
+    /// The trace and its machine.
+    pub replay: Replay<'a>,
+    /// Whether counts are printed as CSV.
+    pub csv: bool,
     /// Whether lines are printed as JSON.
     pub json: bool,
 }
@@ -122,7 +140,16 @@ pub struct Explain<'a> {
     pub words: Vec<&'a str>,
 }
 
-/// `order TRACE FILE` or `story TRACE FILE`, and which lines it prints.
+/// `order TRACE FILE`.
+#[derive(Debug, PartialEq, Eq, Drop)]
+pub struct Order<'a> {
+    /// The lines that it prints.
+    pub lines: Lines<'a>,
+    /// Whether to write registers by their ABI names, and the target of a jump or branch as an address.
+    pub abi: bool,
+}
+
+/// `story TRACE FILE`, or the lines of `order TRACE FILE`.
 #[derive(Debug, PartialEq, Eq, Drop)]
 pub struct Lines<'a> {
     /// The trace and its machine.
@@ -135,6 +162,8 @@ pub struct Lines<'a> {
     pub from: Option<u32>,
     /// The number of the last line that is printed; None for the last there is.
     pub to: Option<u32>,
+    /// The file with the names that are printed beside addresses and words, if given.
+    pub symbols: Option<&'a str>,
     /// Whether lines are printed as JSON.
     pub json: bool,
 }
@@ -180,6 +209,8 @@ pub struct Explore<'a> {
     pub every: bool,
     /// Whether to leave out reports of the search's progress.
     pub quiet: bool,
+    /// The file with the names that are printed beside addresses and words, if given.
+    pub symbols: Option<&'a str>,
     /// Whether lines are printed as JSON.
     pub json: bool,
     /// The sizes of the machine.
@@ -206,6 +237,8 @@ pub struct Hunt<'a> {
     pub expect_one: bool,
     /// Whether to leave out reports of the hunt's progress.
     pub quiet: bool,
+    /// The file with the names that are printed beside addresses and words, if given.
+    pub symbols: Option<&'a str>,
     /// Whether lines are printed as JSON.
     pub json: bool,
     /// The sizes of the machine.

@@ -7,7 +7,6 @@ mod reads;
 
 pub use asked::{settings, status_of};
 pub use choice::{
-    Asm, Check, Dis, Explain, Explore, Hunt, Lines, Listing, Picture, Replay, Run, Session,
-    Settings, Sizes, Words,
+    Asm, Check, Counts, Dis, Explain, Explore, Hunt, Lines, Order, Picture, Replay, Report, Run,
+    Session, Settings, Sizes, Words,
 };
-pub use command_forms::TraceCommand;

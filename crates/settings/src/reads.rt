@@ -1,24 +1,24 @@
 //! From the matches of a subcommand to its settings.
-ghost use Rattle.std.specs.Prelude.{◌≡◌, ◌≤◌, ◌<◌, ◌^◌, codes, option_map, unwrap_or, [], IfOk};
+ghost use Rattle.std.specs.Prelude.{◌≡◌, ◌≤◌, ◌<◌, ◌^◌, codes, unwrap_or, [], IfOk};
 ghost use Rattle.clap.specs.Words.{all_of, found_of, rows_of, subcommand_rows_of};
-ghost use Rattle.settings.specs.Lines.{AreSizes, GivesAsm, GivesCheck, GivesDis, GivesExplain, GivesExplore};
-ghost use Rattle.settings.specs.Lines.{GivesHunt, GivesLines, GivesListing, IsChoice, IsChosen, IsFlag, IsNumber};
-ghost use Rattle.settings.specs.Lines.{IsOption, IsPath, GivesPicture, GivesReplay, GivesRun, GivesSession};
-ghost use Rattle.settings.specs.Lines.{GivesWords};
+ghost use Rattle.settings.specs.Lines.{AreSizes, GivesAsm, GivesCheck, GivesCounts, GivesDis, GivesExplain};
+ghost use Rattle.settings.specs.Lines.{GivesExplore, GivesHunt, GivesLines, GivesOrder, GivesPicture, GivesReplay};
+ghost use Rattle.settings.specs.Lines.{GivesReport, GivesRun, GivesSession, GivesWords, IsChoice, IsChosen, IsFlag};
+ghost use Rattle.settings.specs.Lines.{IsNumber, IsOption, IsPath};
 ghost use Rattle.settings.specs.Plain.{texts_of};
 ghost use Rattle.settings.specs.Given.{HasAsm, HasDebug, HasDis, HasExplore, HasHunt, HasLines, HasNumber};
 ghost use Rattle.settings.specs.Given.{HasPath, HasPicture, HasReplay, HasRun, HasSizes, IsComplete};
 ghost use Rattle.command_forms.specs.Forms.{bounded, bounds_as, ranged, ranged_as};
 
 use crate::choice::{
-    Asm, Check, Dis, Explain, Explore, Hunt, Lines, Listing, Picture, Replay, Run, Session,
-    Settings, Sizes, Words,
+    Asm, Check, Counts, Dis, Explain, Explore, Hunt, Lines, Order, Picture, Replay, Report, Run,
+    Session, Settings, Sizes, Words,
 };
 use clap::ArgMatches;
 use command_forms::{
     BUDGET, COMBINATIONS, ChoiceOption, FIRST_LINE, FIRST_START, LAST_LINE, NumberOption, PORT,
     PROCESSOR, QUEUE, RECORDS, RUN_STEPS, RUNS, SHARED_WORD, SHARED_WORDS, STAGES, START, STATES,
-    STEP, STEPS, TraceCommand, WITNESS,
+    STEP, STEPS, WITNESS,
 };
 use std::alloc::{AllocError, Global};
 
@@ -32,7 +32,7 @@ fn path<'a>(matches: &ArgMatches<'a>, id: &str) -> &'a str
 
 /// The text of an optional argument.
 fn option<'a>(matches: &ArgMatches<'a>, id: &str) -> Option<&'a str>
-    ensures { IsOption id.now (rows_of (found_of matches.now)) (option_map (λ file. file.now) result) }
+    ensures { IsOption id.now (rows_of (found_of matches.now)) result }
 {
     matches.get_str(id)
 }
@@ -159,6 +159,8 @@ fn dis<'a>(matches: &ArgMatches<'a>) -> Dis<'a>
     Dis {
         file: path(matches, "FILE"),
         comments: flag(matches, "comments"),
+        symbols: option(matches, "symbols"),
+        abi: flag(matches, "abi"),
         words: number(matches, SHARED_WORDS),
     }
 }
@@ -188,6 +190,7 @@ fn run<'a>(matches: &ArgMatches<'a>) -> Run<'a>
         no_log: flag(matches, "no-log"),
         unfinished: flag(matches, "unfinished"),
         quiet: flag(matches, "quiet"),
+        symbols: option(matches, "symbols"),
         json: flag(matches, "json"),
         sizes: sizes(matches),
         budget: number(matches, BUDGET),
@@ -206,12 +209,24 @@ fn replay<'a>(matches: &ArgMatches<'a>) -> Replay<'a>
     }
 }
 
-fn listing<'a>(matches: &ArgMatches<'a>) -> Listing<'a>
+fn report<'a>(matches: &ArgMatches<'a>) -> Report<'a>
     requires { HasReplay (rows_of (found_of matches.now)) }
-    ensures { GivesListing (rows_of (found_of matches.now)) result }
+    ensures { GivesReport (rows_of (found_of matches.now)) result }
 {
-    Listing {
+    Report {
         replay: replay(matches),
+        symbols: option(matches, "symbols"),
+        json: flag(matches, "json"),
+    }
+}
+
+fn counts<'a>(matches: &ArgMatches<'a>) -> Counts<'a>
+    requires { HasReplay (rows_of (found_of matches.now)) }
+    ensures { GivesCounts (rows_of (found_of matches.now)) result }
+{
+    Counts {
+        replay: replay(matches),
+        csv: flag(matches, "csv"),
         json: flag(matches, "json"),
     }
 }
@@ -258,7 +273,18 @@ fn lines<'a>(matches: &ArgMatches<'a>) -> Lines<'a>
         word: choice(matches, SHARED_WORD),
         from: choice(matches, FIRST_LINE),
         to: choice(matches, LAST_LINE),
+        symbols: option(matches, "symbols"),
         json: flag(matches, "json"),
+    }
+}
+
+fn order<'a>(matches: &ArgMatches<'a>) -> Order<'a>
+    requires { HasLines (rows_of (found_of matches.now)) }
+    ensures { GivesOrder (rows_of (found_of matches.now)) result }
+{
+    Order {
+        lines: lines(matches),
+        abi: flag(matches, "abi"),
     }
 }
 
@@ -297,6 +323,7 @@ fn explore<'a>(matches: &ArgMatches<'a>) -> Explore<'a>
         each: flag(matches, "each"),
         every: flag(matches, "every"),
         quiet: flag(matches, "quiet"),
+        symbols: option(matches, "symbols"),
         json: flag(matches, "json"),
         sizes: sizes(matches),
         states: number(matches, STATES),
@@ -315,6 +342,7 @@ fn hunt<'a>(matches: &ArgMatches<'a>) -> Hunt<'a>
         overwrite: flag(matches, "overwrite"),
         expect_one: flag(matches, "expect-one"),
         quiet: flag(matches, "quiet"),
+        symbols: option(matches, "symbols"),
         json: flag(matches, "json"),
         sizes: sizes(matches),
         budget: number(matches, RUN_STEPS),
@@ -332,9 +360,6 @@ pub(crate) fn subcommand_settings<'a>(
     ensures { IfOk result (IsChosen (subcommand_rows_of matches.now)) }
 {
     let (name, inner) = matches.subcommand().unwrap();
-    if let Some(command) = TraceCommand::of_name(name) {
-        return Ok(Settings::Trace(command, listing(inner)));
-    }
     match name {
         "words" => Ok(Settings::Words(words(inner))),
         "check" => Ok(Settings::Check(check(inner))),
@@ -343,8 +368,10 @@ pub(crate) fn subcommand_settings<'a>(
         "run" => Ok(Settings::Run(run(inner))),
         "hunt" => Ok(Settings::Hunt(hunt(inner))),
         "explore" => Ok(Settings::Explore(explore(inner))),
-        "order" => Ok(Settings::Order(lines(inner))),
+        "replay" => Ok(Settings::Replay(report(inner))),
+        "order" => Ok(Settings::Order(order(inner))),
         "story" => Ok(Settings::Story(lines(inner))),
+        "stats" => Ok(Settings::Stats(counts(inner))),
         "picture" => Ok(Settings::Picture(picture(inner))),
         "debug" => Ok(Settings::Debug(session(inner))),
         "explain" => Ok(Settings::Explain(explain(alloc, inner)?)),

@@ -41,23 +41,25 @@ Words(Words { file: "--a" })
 $ ultra asm a.s a.elf
 Asm(Asm { file: "a.s", out: "a.elf" })
 $ ultra dis a.elf
-Dis(Dis { file: "a.elf", comments: false, words: 1024 })
+Dis(Dis { file: "a.elf", comments: false, symbols: None, abi: false, words: 1024 })
 $ ultra dis a.elf --words 1
-Dis(Dis { file: "a.elf", comments: false, words: 1 })
+Dis(Dis { file: "a.elf", comments: false, symbols: None, abi: false, words: 1 })
 $ ultra dis --words 262144 a.elf
-Dis(Dis { file: "a.elf", comments: false, words: 262144 })
+Dis(Dis { file: "a.elf", comments: false, symbols: None, abi: false, words: 262144 })
 $ ultra dis --words=1000 a.elf
-Dis(Dis { file: "a.elf", comments: false, words: 1000 })
+Dis(Dis { file: "a.elf", comments: false, symbols: None, abi: false, words: 1000 })
 $ ultra dis a.elf --words=+7
-Dis(Dis { file: "a.elf", comments: false, words: 7 })
+Dis(Dis { file: "a.elf", comments: false, symbols: None, abi: false, words: 7 })
 $ ultra dis a.elf --words 00009
-Dis(Dis { file: "a.elf", comments: false, words: 9 })
+Dis(Dis { file: "a.elf", comments: false, symbols: None, abi: false, words: 9 })
 $ ultra dis --comments a.elf
-Dis(Dis { file: "a.elf", comments: true, words: 1024 })
+Dis(Dis { file: "a.elf", comments: true, symbols: None, abi: false, words: 1024 })
 $ ultra dis a.elf --words 2 --comments
-Dis(Dis { file: "a.elf", comments: true, words: 2 })
+Dis(Dis { file: "a.elf", comments: true, symbols: None, abi: false, words: 2 })
+$ ultra dis --abi --symbols a.elf a.elf
+Dis(Dis { file: "a.elf", comments: false, symbols: Some("a.elf"), abi: true, words: 1024 })
 $ ultra dis --words 0001024 -- a.elf
-Dis(Dis { file: "a.elf", comments: false, words: 1024 })
+Dis(Dis { file: "a.elf", comments: false, symbols: None, abi: false, words: 1024 })
 "#;
 
 /// Wrong command lines with their errors, and parts of the help.
@@ -100,6 +102,12 @@ Exit status: 0 done, 2 a fault of the text or of the command line,\
 $ ultra dis --help
 DisplayHelp
 --words <NUMBER>  Shared words of four bytes that the machine has, 1 to 262144 [default: 1024]
+$ ultra dis --help
+DisplayHelp
+--symbols <FILE>  Print names beside addresses, from the symbol table of an ELF file or from what `nm` prints
+$ ultra dis --help
+DisplayHelp
+--abi             Write registers by their ABI names, and the target of a jump or branch as an address
 $ ultra --version
 DisplayVersion
 ultra 0.1.0

@@ -3,31 +3,34 @@
 /// Ways to ask for `explore`.
 pub const TAKEN: &str = "\
 $ ultra explore a.elf
-Explore(Explore { file: \"a.elf\", trace: None, observe: None, each: false, every: false, quiet: false, json: false, \
+Explore(Explore { file: \"a.elf\", trace: None, observe: None, each: false, every: false, quiet: false, symbols: None, json: false, \
     sizes: Sizes { k: 2, c: 4, b: 4, r: 1, words: 1024 }, states: 1000000, witness: None })
 $ ultra explore --states 1 a.elf --k 3
-Explore(Explore { file: \"a.elf\", trace: None, observe: None, each: false, every: false, quiet: false, json: false, \
+Explore(Explore { file: \"a.elf\", trace: None, observe: None, each: false, every: false, quiet: false, symbols: None, json: false, \
     sizes: Sizes { k: 3, c: 4, b: 4, r: 1, words: 1024 }, states: 1, witness: None })
 $ ultra explore a.elf --states=4294967295 --k 0 --c 16 --b 0 --words 262144
-Explore(Explore { file: \"a.elf\", trace: None, observe: None, each: false, every: false, quiet: false, json: false, \
+Explore(Explore { file: \"a.elf\", trace: None, observe: None, each: false, every: false, quiet: false, symbols: None, json: false, \
     sizes: Sizes { k: 0, c: 16, b: 0, r: 1, words: 262144 }, states: 4294967295, witness: None })
 $ ultra explore a.elf --quiet
-Explore(Explore { file: \"a.elf\", trace: None, observe: None, each: false, every: false, quiet: true, json: false, \
+Explore(Explore { file: \"a.elf\", trace: None, observe: None, each: false, every: false, quiet: true, symbols: None, json: false, \
     sizes: Sizes { k: 2, c: 4, b: 4, r: 1, words: 1024 }, states: 1000000, witness: None })
 $ ultra explore a.elf --witness 0 --trace t
-Explore(Explore { file: \"a.elf\", trace: Some(\"t\"), observe: None, each: false, every: false, quiet: false, json: false, \
+Explore(Explore { file: \"a.elf\", trace: Some(\"t\"), observe: None, each: false, every: false, quiet: false, symbols: None, json: false, \
     sizes: Sizes { k: 2, c: 4, b: 4, r: 1, words: 1024 }, states: 1000000, witness: Some(0) })
 $ ultra explore --trace=t a --witness=4294967295 --quiet --states 9
-Explore(Explore { file: \"a\", trace: Some(\"t\"), observe: None, each: false, every: false, quiet: true, json: false, \
+Explore(Explore { file: \"a\", trace: Some(\"t\"), observe: None, each: false, every: false, quiet: true, symbols: None, json: false, \
     sizes: Sizes { k: 2, c: 4, b: 4, r: 1, words: 1024 }, states: 9, witness: Some(4294967295) })
 $ ultra explore a.elf --each --k 6 --observe=2
-Explore(Explore { file: \"a.elf\", trace: None, observe: Some(\"2\"), each: true, every: false, quiet: false, json: false, \
+Explore(Explore { file: \"a.elf\", trace: None, observe: Some(\"2\"), each: true, every: false, quiet: false, symbols: None, json: false, \
     sizes: Sizes { k: 6, c: 4, b: 4, r: 1, words: 1024 }, states: 1000000, witness: None })
 $ ultra explore --every a.elf
-Explore(Explore { file: \"a.elf\", trace: None, observe: None, each: false, every: true, quiet: false, json: false, \
+Explore(Explore { file: \"a.elf\", trace: None, observe: None, each: false, every: true, quiet: false, symbols: None, json: false, \
+    sizes: Sizes { k: 2, c: 4, b: 4, r: 1, words: 1024 }, states: 1000000, witness: None })
+$ ultra explore --symbols names.txt a.elf
+Explore(Explore { file: \"a.elf\", trace: None, observe: None, each: false, every: false, quiet: false, symbols: Some(\"names.txt\"), json: false, \
     sizes: Sizes { k: 2, c: 4, b: 4, r: 1, words: 1024 }, states: 1000000, witness: None })
 $ ultra explore --every --quiet --k 3 --each a.elf --json
-Explore(Explore { file: \"a.elf\", trace: None, observe: None, each: true, every: true, quiet: true, json: true, \
+Explore(Explore { file: \"a.elf\", trace: None, observe: None, each: true, every: true, quiet: true, symbols: None, json: true, \
     sizes: Sizes { k: 3, c: 4, b: 4, r: 1, words: 1024 }, states: 1000000, witness: None })
 ";
 

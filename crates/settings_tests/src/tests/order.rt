@@ -1,25 +1,41 @@
-//! `order TRACE FILE` and its options, and `story`, which takes the same.
+//! `order TRACE FILE` and its options, and `story`, which takes the same but `--abi`.
 
 /// Ways to ask for `order` and `story`.
-pub const TAKEN: &str = r#"$ ultra order a.trace a.elf
-Order(Lines { replay: Replay { trace: "a.trace", file: "a.elf", words: 1024 }, processor: None, word: None, from: None, to: None, json: false })
+pub const TAKEN: &str = "\
+$ ultra order a.trace a.elf
+Order(Order { lines: Lines { replay: Replay { trace: \"a.trace\", file: \"a.elf\", words: 1024 }, \
+    processor: None, word: None, from: None, to: None, symbols: None, json: false }, abi: false })
 $ ultra order --processor 0 a.trace a.elf
-Order(Lines { replay: Replay { trace: "a.trace", file: "a.elf", words: 1024 }, processor: Some(0), word: None, from: None, to: None, json: false })
+Order(Order { lines: Lines { replay: Replay { trace: \"a.trace\", file: \"a.elf\", words: 1024 }, \
+    processor: Some(0), word: None, from: None, to: None, symbols: None, json: false }, abi: false })
 $ ultra order a.trace --processor=63 a.elf
-Order(Lines { replay: Replay { trace: "a.trace", file: "a.elf", words: 1024 }, processor: Some(63), word: None, from: None, to: None, json: false })
+Order(Order { lines: Lines { replay: Replay { trace: \"a.trace\", file: \"a.elf\", words: 1024 }, \
+    processor: Some(63), word: None, from: None, to: None, symbols: None, json: false }, abi: false })
 $ ultra order a.trace a.elf --word 0
-Order(Lines { replay: Replay { trace: "a.trace", file: "a.elf", words: 1024 }, processor: None, word: Some(0), from: None, to: None, json: false })
+Order(Order { lines: Lines { replay: Replay { trace: \"a.trace\", file: \"a.elf\", words: 1024 }, \
+    processor: None, word: Some(0), from: None, to: None, symbols: None, json: false }, abi: false })
 $ ultra order a.trace a.elf --word=262143 --words 7 --processor +5
-Order(Lines { replay: Replay { trace: "a.trace", file: "a.elf", words: 7 }, processor: Some(5), word: Some(262143), from: None, to: None, json: false })
+Order(Order { lines: Lines { replay: Replay { trace: \"a.trace\", file: \"a.elf\", words: 7 }, \
+    processor: Some(5), word: Some(262143), from: None, to: None, symbols: None, json: false }, abi: false })
 $ ultra order --processor=-0 a.trace a.elf --json
-Order(Lines { replay: Replay { trace: "a.trace", file: "a.elf", words: 1024 }, processor: Some(0), word: None, from: None, to: None, json: true })
+Order(Order { lines: Lines { replay: Replay { trace: \"a.trace\", file: \"a.elf\", words: 1024 }, \
+    processor: Some(0), word: None, from: None, to: None, symbols: None, json: true }, abi: false })
 $ ultra order a.trace a.elf --from 3 --to=4294967295
-Order(Lines { replay: Replay { trace: "a.trace", file: "a.elf", words: 1024 }, processor: None, word: None, from: Some(3), to: Some(4294967295), json: false })
+Order(Order { lines: Lines { replay: Replay { trace: \"a.trace\", file: \"a.elf\", words: 1024 }, \
+    processor: None, word: None, from: Some(3), to: Some(4294967295), symbols: None, json: false }, abi: false })
+$ ultra order --abi a.trace a.elf --symbols a.elf
+Order(Order { lines: Lines { replay: Replay { trace: \"a.trace\", file: \"a.elf\", words: 1024 }, \
+    processor: None, word: None, from: None, to: None, symbols: Some(\"a.elf\"), json: false }, abi: true })
 $ ultra story a.trace a.elf
-Story(Lines { replay: Replay { trace: "a.trace", file: "a.elf", words: 1024 }, processor: None, word: None, from: None, to: None, json: false })
+Story(Lines { replay: Replay { trace: \"a.trace\", file: \"a.elf\", words: 1024 }, \
+    processor: None, word: None, from: None, to: None, symbols: None, json: false })
+$ ultra story --symbols=names.txt a.trace a.elf
+Story(Lines { replay: Replay { trace: \"a.trace\", file: \"a.elf\", words: 1024 }, \
+    processor: None, word: None, from: None, to: None, symbols: Some(\"names.txt\"), json: false })
 $ ultra story --processor 1 --word 2 --from 0 a.trace a.elf --to 5 --words 7 --json
-Story(Lines { replay: Replay { trace: "a.trace", file: "a.elf", words: 7 }, processor: Some(1), word: Some(2), from: Some(0), to: Some(5), json: true })
-"#;
+Story(Lines { replay: Replay { trace: \"a.trace\", file: \"a.elf\", words: 7 }, \
+    processor: Some(1), word: Some(2), from: Some(0), to: Some(5), symbols: None, json: true })
+";
 
 /// Parts of the help.
 pub const HELP: &str = "\
@@ -35,6 +51,9 @@ DisplayHelp
 $ ultra order --help
 DisplayHelp
 --word <NUMBER>       Print the lines about this shared word alone, 0 to 262143
+$ ultra order --help
+DisplayHelp
+--abi                 Write registers by their ABI names, and the target of a jump or branch as an address;\
 $ ultra story --help
 DisplayHelp
 --from <NUMBER>       Print no line before the line of this number, 0 to 4294967295

@@ -182,7 +182,7 @@ fn no_numbers(rt: &(impl Abort + AllocGlobal), most: usize) -> bool {
 }
 
 /// Command lines with an argument that is given twice.
-static TWICE: [(&str, &str); 15] = [
+static TWICE: [(&str, &str); 16] = [
     ("dis --words 1 --words 2 a.elf", "--words <NUMBER>"),
     ("run --k 3 a.elf --k 3", "--k <NUMBER>"),
     ("run --c 3 a.elf --c 3", "--c <NUMBER>"),
@@ -192,6 +192,7 @@ static TWICE: [(&str, &str); 15] = [
     ("run --start 3 a.elf --start 3", "--start <NUMBER>"),
     ("run --trace t --trace=t a.elf", "--trace <OUT>"),
     ("run --sweep a.elf --sweep", "--sweep"),
+    ("dis --symbols a --symbols a a.elf", "--symbols <FILE>"),
     (
         "replay --words 1 a.trace --words 1 a.elf",
         "--words <NUMBER>",
@@ -218,7 +219,7 @@ fn twice(rt: &(impl Abort + AllocGlobal), most: usize) -> bool {
 }
 
 /// Command lines with an option that has no value.
-static WITHOUT_VALUE: [(&str, &str); 12] = [
+static WITHOUT_VALUE: [(&str, &str); 13] = [
     ("run a.elf --k", "--k <NUMBER>"),
     ("run a.elf --c", "--c <NUMBER>"),
     ("run a.elf --b", "--b <NUMBER>"),
@@ -226,6 +227,7 @@ static WITHOUT_VALUE: [(&str, &str); 12] = [
     ("run a.elf --budget", "--budget <NUMBER>"),
     ("run a.elf --start", "--start <NUMBER>"),
     ("run a.elf --trace", "--trace <OUT>"),
+    ("story a.trace a.elf --symbols", "--symbols <FILE>"),
     ("run --k --c 4 a.elf", "--k <NUMBER>"),
     ("replay a.trace a.elf --words", "--words <NUMBER>"),
     ("order a.trace a.elf --word", "--word <NUMBER>"),
@@ -245,7 +247,7 @@ fn without_value(rt: &(impl Abort + AllocGlobal), most: usize) -> bool {
 }
 
 /// Command lines with an unknown argument.
-static UNKNOWN: [(&str, &str); 16] = [
+static UNKNOWN: [(&str, &str); 21] = [
     ("words --fast a.hex", "--fast"),
     ("run --k -1 a.elf", "-1"),
     ("run --fast a.elf", "--fast"),
@@ -262,6 +264,11 @@ static UNKNOWN: [(&str, &str); 16] = [
     ("hunt a.elf --sweep", "--sweep"),
     ("check --words 7 a.s", "--words"),
     ("picture a.trace a.elf --json", "--json"),
+    ("replay a.trace a.elf --csv", "--csv"),
+    ("story a.trace a.elf --abi", "--abi"),
+    ("stats a.trace a.elf --symbols a.elf", "--symbols"),
+    ("debug a.elf --symbols a.elf", "--symbols"),
+    ("dis a.elf --json", "--json"),
 ];
 
 fn unknown(rt: &(impl Abort + AllocGlobal), most: usize) -> bool {

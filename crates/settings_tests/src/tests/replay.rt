@@ -1,22 +1,26 @@
-//! `replay TRACE FILE` and its options, and `stats`, which takes the same.
+//! `replay TRACE FILE`, `stats TRACE FILE` and their options.
 
 /// Ways to ask for `replay` and `stats`.
 pub const TAKEN: &str = r#"$ ultra replay a.trace a.elf
-Trace(Replay, Listing { replay: Replay { trace: "a.trace", file: "a.elf", words: 1024 }, json: false })
+Replay(Report { replay: Replay { trace: "a.trace", file: "a.elf", words: 1024 }, symbols: None, json: false })
 $ ultra replay --words 1 a.trace a.elf
-Trace(Replay, Listing { replay: Replay { trace: "a.trace", file: "a.elf", words: 1 }, json: false })
+Replay(Report { replay: Replay { trace: "a.trace", file: "a.elf", words: 1 }, symbols: None, json: false })
 $ ultra replay a.trace --words=262144 a.elf
-Trace(Replay, Listing { replay: Replay { trace: "a.trace", file: "a.elf", words: 262144 }, json: false })
+Replay(Report { replay: Replay { trace: "a.trace", file: "a.elf", words: 262144 }, symbols: None, json: false })
 $ ultra replay a.trace a.elf --words 64
-Trace(Replay, Listing { replay: Replay { trace: "a.trace", file: "a.elf", words: 64 }, json: false })
+Replay(Report { replay: Replay { trace: "a.trace", file: "a.elf", words: 64 }, symbols: None, json: false })
 $ ultra replay a.elf a.trace
-Trace(Replay, Listing { replay: Replay { trace: "a.elf", file: "a.trace", words: 1024 }, json: false })
+Replay(Report { replay: Replay { trace: "a.elf", file: "a.trace", words: 1024 }, symbols: None, json: false })
 $ ultra replay -- --words 1
-Trace(Replay, Listing { replay: Replay { trace: "--words", file: "1", words: 1024 }, json: false })
+Replay(Report { replay: Replay { trace: "--words", file: "1", words: 1024 }, symbols: None, json: false })
+$ ultra replay --symbols names.txt a.trace a.elf
+Replay(Report { replay: Replay { trace: "a.trace", file: "a.elf", words: 1024 }, symbols: Some("names.txt"), json: false })
 $ ultra stats a.trace a.elf
-Trace(Stats, Listing { replay: Replay { trace: "a.trace", file: "a.elf", words: 1024 }, json: false })
+Stats(Counts { replay: Replay { trace: "a.trace", file: "a.elf", words: 1024 }, csv: false, json: false })
 $ ultra stats --words=8 a.trace --json a.elf
-Trace(Stats, Listing { replay: Replay { trace: "a.trace", file: "a.elf", words: 8 }, json: true })
+Stats(Counts { replay: Replay { trace: "a.trace", file: "a.elf", words: 8 }, csv: false, json: true })
+$ ultra stats a.trace a.elf --csv
+Stats(Counts { replay: Replay { trace: "a.trace", file: "a.elf", words: 1024 }, csv: true, json: false })
 "#;
 
 /// Parts of the help.
@@ -30,6 +34,9 @@ DisplayHelp
 $ ultra replay --help
 DisplayHelp
 --words <NUMBER>  Shared words of four bytes that the machine has, 1 to 262144 [default: 1024]
+$ ultra stats --help
+DisplayHelp
+--csv             Print the counts as CSV, a row for each number;\
 $ ultra replay --help
 DisplayHelp
 `ultra: X1` TRACE is cut short\

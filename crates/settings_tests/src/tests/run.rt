@@ -2,11 +2,11 @@
 
 /// The settings of `run` without options.
 pub const PLAIN: &str =
-    "Run(Run { file: \"a.elf\", trace: None, sweep: false, no_log: false, unfinished: false, quiet: false, json: false, \
+    "Run(Run { file: \"a.elf\", trace: None, sweep: false, no_log: false, unfinished: false, quiet: false, symbols: None, json: false, \
     sizes: Sizes { k: 2, c: 4, b: 4, r: 1, words: 1024 }, budget: 10000000, start: 1 })";
 
 /// Command lines that change one setting: the part of `PLAIN` that changes, and what replaces it.
-pub static CHANGED: [(&str, &str, &str); 26] = [
+pub static CHANGED: [(&str, &str, &str); 29] = [
     ("run --k 0 a.elf", "k: 2", "k: 0"),
     ("run a.elf --k 6", "k: 2", "k: 6"),
     ("run --k=3 a.elf", "k: 2", "k: 3"),
@@ -40,6 +40,21 @@ pub static CHANGED: [(&str, &str, &str); 26] = [
     ),
     ("run --quiet a.elf", "quiet: false", "quiet: true"),
     ("run --json a.elf", "json: false", "json: true"),
+    (
+        "run --symbols a.elf a.elf",
+        "symbols: None",
+        r#"symbols: Some("a.elf")"#,
+    ),
+    (
+        "run a.elf --symbols=names.txt",
+        "symbols: None",
+        r#"symbols: Some("names.txt")"#,
+    ),
+    (
+        "run --symbols - a.elf",
+        "symbols: None",
+        r#"symbols: Some("-")"#,
+    ),
     ("run --trace t a.elf", "trace: None", r#"trace: Some("t")"#),
     ("run a.elf --trace=t", "trace: None", r#"trace: Some("t")"#),
     (
@@ -58,28 +73,28 @@ pub static CHANGED: [(&str, &str, &str); 26] = [
 /// Further ways to ask for `run`.
 pub const TAKEN: &str = "\
 $ ultra run a.elf
-Run(Run { file: \"a.elf\", trace: None, sweep: false, no_log: false, unfinished: false, quiet: false, json: false, \
+Run(Run { file: \"a.elf\", trace: None, sweep: false, no_log: false, unfinished: false, quiet: false, symbols: None, json: false, \
 sizes: Sizes { k: 2, c: 4, b: 4, r: 1, words: 1024 }, budget: 10000000, start: 1 })
 $ ultra run --r 1 a.elf
-Run(Run { file: \"a.elf\", trace: None, sweep: false, no_log: false, unfinished: false, quiet: false, json: false, \
+Run(Run { file: \"a.elf\", trace: None, sweep: false, no_log: false, unfinished: false, quiet: false, symbols: None, json: false, \
 sizes: Sizes { k: 2, c: 4, b: 4, r: 1, words: 1024 }, budget: 10000000, start: 1 })
 $ ultra run a.elf --r=3 --c 3
-Run(Run { file: \"a.elf\", trace: None, sweep: false, no_log: false, unfinished: false, quiet: false, json: false, \
+Run(Run { file: \"a.elf\", trace: None, sweep: false, no_log: false, unfinished: false, quiet: false, symbols: None, json: false, \
 sizes: Sizes { k: 2, c: 3, b: 4, r: 3, words: 1024 }, budget: 10000000, start: 1 })
 $ ultra run a.elf --quiet --sweep
-Run(Run { file: \"a.elf\", trace: None, sweep: true, no_log: false, unfinished: false, quiet: true, json: false, \
+Run(Run { file: \"a.elf\", trace: None, sweep: true, no_log: false, unfinished: false, quiet: true, symbols: None, json: false, \
 sizes: Sizes { k: 2, c: 4, b: 4, r: 1, words: 1024 }, budget: 10000000, start: 1 })
 $ ultra run --no-log --sweep a.elf
-Run(Run { file: \"a.elf\", trace: None, sweep: true, no_log: true, unfinished: false, quiet: false, json: false, \
+Run(Run { file: \"a.elf\", trace: None, sweep: true, no_log: true, unfinished: false, quiet: false, symbols: None, json: false, \
 sizes: Sizes { k: 2, c: 4, b: 4, r: 1, words: 1024 }, budget: 10000000, start: 1 })
 $ ultra run --k 3 -- --a
-Run(Run { file: \"--a\", trace: None, sweep: false, no_log: false, unfinished: false, quiet: false, json: false, \
+Run(Run { file: \"--a\", trace: None, sweep: false, no_log: false, unfinished: false, quiet: false, symbols: None, json: false, \
 sizes: Sizes { k: 3, c: 4, b: 4, r: 1, words: 1024 }, budget: 10000000, start: 1 })
 $ ultra run --k 1 --c 2 --b 3 --r 2 a.elf --words 4 --budget 5 --start 6 --sweep --trace 7
-Run(Run { file: \"a.elf\", trace: Some(\"7\"), sweep: true, no_log: false, unfinished: false, quiet: false, json: false, \
+Run(Run { file: \"a.elf\", trace: Some(\"7\"), sweep: true, no_log: false, unfinished: false, quiet: false, symbols: None, json: false, \
 sizes: Sizes { k: 1, c: 2, b: 3, r: 2, words: 4 }, budget: 5, start: 6 })
 $ ultra run --trace 7 --start 6 --budget 5 --words 4 --r 2 --b 3 --c 2 --k 1 --sweep a.elf
-Run(Run { file: \"a.elf\", trace: Some(\"7\"), sweep: true, no_log: false, unfinished: false, quiet: false, json: false, \
+Run(Run { file: \"a.elf\", trace: Some(\"7\"), sweep: true, no_log: false, unfinished: false, quiet: false, symbols: None, json: false, \
 sizes: Sizes { k: 1, c: 2, b: 3, r: 2, words: 4 }, budget: 5, start: 6 })
 ";
 
@@ -114,6 +129,9 @@ Run an image on a machine of up to 64 processors and print its report
 $ ultra run --help
 DisplayHelp
 --trace <OUT>      Where to write the steps of the run, for `ultra replay`;\
+$ ultra run --help
+DisplayHelp
+--symbols <FILE>   Print names beside addresses and words, from the symbol table of an ELF file or from what `nm` prints;\
 $ ultra run --help
 DisplayHelp
 --k <NUMBER>       Stages of the network, 0 to 6; the machine has 2^k processors and 2^k memory modules [default: 2]

@@ -19,6 +19,8 @@ fn words_are_settings(rt: HostRuntime) -> Result<(), Fail> {
             let wanted = Settings::Dis(Dis {
                 file: "a.elf",
                 comments: false,
+                symbols: None,
+                abi: false,
                 words: 1024,
             });
             assert_same!(rt; found, wanted);

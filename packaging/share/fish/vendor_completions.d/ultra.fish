@@ -68,15 +68,18 @@ complete -c ultra -n '__ultra_has_command asm' -l help -d 'Print help'
 complete -c ultra -n '__ultra_wants_more asm 2' -F
 
 complete -c ultra -n '__ultra_has_command dis' -l comments -d 'Write the name of an instruction that the machine does not have behind its word, as `# lr.w`'
+complete -c ultra -n '__ultra_has_command dis' -l symbols -r -F -d 'Print names beside addresses, from the symbol table of an ELF file or from what `nm` prints'
+complete -c ultra -n '__ultra_has_command dis' -l abi -d 'Write registers by their ABI names, and the target of a jump or branch as an address'
 complete -c ultra -n '__ultra_has_command dis' -l words -x -d 'Shared words of four bytes that the machine has, 1 to 262144 [default: 1024]'
 complete -c ultra -n '__ultra_has_command dis' -l help -d 'Print help'
-complete -c ultra -n '__ultra_wants_more dis 1 --words' -F
+complete -c ultra -n '__ultra_wants_more dis 1 --symbols --words' -F
 
 complete -c ultra -n '__ultra_has_command run' -l trace -r -F -d 'Where to write the steps of the run, for `ultra replay`; opened after the run is over'
 complete -c ultra -n '__ultra_has_command run' -l sweep -d 'Run by the sweep, on one thread: every run gives the same result'
 complete -c ultra -n '__ultra_has_command run' -l no-log -d 'With --sweep, keep no log of the steps, so that --budget may be up to 4000000000 of them; not with --trace'
 complete -c ultra -n '__ultra_has_command run' -l unfinished -d 'Print the report, and write the trace, also if the budget ends the run'
 complete -c ultra -n '__ultra_has_command run' -l quiet -d 'Show no progress line on a terminal'
+complete -c ultra -n '__ultra_has_command run' -l symbols -r -F -d 'Print names beside addresses and words, from the symbol table of an ELF file or from what `nm` prints; not with --json'
 complete -c ultra -n '__ultra_has_command run' -l json -d 'Print each line as a JSON object'
 complete -c ultra -n '__ultra_has_command run' -l k -x -a '0 1 2 3 4 5 6' -d 'Stages of the network, 0 to 6; the machine has 2^k processors and 2^k memory modules [default: 2]'
 complete -c ultra -n '__ultra_has_command run' -l c -x -a '2 3 4 5 6 7 8 9 10 11 12 13 14 15 16' -d 'Messages that a queue of a switch holds, 2 to 16 [default: 4]'
@@ -86,13 +89,14 @@ complete -c ultra -n '__ultra_has_command run' -l words -x -d 'Shared words of f
 complete -c ultra -n '__ultra_has_command run' -l budget -x -d 'Rounds that each thread may go through, or steps that the sweep may take, 1 to 4294967295 [default: 10000000]'
 complete -c ultra -n '__ultra_has_command run' -l start -x -d 'Number from which the choices of the threads start, 0 to 4294967295; the sweep makes none [default: 1]'
 complete -c ultra -n '__ultra_has_command run' -l help -d 'Print help'
-complete -c ultra -n '__ultra_wants_more run 1 --trace --k --c --b --r --words --budget --start' -F
+complete -c ultra -n '__ultra_wants_more run 1 --trace --symbols --k --c --b --r --words --budget --start' -F
 
 complete -c ultra -n '__ultra_has_command hunt' -l trace -r -F -d 'Write a trace for each result, for `ultra replay`, to PREFIX followed by the run\'s number and `.trace`'
 complete -c ultra -n '__ultra_has_command hunt' -l observe -x -d 'Words by which runs differ, as `0-3,8`; results have no others [default: all]'
 complete -c ultra -n '__ultra_has_command hunt' -l overwrite -d 'Overwrite traces that exist; without it the hunt is refused if one does'
 complete -c ultra -n '__ultra_has_command hunt' -l expect-one -d 'Expect all runs to come to one result; if they do not, the exit status says so'
 complete -c ultra -n '__ultra_has_command hunt' -l quiet -d 'Show no progress line on a terminal'
+complete -c ultra -n '__ultra_has_command hunt' -l symbols -r -F -d 'Print names beside addresses and words, from the symbol table of an ELF file or from what `nm` prints; not with --json'
 complete -c ultra -n '__ultra_has_command hunt' -l json -d 'Print each line as a JSON object'
 complete -c ultra -n '__ultra_has_command hunt' -l k -x -a '0 1 2 3 4 5 6' -d 'Stages of the network, 0 to 6; the machine has 2^k processors and 2^k memory modules [default: 2]'
 complete -c ultra -n '__ultra_has_command hunt' -l c -x -a '2 3 4 5 6 7 8 9 10 11 12 13 14 15 16' -d 'Messages that a queue of a switch holds, 2 to 16 [default: 4]'
@@ -103,13 +107,14 @@ complete -c ultra -n '__ultra_has_command hunt' -l budget -x -d 'Steps that each
 complete -c ultra -n '__ultra_has_command hunt' -l runs -x -d 'Runs to take, 1 to 1000000 [default: 1000]'
 complete -c ultra -n '__ultra_has_command hunt' -l start -x -d 'Number of the first run, which decides its choices, 0 to 4294967295; the next run has the next number [default: 1]'
 complete -c ultra -n '__ultra_has_command hunt' -l help -d 'Print help'
-complete -c ultra -n '__ultra_wants_more hunt 1 --trace --observe --k --c --b --r --words --budget --runs --start' -F
+complete -c ultra -n '__ultra_wants_more hunt 1 --trace --observe --symbols --k --c --b --r --words --budget --runs --start' -F
 
 complete -c ultra -n '__ultra_has_command explore' -l trace -r -F -d 'Where to write the steps to the result that --witness names, for `ultra replay`; opened after they are found'
 complete -c ultra -n '__ultra_has_command explore' -l observe -x -d 'Words by which results differ, as `0-3,8`; they are printed without others [default: all]'
 complete -c ultra -n '__ultra_has_command explore' -l each -d 'Print every result by itself; alike processors are not exchanged'
 complete -c ultra -n '__ultra_has_command explore' -l every -d 'Explore every k from 0 to 6, and print a line for each; not with --witness'
 complete -c ultra -n '__ultra_has_command explore' -l quiet -d 'Show no progress line on a terminal'
+complete -c ultra -n '__ultra_has_command explore' -l symbols -r -F -d 'Print names beside addresses and words, from the symbol table of an ELF file or from what `nm` prints; not with --json'
 complete -c ultra -n '__ultra_has_command explore' -l json -d 'Print each line as a JSON object'
 complete -c ultra -n '__ultra_has_command explore' -l k -x -a '0 1 2 3 4 5 6' -d 'Stages of the network, 0 to 6; the machine has 2^k processors and 2^k memory modules [default: 2]'
 complete -c ultra -n '__ultra_has_command explore' -l c -x -a '2 3 4 5 6 7 8 9 10 11 12 13 14 15 16' -d 'Messages that a queue of a switch holds, 2 to 16 [default: 4]'
@@ -119,32 +124,37 @@ complete -c ultra -n '__ultra_has_command explore' -l words -x -d 'Shared words 
 complete -c ultra -n '__ultra_has_command explore' -l states -x -d 'Give up when this many states are found, 1 to 4294967295 [default: 1000000]'
 complete -c ultra -n '__ultra_has_command explore' -l witness -x -d 'Write the trace of a way to the result of this number, or with 0 to the first state without a way to an end; goes with --trace'
 complete -c ultra -n '__ultra_has_command explore' -l help -d 'Print help'
-complete -c ultra -n '__ultra_wants_more explore 1 --trace --observe --k --c --b --r --words --states --witness' -F
+complete -c ultra -n '__ultra_wants_more explore 1 --trace --observe --symbols --k --c --b --r --words --states --witness' -F
 
 complete -c ultra -n '__ultra_has_command replay' -l words -x -d 'Shared words of four bytes that the machine has, 1 to 262144 [default: 1024]'
+complete -c ultra -n '__ultra_has_command replay' -l symbols -r -F -d 'Print names beside addresses and words, from the symbol table of an ELF file or from what `nm` prints; not with --json'
 complete -c ultra -n '__ultra_has_command replay' -l json -d 'Print each line as a JSON object'
 complete -c ultra -n '__ultra_has_command replay' -l help -d 'Print help'
-complete -c ultra -n '__ultra_wants_more replay 2 --words' -F
+complete -c ultra -n '__ultra_wants_more replay 2 --words --symbols' -F
 
 complete -c ultra -n '__ultra_has_command order' -l words -x -d 'Shared words of four bytes that the machine has, 1 to 262144 [default: 1024]'
 complete -c ultra -n '__ultra_has_command order' -l processor -x -a '0 1 2 3 4 5 6 7 8 9 10 11 12 13 14 15 16 17 18 19 20 21 22 23 24 25 26 27 28 29 30 31 32 33 34 35 36 37 38 39 40 41 42 43 44 45 46 47 48 49 50 51 52 53 54 55 56 57 58 59 60 61 62 63' -d 'Print the lines of this processor alone, 0 to 63'
 complete -c ultra -n '__ultra_has_command order' -l word -x -d 'Print the lines about this shared word alone, 0 to 262143'
 complete -c ultra -n '__ultra_has_command order' -l from -x -d 'Print no line before the line of this number, 0 to 4294967295'
 complete -c ultra -n '__ultra_has_command order' -l to -x -d 'Print no line after the line of this number, 0 to 4294967295'
+complete -c ultra -n '__ultra_has_command order' -l symbols -r -F -d 'Print names beside addresses and words, from the symbol table of an ELF file or from what `nm` prints; not with --json'
+complete -c ultra -n '__ultra_has_command order' -l abi -d 'Write registers by their ABI names, and the target of a jump or branch as an address; not with --json'
 complete -c ultra -n '__ultra_has_command order' -l json -d 'Print each line as a JSON object'
 complete -c ultra -n '__ultra_has_command order' -l help -d 'Print help'
-complete -c ultra -n '__ultra_wants_more order 2 --words --processor --word --from --to' -F
+complete -c ultra -n '__ultra_wants_more order 2 --words --processor --word --from --to --symbols' -F
 
 complete -c ultra -n '__ultra_has_command story' -l words -x -d 'Shared words of four bytes that the machine has, 1 to 262144 [default: 1024]'
 complete -c ultra -n '__ultra_has_command story' -l processor -x -a '0 1 2 3 4 5 6 7 8 9 10 11 12 13 14 15 16 17 18 19 20 21 22 23 24 25 26 27 28 29 30 31 32 33 34 35 36 37 38 39 40 41 42 43 44 45 46 47 48 49 50 51 52 53 54 55 56 57 58 59 60 61 62 63' -d 'Print the lines of this processor alone, 0 to 63'
 complete -c ultra -n '__ultra_has_command story' -l word -x -d 'Print the lines about this shared word alone, 0 to 262143'
 complete -c ultra -n '__ultra_has_command story' -l from -x -d 'Print no line before the line of this number, 0 to 4294967295'
 complete -c ultra -n '__ultra_has_command story' -l to -x -d 'Print no line after the line of this number, 0 to 4294967295'
+complete -c ultra -n '__ultra_has_command story' -l symbols -r -F -d 'Print names beside addresses and words, from the symbol table of an ELF file or from what `nm` prints; not with --json'
 complete -c ultra -n '__ultra_has_command story' -l json -d 'Print each line as a JSON object'
 complete -c ultra -n '__ultra_has_command story' -l help -d 'Print help'
-complete -c ultra -n '__ultra_wants_more story 2 --words --processor --word --from --to' -F
+complete -c ultra -n '__ultra_wants_more story 2 --words --processor --word --from --to --symbols' -F
 
 complete -c ultra -n '__ultra_has_command stats' -l words -x -d 'Shared words of four bytes that the machine has, 1 to 262144 [default: 1024]'
+complete -c ultra -n '__ultra_has_command stats' -l csv -d 'Print the counts as CSV, a row for each number; not with --json'
 complete -c ultra -n '__ultra_has_command stats' -l json -d 'Print each line as a JSON object'
 complete -c ultra -n '__ultra_has_command stats' -l help -d 'Print help'
 complete -c ultra -n '__ultra_wants_more stats 2 --words' -F
