@@ -18,7 +18,7 @@ set_prefix() {
 
 # Prints each file of the checkout that is installed, a tab, and its path below PREFIX. Their last names are the same.
 files_to_install() {
-    local kept=(-name out -prune -o ! \( "${editors[@]}" \) -type f)
+    local kept=(-name out -prune -o ! \( "${editors[@]}" -o -name '*.o' -o -name '*.elf' -o -name '*.map' \) -type f)
     printf 'crates/ultra/out/ultra\tbin/ultra\n'
     find packaging/share "${kept[@]}" -printf 'packaging/share/%P\tshare/%P\n'
     find README.md CHANGELOG.md CONTRIBUTING.md docs examples "${kept[@]}" -printf '%p\tshare/doc/ultra/%p\n'

@@ -520,10 +520,12 @@ def man():
         ("2", "The input or the command line is refused."),
         ("3", "A file, a port or standard output fails."),
         ("4", "There is no result: memory, a budget or another limit is used up."),
+        ("5", "`hunt`: no fault has stopped a processor, but a run is unfinished."),
+        ("6", "`hunt --expect-one`: there is more than one result."),
     ]:
         yield item(f"\\fB{status}\\fR", meaning)
     yield ".SH DIAGNOSTICS"
-    yield words_of("A line `ultra: CODE` on standard error names a fault. `ultra explain CODE` says what causes it and what to do.")
+    yield words_of("A line `ultra: CODE` on standard error names an error. `ultra explain CODE` says what causes it and what to do.")
     for heading, some in topics():
         yield f".SS {roff(heading)}"
         for topic in some:

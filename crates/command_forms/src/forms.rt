@@ -113,7 +113,7 @@ const WORDS: CommandForm = CommandForm {
 
 const CHECK: CommandForm = CommandForm {
     name: "check",
-    about: "List every fault of a text, each with its line, column, word and what would be right",
+    about: "List every mistake of a text, each with its line, column, word and what would be right",
     arguments: &[TEXT, JSON],
     ends: CHECK_ENDS,
 };
@@ -138,7 +138,7 @@ const DIS: CommandForm = CommandForm {
         IMAGE,
         Argument::Flag {
             name: "comments",
-            help: "Write the name of an instruction that the machine does not have behind its word, as `# lr.w`",
+            help: "Write the name of an instruction that the machine does not have after its word, as `# lr.w`",
         },
         Argument::Text {
             name: "symbols",
@@ -174,7 +174,7 @@ const RUN: CommandForm = CommandForm {
         },
         Argument::Flag {
             name: "unfinished",
-            help: "Print the report, and write the trace, also if the budget ends the run",
+            help: "Print the report, and write the trace, even if the budget ends the run",
         },
         QUIET,
         SYMBOLS,

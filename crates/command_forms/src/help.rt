@@ -10,19 +10,19 @@ command line, 3 FILE or standard output failed (`link`), 4 out of memory, or the
 
 /// What `check` prints, and its exit statuses.
 pub(crate) const CHECK_ENDS: &str = "\
-Lists every fault of the text: its line, its column, its code as `ultra asm` reports it (A1 to A6), the word
-at fault, and what would be right there. The last line says how many faults there are. Writes nothing.
+Lists every mistake of the text: its line, its column, its code as `ultra asm` reports it (A1 to A6), the wrong
+word, and what would be right there. The last line says how many mistakes there are. Writes nothing.
 
-Exit status: 0 the text has no fault, 1 it has faults, 2 a refused command line, 3 FILE cannot be opened or
+Exit status: 0 the text has no mistake, 1 it has mistakes, 2 a refused command line, 3 FILE cannot be opened or
 read or is not UTF-8, or standard output cannot be written (`link`), 4 out of memory.";
 
 /// What `asm` reports, and its exit statuses.
 pub(crate) const ASM_ENDS: &str = "\
-The first fault is reported on standard error, as `ultra: A3 line 2`, and OUT is not opened: A1 unknown
+The first mistake is reported on standard error, as `ultra: A3 line 2`, and OUT is not opened: A1 unknown
 first word, A2 form, A3 number out of range or place not divisible by 4, A4 label twice, A5 label
-missing, A6 section full, each with its line. `ultra check FILE` lists all faults of a text.
+missing, A6 section full, each with its line. `ultra check FILE` lists all mistakes of a text.
 
-Exit status: 0 done, 2 a fault of the text or of the command line, 3 FILE cannot be read or is not
+Exit status: 0 done, 2 a mistake of the text or a refused command line, 3 FILE cannot be read or is not
 UTF-8 (`link`) or OUT cannot be written (`I9`), 4 out of memory.";
 
 /// What `dis` prints and reports, and its exit statuses.
@@ -64,7 +64,7 @@ its number, its pc in hex, `run`, `halt HH` (HH is what it halted with, in hex) 
 many instructions it has retired, and the bytes it sent to the console in hex, or `-` for none.
 Then `word I VVVVVVVV` is shared word I in hex, for each that is not zero.
 
-A fault is reported on standard error, and then there is no report: `ultra: I1` to `I8` a refused
+An error is reported on standard error, and then there is no report: `ultra: I1` to `I8` a refused
 image, `K1` a size out of the machine's limits, `budget` used up while a processor runs, unless it is
 reported with --unfinished, `L2` more than 4194304 steps on threads, `L4` a core on loan not taken back,
 `Start` a thread cannot be started, `link` FILE cannot be opened or standard output cannot be written,
@@ -80,7 +80,7 @@ in the network are drained, and the report is printed as by `ultra run`:
 `processor P pc VVVVVVVV STATUS retired N console HEX` for each processor, and `word I VVVVVVVV` for
 each shared word that is not zero.
 
-A fault is reported on standard error, and then there is no report: `ultra: X1` TRACE is cut short, `X2`
+An error is reported on standard error, and then there is no report: `ultra: X1` TRACE is cut short, `X2`
 its header is refused, `X3` a record is refused, `X4` bytes follow the last record, `X7 step N` step N,
 from 0, stalls on this machine; `I1` to `I8` a refused image, `K1` a size out of the machine's limits;
 `link` a file cannot be opened or standard output cannot be written, `X5` TRACE or `I9` FILE cannot be
@@ -112,7 +112,7 @@ ends with `halt HH` or `fault N`. A write from outside is `N P poke PLACE VALUE`
 is to shared memory. Lines keep their numbers if options leave others out. If there is no line from --from
 to --to, nothing is printed.
 
-Faults are reported on standard error as by `ultra replay`, and then nothing is printed.
+Errors are reported on standard error as by `ultra replay`, and then nothing is printed.
 
 Exit status: 0 done, 1 a fault stopped a processor, 2 a refused trace, image or command line, 3 a
 file or standard output failed, 4 out of memory.";
@@ -162,7 +162,7 @@ With --processor these are the turns and writes of the processor, and the steps 
 for it, alone or combined with others. With --word they are the steps of references to the word, and writes
 to it. Lines keep their numbers if options leave others out.
 
-Faults are reported on standard error as by `ultra replay`, and then nothing is printed.
+Errors are reported on standard error as by `ultra replay`, and then nothing is printed.
 
 Exit status: 0 done, 1 a fault stopped a processor, 2 a refused trace, image or command line, 3 a
 file or standard output failed, 4 out of memory.";
@@ -173,7 +173,7 @@ Takes the steps as `ultra replay` does, and counts: for each stage of the networ
 moved on and those that were combined, for each module the references that it served and for how many
 processors, for each processor its instructions.
 
-Faults are reported on standard error as by `ultra replay`, and then nothing is printed.
+Errors are reported on standard error as by `ultra replay`, and then nothing is printed.
 
 Exit status: 0 done, 1 a fault stopped a processor, 2 a refused trace, image or command line, 3 a
 file or standard output failed, 4 out of memory.";
@@ -187,7 +187,7 @@ the modules. A request or a reply names its leader and the processors that it st
 names the leader that went on and the one that waits. `ultra picture TRACE FILE > FILE.svg` writes a
 file that browsers show.
 
-Faults are reported on standard error as by `ultra replay`, and then nothing is printed.
+Errors are reported on standard error as by `ultra replay`, and then nothing is printed.
 
 Exit status: 0 done, 1 a fault has stopped a processor of the machine drawn, 2 a refused trace, image or
 command line, 3 a file or standard output failed, 4 out of memory.";
@@ -216,11 +216,11 @@ first result of those that are printed as the Nth.
 With --every the machines of 1, 2, 4, 8, 16, 32 and 64 processors are explored one after another, and a
 line is printed for each; --k has no effect. It excludes --witness and --trace.
 
-With --witness N and --trace OUT the steps of a way to result N are written to OUT, for a machine with
+With --witness N and --trace OUT the steps of a path to result N are written to OUT, for a machine with
 --c and --b: `ultra replay OUT FILE` prints the report of that result. With --witness 0 they lead to the
 first of the states from which no end can be reached.
 
-A fault is reported on standard error, and then no result is printed: `ultra: I1` to `I8` a refused
+An error is reported on standard error, and then no result is printed: `ultra: I1` to `I8` a refused
 image, `K1` a size out of the machine's limits, `states` at least --states states are found, `alone` a
 processor takes a million instructions without a reference to a shared word and without coming back to
 where it was, `link` FILE cannot be opened or standard output cannot be written, `I9` FILE cannot be
@@ -228,7 +228,7 @@ read, `X5` OUT cannot be written, `L2` a way of more than 4194304 steps, `memory
 
 Exit status: 0 done, 1 in a result a fault has stopped a processor or from a state no end can be reached,
 2 a refused image or command line, or there is no such witness, 3 a file or standard output failed, 4 out
-of memory, too many states, a processor alone for too long, or a way too long. With --every it is the
+of memory, too many states, a processor alone for too long, or a path too long. With --every it is the
 greatest of all sizes.";
 
 /// How `hunt` goes, what it prints, and its exit statuses.
@@ -255,7 +255,7 @@ With --trace nothing is written before all runs are over. If a file that would b
 trace is written and no result is printed, unless --overwrite is given. Meanwhile a line on a terminal
 shows how many runs are over and how many results are found, unless --quiet is given.
 
-Faults are reported on standard error as by `ultra run`, and then no result is printed.
+Errors are reported on standard error as by `ultra run`, and then no result is printed.
 
 Exit status: 0 done, 1 a fault stopped a processor in a run, 2 a refused image or command line, 3 a
 file or standard output failed, 4 out of memory, 5 no fault stopped a processor, but a run is unfinished,

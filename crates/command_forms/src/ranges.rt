@@ -154,7 +154,7 @@ pub const WITNESS: ChoiceOption = ChoiceOption {
     name: "witness",
     low: 0,
     high: u32::MAX,
-    help: "Write the trace of a way to the result of this number, or with 0 to the first state without a way to an end; goes with --trace",
+    help: "Write the trace of a path to the result of this number, or with 0 to the first state without a path to an end; goes with --trace",
 };
 
 /// The number of steps after which the machine is drawn.

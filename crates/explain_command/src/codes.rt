@@ -108,7 +108,7 @@ What to do: `.code` and `.local` have 65,536 bytes each, `.shared` has 786,432. 
         name: "A7",
         meaning: "out of memory for the program of a text, reported as `memory`",
         advice: "\
-No command prints this code. It is a fault of the library `assembler`, which `ultra asm` and `check`
+No command prints this code. It is an error of the library `assembler`, which `ultra asm` and `check`
 report as `memory`, with exit status 4.
 
 What to do: as for `memory`.
@@ -237,7 +237,7 @@ in OUT is no whole image.
         name: "I10",
         meaning: "out of memory for an image, reported as `memory`",
         advice: "\
-No command prints this code. It is a fault of the library `elf_image`, which all commands report as
+No command prints this code. It is an error of the library `elf_image`, which all commands report as
 `memory`, with exit status 4.
 
 What to do: as for `memory`.
@@ -331,7 +331,7 @@ in OUT is no whole trace.
         name: "X6",
         meaning: "out of memory for a trace, reported as `memory`",
         advice: "\
-No command prints this code. It is a fault of the library `trace_file`, which all commands report as
+No command prints this code. It is an error of the library `trace_file`, which all commands report as
 `memory`, with exit status 4.
 
 What to do: as for `memory`.

@@ -63,7 +63,7 @@ number; or allow more states, which take more memory.
         advice: "\
 `ultra explore` reports it, and prints no result. Exit status 4. The search takes all instructions of
 a processor between two references to shared words in one move, up to a million. One that comes back
-to where it was, as `done: j done` does, is not meant: it never ends, and the last line says so.
+to where it was, as `done: jal x0, done` does, is not meant: it never ends, and the last line says so.
 
 Usual causes: a loop that counts or prints for ever and refers to no shared word; much work of one
 processor.

@@ -31,7 +31,7 @@ calls functions such as `__atomic_fetch_add_4`, which no library here has. `__bu
 too if clang compiles it.
 
 What to do: end each path through the program with environment call 0, and look at the word at pc.
-With `--comments` a word that is `lr.w` or `sc.w` has its name behind it:
+With `--comments` a word that is `lr.w` or `sc.w` has its name after it:
 
     ultra dis --comments program.elf
 ",

@@ -31,6 +31,8 @@ Any other number stops the processor by fault 7.
         name: "memory-map",
         meaning: "the regions of memory, with their addresses",
         advice: "\
+What a processor sees:
+
     0x00010000 to 0x0001ffff   code: all processors share it, and none can store to it
     0x00020000 to 0x0002ffff   local memory: each processor has its own
     0x80000000 and on          shared memory: by default 1,024 words of four bytes, up to 0x80000fff;

@@ -40,7 +40,7 @@ end
 
 complete -c ultra -f
 complete -c ultra -n __ultra_wants_command -a words -d 'Run a program of hex words on one processor and print its registers'
-complete -c ultra -n __ultra_wants_command -a check -d 'List every fault of a text, each with its line, column, word and what would be right'
+complete -c ultra -n __ultra_wants_command -a check -d 'List every mistake of a text, each with its line, column, word and what would be right'
 complete -c ultra -n __ultra_wants_command -a asm -d 'Assemble a text to an image, which holds the memory of a machine that starts'
 complete -c ultra -n __ultra_wants_command -a dis -d 'Print the code of an image, a line for each word up to the last that is not zero'
 complete -c ultra -n __ultra_wants_command -a run -d 'Run an image on a machine of up to 64 processors and print its report'
@@ -67,7 +67,7 @@ complete -c ultra -n '__ultra_wants_more check 1' -F
 complete -c ultra -n '__ultra_has_command asm' -l help -d 'Print help'
 complete -c ultra -n '__ultra_wants_more asm 2' -F
 
-complete -c ultra -n '__ultra_has_command dis' -l comments -d 'Write the name of an instruction that the machine does not have behind its word, as `# lr.w`'
+complete -c ultra -n '__ultra_has_command dis' -l comments -d 'Write the name of an instruction that the machine does not have after its word, as `# lr.w`'
 complete -c ultra -n '__ultra_has_command dis' -l symbols -r -F -d 'Print names beside addresses, from the symbol table of an ELF file or from what `nm` prints'
 complete -c ultra -n '__ultra_has_command dis' -l abi -d 'Write registers by their ABI names, and the target of a jump or branch as an address'
 complete -c ultra -n '__ultra_has_command dis' -l words -x -d 'Shared words of four bytes that the machine has, 1 to 262144 [default: 1024]'
@@ -77,7 +77,7 @@ complete -c ultra -n '__ultra_wants_more dis 1 --symbols --words' -F
 complete -c ultra -n '__ultra_has_command run' -l trace -r -F -d 'Where to write the steps of the run, for `ultra replay`; opened after the run is over'
 complete -c ultra -n '__ultra_has_command run' -l sweep -d 'Run by the sweep, on one thread: every run gives the same result'
 complete -c ultra -n '__ultra_has_command run' -l no-log -d 'With --sweep, keep no log of the steps, so that --budget may be up to 4000000000 of them; not with --trace'
-complete -c ultra -n '__ultra_has_command run' -l unfinished -d 'Print the report, and write the trace, also if the budget ends the run'
+complete -c ultra -n '__ultra_has_command run' -l unfinished -d 'Print the report, and write the trace, even if the budget ends the run'
 complete -c ultra -n '__ultra_has_command run' -l quiet -d 'Show no progress line on a terminal'
 complete -c ultra -n '__ultra_has_command run' -l symbols -r -F -d 'Print names beside addresses and words, from the symbol table of an ELF file or from what `nm` prints; not with --json'
 complete -c ultra -n '__ultra_has_command run' -l json -d 'Print each line as a JSON object'
@@ -122,7 +122,7 @@ complete -c ultra -n '__ultra_has_command explore' -l b -x -a '0 1 2 3 4 5 6 7 8
 complete -c ultra -n '__ultra_has_command explore' -l r -x -a '1 2 3' -d 'Times that a request in a queue of a switch is combined, 1 to 3, and fewer than --c [default: 1]'
 complete -c ultra -n '__ultra_has_command explore' -l words -x -d 'Shared words of four bytes that the machine has, 1 to 262144 [default: 1024]'
 complete -c ultra -n '__ultra_has_command explore' -l states -x -d 'Give up when this many states are found, 1 to 4294967295 [default: 1000000]'
-complete -c ultra -n '__ultra_has_command explore' -l witness -x -d 'Write the trace of a way to the result of this number, or with 0 to the first state without a way to an end; goes with --trace'
+complete -c ultra -n '__ultra_has_command explore' -l witness -x -d 'Write the trace of a path to the result of this number, or with 0 to the first state without a path to an end; goes with --trace'
 complete -c ultra -n '__ultra_has_command explore' -l help -d 'Print help'
 complete -c ultra -n '__ultra_wants_more explore 1 --trace --observe --symbols --k --c --b --r --words --states --witness' -F
 
@@ -229,7 +229,7 @@ complete -c ultra -n '__ultra_wants_more explain 1' -a calls -d 'the environment
 complete -c ultra -n '__ultra_wants_more explain 1' -a memory-map -d 'the regions of memory, with their addresses'
 
 complete -c ultra -n '__ultra_wants_more help 1' -a words -d 'Run a program of hex words on one processor and print its registers'
-complete -c ultra -n '__ultra_wants_more help 1' -a check -d 'List every fault of a text, each with its line, column, word and what would be right'
+complete -c ultra -n '__ultra_wants_more help 1' -a check -d 'List every mistake of a text, each with its line, column, word and what would be right'
 complete -c ultra -n '__ultra_wants_more help 1' -a asm -d 'Assemble a text to an image, which holds the memory of a machine that starts'
 complete -c ultra -n '__ultra_wants_more help 1' -a dis -d 'Print the code of an image, a line for each word up to the last that is not zero'
 complete -c ultra -n '__ultra_wants_more help 1' -a run -d 'Run an image on a machine of up to 64 processors and print its report'
