@@ -64,6 +64,8 @@ def sentence_of(comments):
     """The first sentence of a doc comment, on one line."""
     text = " ".join(comments).split("# Errors")[0].strip()
     text = re.sub(r"\s+", " ", text)
+    # A link to an item of the crate is its name alone here.
+    text = re.sub(r"\[`(?:crate::)?([^`]*)`\](?:\([^)]*\))?", r"`\1`", text)
     found = SENTENCE.match(text)
     return (found[1] if found else text).replace("|", "\\|").rstrip(":")
 
