@@ -1,7 +1,6 @@
 -- The different observed parts of results: how many there are, which result has each, and how the code keeps them.
-use Rattle.std.specs.Prelude.{◌≡◌, ℕ, ◌<◌, Bool, List, [], ◌∷◌, ◌++◌, String, Some, bytes_eq, length, map, slice_get}
-use Rattle.std.specs.Prelude.{slice_index, string_bytes, if◌then◌else◌}
-use Rattle.std.specs.Prelude.{zero, suc, Option, None}
+use Rattle.std.specs.Prelude.{◌≡◌, ℕ, zero, suc, ◌<◌, Bool, List, [], ◌∷◌, ◌++◌, Option, Some, None, String, bytes_eq}
+use Rattle.std.specs.Prelude.{length, map, slice_get, slice_index, string_bytes, if◌then◌else◌}
 use Rattle.std.specs.Global.{Global}
 use Rattle.std.specs.List.{list_any}
 use Rattle.exploration.specs.local_reduction.Results.{FinalResult}
