@@ -28,6 +28,10 @@ abbrev pub by_address : List SymbolRow → List SymbolRow
 by_address [] = []
 by_address (row ∷ rows) = with_row row (by_address rows)
 
+-- the rows at an address
+abbrev pub rows_at : (address : ℕ) → List SymbolRow → List SymbolRow
+rows_at address rows = filter (λ row. address == row.address) rows
+
 -- The addresses of symbols do not fall.
 abbrev pub AreByAddress : List Symbol → Type 0
 AreByAddress symbols = IsNonDecreasingBy (λ (symbol : Symbol). symbol.address) symbols

@@ -37,8 +37,9 @@ impl<'a> SymbolTable<'a> {
     /// `SHT_SYMTAB`: functions, objects and labels without a type that are defined in a section. What is not in the
     /// file is missing: an entry, a section header, a name or its end.
     ///
-    /// A line has the form `HEX LETTER NAME`, or `HEX HEX LETTER NAME`, as `nm -S` prints it. Each other line, as one
-    /// of an undefined symbol, is skipped.
+    /// A line has the form `HEX LETTER NAME`, or `HEX HEX LETTER NAME`, as `nm -S` prints it: the address, the size,
+    /// the type, which is any letter, and the name, with single blanks between them. A number has 1 to 8 or 16 hex
+    /// digits and is below 2^32. Each other line, as one of an undefined symbol, is skipped.
     ///
     /// A name is printable ASCII without blanks. Mapping symbols (`$x`) and local labels (`.L3`) do not count.
     ///
