@@ -6,7 +6,7 @@ use Rattle.std.specs.List.{after_first, before_first, position_or_len, slice_ran
 use Rattle.std.specs.Str.Pattern.{FindsText, FindsTextPrefix, LacksTextAt, MatchBeginsAt, StripsPrefix}
 use Rattle.std.proofs.lemmas.Bool.{eq-eqb, eqb-true}
 use Rattle.std.proofs.lemmas.Str.Pattern.{IsSplitOnceResult, split_once_first}
-use Rattle.line_formats.specs.Cuts.{after, upto, with_first, words_of}
+use Rattle.line_formats.specs.Cuts.{after, is_nil, upto, with_first, words_of}
 
 -- ---- a beginning
 
@@ -122,3 +122,22 @@ rest_shorter text r split = go r (split_once_first 32 text r split (omega arith)
         → IfSome r (λ x. length x.1.now < length text)
     go None none = tt
     go (Some x) some = rw some.2 (omega (arith, length-drop (position_or_len (λ b. b == 32) text + 1) text, some.0))
+
+first_is_a_word : (b : ℕ) (words : List (List ℕ)) → is_nil (with_first b words) ≡ false
+first_is_a_word b [] = refl
+first_is_a_word b (word ∷ words) = refl
+
+-- Each text has a word.
+pub has_words : (text : List ℕ) → is_nil (words_of text) ≡ false
+unfolding words_of
+has_words [] = refl
+has_words (b ∷ text) = go (b == 32)
+  where
+    go : (is : Bool) → is_nil (cond is ([] ∷ words_of text) (with_first b (words_of text))) ≡ false
+    go true = refl
+    go false = first_is_a_word b (words_of text)
+
+-- So has what follows the first word.
+pub rest_has_words : (r : Option (Bor (List ℕ) × Bor (List ℕ))) → IfSome r (λ x. is_nil (words_of x.1.now) ≡ false)
+rest_has_words None = tt
+rest_has_words (Some x) = has_words x.1.now

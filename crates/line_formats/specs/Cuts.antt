@@ -1,5 +1,6 @@
 -- How a text is cut at a word that stands in it.
-use Rattle.std.specs.Prelude.{ℕ, ◌==◌, List, [], ◌∷◌, Option, Some, None, option_map, is_some, if◌then◌else◌}
+use Rattle.std.specs.Prelude.{ℕ, ◌==◌, Bool, true, false, List, [], ◌∷◌, Option, Some, None, option_map, is_some}
+use Rattle.std.specs.Prelude.{if◌then◌else◌}
 
 -- what follows a beginning of the text; none, if the text does not begin so
 unfoldable pub after : (begin text : List ℕ) → Option (List ℕ)
@@ -23,3 +24,8 @@ with_first b (word ∷ words) = (b ∷ word) ∷ words
 unfoldable pub words_of : (text : List ℕ) → List (List ℕ)
 words_of [] = [] ∷ []
 words_of (b ∷ text) = if b == 32 then [] ∷ words_of text else with_first b (words_of text)
+
+-- whether there are no words
+abbrev pub is_nil : List (List ℕ) → Bool
+is_nil [] = true
+is_nil (word ∷ words) = false

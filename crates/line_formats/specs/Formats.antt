@@ -14,7 +14,8 @@ ended text = text ++ 10 ∷ []
 
 -- a line with names from a table, if there is a table
 abbrev pub named_text : {T : Type 0} → (T → ℕ → Option NamedPlace) → Names T → (line : List ℕ) → List ℕ
-named_text place names line = ended (named_line (place_in place names.places) names.shapes.now line)
+named_text place names line =
+    ended (named_line (place_in place names.places) names.disassembly names.shapes.now line)
 
 -- what is printed for a line
 abbrev pub format_text : {T : Type 0} → (T → ℕ → Option NamedPlace) → Format T → (line : List ℕ) → List ℕ

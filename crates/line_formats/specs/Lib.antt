@@ -6,6 +6,7 @@ pub mod Lines
 pub mod Parts
 pub mod Numbers
 pub mod Places
+pub mod Instructions
 pub mod Names
 pub mod Csv
 pub mod Formats

@@ -1,7 +1,8 @@
 -- Lines with the names of their addresses.
-use Rattle.std.specs.Prelude.{ℕ, ◌+◌, ◌*◌, ◌^◌, ◌||◌, nat_lt, Bool, List, [], ◌++◌, Option, Some, None, bytes_eq, codes}
-use Rattle.std.specs.Prelude.{flat_map, if◌then◌else◌, option_and_then}
-use Rattle.std.specs.Option.{option_map_or}
+use Rattle.std.specs.Prelude.{ℕ, ◌+◌, ◌*◌, ◌^◌, ◌||◌, nat_lt, Bool, true, false, List, [], ◌∷◌, ◌++◌, Option, Some}
+use Rattle.std.specs.Prelude.{None, bytes_eq, codes, flat_map, if◌then◌else◌, option_and_then}
+use Rattle.std.specs.Option.{option_map_or, option_or}
+use Rattle.line_formats.specs.Instructions.{instruction_text}
 use Rattle.line_formats.specs.Numbers.{decimal_value, word_value}
 use Rattle.line_formats.specs.Parts.{cuts_of, shape_of}
 use Rattle.line_formats.specs.Places.{NamedPlace, bracketed}
@@ -37,16 +38,45 @@ place_after place name kinds.Number text =
     else []
 place_after place name other text = []
 
--- a part as it stands, and the place of its field
-abbrev pub named_part : (place : ℕ → Option NamedPlace) → Part → (text : List ℕ) → List ℕ
-named_part place (part.Literal word) text = word.now
-named_part place (part.Field word name kind) text = word.now ++ text ++ place_after place name.now kind text
+-- the text of a field, with an instruction written in this way
+abbrev pub field_text : (insn : List ℕ → List ℕ) → (name : List ℕ) → Kind → (text : List ℕ) → List ℕ
+field_text insn name kinds.Text text = if bytes_eq name (codes "instruction") then insn text else text
+field_text insn name other text = text
+
+-- a part with its field, and the place of its field
+abbrev pub named_part : (place : ℕ → Option NamedPlace) → (insn : List ℕ → List ℕ) → Part → (text : List ℕ) → List ℕ
+named_part place insn (part.Literal word) text = word.now
+named_part place insn (part.Field word name kind) text =
+    word.now ++ field_text insn name.now kind text ++ place_after place name.now kind text
 
 -- a line that has these parts, with names
-abbrev pub named_parts : (place : ℕ → Option NamedPlace) → List (Part × List ℕ) → List ℕ
-named_parts place cuts = flat_map (λ c. named_part place c.0 c.1) cuts
+abbrev pub named_parts : (place : ℕ → Option NamedPlace) → (insn : List ℕ → List ℕ) → List (Part × List ℕ) → List ℕ
+named_parts place insn cuts = flat_map (λ c. named_part place insn c.0 c.1) cuts
+
+-- ---- the address of a line
+
+-- the address that a part has, if it is the field `address`
+abbrev pub part_address : Part → (text : List ℕ) → Option ℕ
+part_address (part.Literal word) text = None
+part_address (part.Field word name kind) text = if bytes_eq name.now (codes "address") then word_value text else None
+
+-- the address of the first part that has one
+abbrev pub line_address : List (Part × List ℕ) → Option ℕ
+line_address [] = None
+line_address (c ∷ cuts) = option_or (part_address c.0 c.1) (line_address cuts)
+
+-- ---- lines
+
+-- how an instruction is written in the line with this address: with names, if that is wanted
+abbrev pub insn_text : (place : ℕ → Option NamedPlace) → (wanted : Bool) → (address : Option ℕ) → (text : List ℕ) →
+    List ℕ
+insn_text place false address text = text
+insn_text place true address text = instruction_text place address text
 
 -- A line with names, by the first of these shapes that it has. A line that has none goes as it is.
-unfoldable pub named_line : (place : ℕ → Option NamedPlace) → List Shape → (line : List ℕ) → List ℕ
-named_line place shapes line =
-    option_map_or (λ s. named_parts place (cuts_of s.1.now line)) (shape_of shapes line) line
+unfoldable pub named_line : (place : ℕ → Option NamedPlace) → (abi : Bool) → List Shape → (line : List ℕ) → List ℕ
+named_line place abi shapes line =
+    option_map_or
+    (λ s. let cuts = cuts_of s.1.now line in named_parts place (insn_text place abi (line_address cuts)) cuts)
+    (shape_of shapes line)
+    line

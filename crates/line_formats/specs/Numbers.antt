@@ -19,4 +19,5 @@ decimal_value_after n (b ∷ text) = decimal_value_after (n * 10 + (b - 48)) tex
 
 -- the number that at most nine decimal digits spell
 abbrev pub decimal_value : List ℕ → Option ℕ
-decimal_value text = if nat_le (length text) 9 && list_all is_digit text then Some (decimal_value_after 0 text) else None
+decimal_value text =
+    if nat_le (length text) 9 && list_all is_digit text then Some (decimal_value_after 0 text) else None

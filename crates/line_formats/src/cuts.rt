@@ -1,7 +1,7 @@
 //! How a text is cut at a word that stands in it.
 
-ghost use Rattle.std.specs.Prelude.{◌≡◌, ◌<◌, ◌∷◌, [], IfSome, MatchOption, length, option_map};
-ghost use Rattle.line_formats.specs.Cuts.{after, upto, words_of};
+ghost use Rattle.std.specs.Prelude.{◌≡◌, ◌<◌, ◌∷◌, [], IfSome, MatchOption, false, length, option_map};
+ghost use Rattle.line_formats.specs.Cuts.{after, is_nil, upto, words_of};
 
 /// What follows a beginning of the text; None if the text does not begin so.
 pub(crate) fn after<'a>(begin: &str, text: &'a str) -> Option<&'a str>
@@ -24,6 +24,7 @@ pub(crate) fn upto<'a>(word: &str, text: &'a str) -> Option<(&'a str, &'a str)>
 pub(crate) fn first_word(text: &str) -> Option<(&str, &str)>
     ensures words { MatchOption result (words_of text.now ≡ text.now ∷ [])
         (λ x. words_of text.now ≡ x.0.now ∷ words_of x.1.now) }
+    ensures more { IfSome result (λ x. is_nil (words_of x.1.now) ≡ false) }
     ensures shorter { IfSome result (λ x. length x.1.now < length text.now) }
 {
     text.split_once(' ')

@@ -1,12 +1,14 @@
 //! Lines with the names of their addresses.
 
 ghost use Rattle.std.specs.Prelude.{◌≡◌, ◌++◌, OnOk, string_bytes};
-ghost use Rattle.line_formats.specs.Names.{address_of_number, address_of_word, is_address, named_line, named_part};
-ghost use Rattle.line_formats.specs.Names.{named_parts, place_after};
+ghost use Rattle.line_formats.specs.Names.{address_of_number, address_of_word, field_text, insn_text, is_address};
+ghost use Rattle.line_formats.specs.Names.{line_address, named_line, named_part, named_parts, part_address};
+ghost use Rattle.line_formats.specs.Names.{place_after};
 ghost use Rattle.line_formats.specs.Parts.{cuts_of};
 ghost use Rattle.line_formats.specs.Places.{place_in};
 
 use crate::format::LineFormat;
+use crate::instructions::push_instruction;
 use crate::numbers::{decimal_value, word_value};
 use crate::parts::{first_cut, shape_of};
 use crate::places::{Places, push_place};
@@ -24,6 +26,8 @@ pub struct Names<'a, P> {
     pub shapes: &'a [Shape],
     /// The names, if there are any.
     pub places: Option<P>,
+    /// Whether instructions have registers by the names of their use, and the addresses to which they jump.
+    pub disassembly: bool,
 }
 
 impl<P: Places> LineFormat for Names<'_, P> {
@@ -33,7 +37,7 @@ impl<P: Places> LineFormat for Names<'_, P> {
 
     fn text(&self, alloc: Global, line: &str) -> Result<Vec<u8>, AllocError> {
         let mut text = String::new(alloc);
-        push_line(&self.places, self.shapes, line, &mut text)?;
+        push_line(alloc, self, line, &mut text)?;
         text.push('\n')?;
         Ok(text.into_bytes())
     }
@@ -42,54 +46,134 @@ impl<P: Places> LineFormat for Names<'_, P> {
 /// Appends a line with names.
 #[tactic(auto, unfolding(crate::specs::Names::named_line))]
 fn push_line<P: Places>(
-    places: &Option<P>,
-    shapes: &[Shape],
+    alloc: Global,
+    names: &Names<'_, P>,
     line: &str,
     text: &mut String,
 ) -> Result<(), AllocError>
     ensures { OnOk result (string_bytes text.new ≡ string_bytes text.old
-        ++ named_line (place_in P.place places.now) shapes.now line.now) }
+        ++ named_line (place_in P.place names.now.places) names.now.disassembly names.now.shapes.now line.now) }
 {
-    match shape_of(shapes, line) {
-        Some(shape) => push_parts(places, shape.1, line, text),
+    match shape_of(names.shapes, line) {
+        Some(shape) => {
+            let address = line_address(shape.1, line);
+            push_parts(alloc, names, address, shape.1, line, text)
+        }
         None => text.push_str(line),
+    }
+}
+
+/// The address of the first part that has one.
+fn line_address(parts: &[Part], line: &str) -> Option<u32>
+    ensures { result ≡ line_address (cuts_of parts.now line.now) }
+{
+    let (part, field, others, rest) = first_cut(parts, line)?;
+    match part_address(&part, field) {
+        Some(address) => Some(address),
+        None => line_address(others, rest),
+    }
+}
+
+/// The address that a part has, if it is the field `address`.
+fn part_address(part: &Part, field: &str) -> Option<u32>
+    ensures { result ≡ part_address part.now field.now }
+{
+    match part {
+        Part::Literal(_) => None,
+        Part::Field(_, name, _) => {
+            if *name == "address" {
+                word_value(field)
+            } else {
+                None
+            }
+        }
     }
 }
 
 /// Appends the parts of a line with names.
 fn push_parts<P: Places>(
-    places: &Option<P>,
+    alloc: Global,
+    names: &Names<'_, P>,
+    address: Option<u32>,
     parts: &[Part],
     line: &str,
     text: &mut String,
 ) -> Result<(), AllocError>
     ensures { OnOk result (string_bytes text.new ≡ string_bytes text.old
-        ++ named_parts (place_in P.place places.now) (cuts_of parts.now line.now)) }
+        ++ named_parts (place_in P.place names.now.places)
+        (insn_text (place_in P.place names.now.places) names.now.disassembly address) (cuts_of parts.now line.now)) }
 {
     let Some((part, field, others, rest)) = first_cut(parts, line) else {
         return Ok(());
     };
-    push_part(places, &part, field, text)?;
-    push_parts(places, others, rest, text)
+    push_part(alloc, names, address, &part, field, text)?;
+    push_parts(alloc, names, address, others, rest, text)
 }
 
-/// Appends a part as it stands, and the place of its field.
+/// Appends a part with its field, and the place of its field.
 fn push_part<P: Places>(
-    places: &Option<P>,
+    alloc: Global,
+    names: &Names<'_, P>,
+    address: Option<u32>,
     part: &Part,
     field: &str,
     text: &mut String,
 ) -> Result<(), AllocError>
     ensures { OnOk result (string_bytes text.new ≡ string_bytes text.old
-        ++ named_part (place_in P.place places.now) part.now field.now) }
+        ++ named_part (place_in P.place names.now.places)
+        (insn_text (place_in P.place names.now.places) names.now.disassembly address) part.now field.now) }
 {
     match part {
         Part::Literal(word) => text.push_str(word),
         Part::Field(word, name, kind) => {
             text.push_str(word)?;
-            text.push_str(field)?;
-            push_place_after(places, name, kind, field, text)
+            push_field(alloc, names, address, name, kind, field, text)?;
+            push_place_after(&names.places, name, kind, field, text)
         }
+    }
+}
+
+/// Appends a field: an instruction as it is wanted, and any other as it stands.
+fn push_field<P: Places>(
+    alloc: Global,
+    names: &Names<'_, P>,
+    address: Option<u32>,
+    name: &str,
+    kind: &Kind,
+    field: &str,
+    text: &mut String,
+) -> Result<(), AllocError>
+    ensures { OnOk result (string_bytes text.new ≡ string_bytes text.old
+        ++ field_text (insn_text (place_in P.place names.now.places) names.now.disassembly address) name.now kind.now
+        field.now) }
+{
+    match kind {
+        Kind::Text => {
+            if name == "instruction" {
+                push_insn(alloc, names, address, field, text)
+            } else {
+                text.push_str(field)
+            }
+        }
+        _ => text.push_str(field),
+    }
+}
+
+/// Appends an instruction as it is wanted.
+fn push_insn<P: Places>(
+    alloc: Global,
+    names: &Names<'_, P>,
+    address: Option<u32>,
+    insn: &str,
+    text: &mut String,
+) -> Result<(), AllocError>
+    ensures { OnOk result (string_bytes text.new ≡ string_bytes text.old
+        ++ insn_text (place_in P.place names.now.places) names.now.disassembly address insn.now) }
+{
+    if names.disassembly {
+        push_instruction(alloc, &names.places, address, insn, text)
+    } else {
+        text.push_str(insn)
     }
 }
 

@@ -122,17 +122,19 @@ impl Places for TwoNames {
     }
 }
 
-/// Whether a line is passed on as this line with names.
+/// Whether a line is passed on as this line with names, and with names in its instruction if that is wanted.
 fn has_names<R: Abort>(
     rt: &R,
     alloc: Global,
     shapes: &[Shape],
+    disassembly: bool,
     line: &str,
     named: &str,
 ) -> Result<(), Fail> {
     let format = Names {
         shapes,
         places: Some(TwoNames),
+        disassembly,
     };
     let text = format!(in alloc; "{named}\n")?;
     passes_on(rt, alloc, format, line, text.as_str())
@@ -146,10 +148,7 @@ fn addresses_have_names(rt: HostRuntime) -> Result<(), Fail> {
             "5 1 00010004 amoadd.w x8, x7, (x5) = 00000100 word 0 00000100 00000107",
             "5 1 00010004 <push+0x4> amoadd.w x8, x7, (x5) = 00000100 word 0 (count) 00000100 00000107",
         ),
-        (
-            "7 1 00010000 halt 00",
-            "7 1 00010000 <push> halt 00",
-        ),
+        ("7 1 00010000 halt 00", "7 1 00010000 <push> halt 00"),
         ("7 1 0000fffc halt 00", "7 1 0000fffc halt 00"),
         (
             "2 - poke 80000401 01 word 256 00000000 00000100",
@@ -158,11 +157,11 @@ fn addresses_have_names(rt: HostRuntime) -> Result<(), Fail> {
         ("3 0 poke x5 00010000", "3 0 poke x5 00010000"),
         ("pc 00010000", "pc 00010000"),
     ] {
-        has_names(&rt, rt.alloc(), shapes::order(), line, named)?;
+        has_names(&rt, rt.alloc(), shapes::order(), false, line, named)?;
     }
     let report = "processor 0 pc 00010010 run retired 4 console -";
     let named = "processor 0 pc 00010010 <push+0x10> run retired 4 console -";
-    has_names(&rt, rt.alloc(), shapes::report(), report, named)
+    has_names(&rt, rt.alloc(), shapes::report(), false, report, named)
 }
 
 /// Without a table, no line has names.
@@ -172,8 +171,78 @@ fn lines_have_no_names_without_a_table(rt: HostRuntime) -> Result<(), Fail> {
     let format = Names {
         shapes: shapes::report(),
         places,
+        disassembly: false,
     };
-    passes_on(&rt, rt.alloc(), format, "word 3 0000002a", "word 3 0000002a\n")
+    passes_on(
+        &rt,
+        rt.alloc(),
+        format,
+        "word 3 0000002a",
+        "word 3 0000002a\n",
+    )
+}
+
+/// Registers in each kind of operand, and jumps to and fro, to a place without a name, and past address 0.
+#[test]
+fn instructions_have_names(rt: HostRuntime) -> Result<(), Fail> {
+    for (line, named) in [
+        (
+            "00010000 800002b7 lui x5, 524288",
+            "00010000 <push> 800002b7 lui t0, 524288",
+        ),
+        (
+            "00010018 0002a483 lw x9, 0(x5)",
+            "00010018 <push+0x18> 0002a483 lw s1, 0(t0)",
+        ),
+        (
+            "0001000c 0072a42f amoadd.w x8, x7, (x5)",
+            "0001000c <push+0xc> 0072a42f amoadd.w s0, t2, (t0)",
+        ),
+        (
+            "00010010 fff30313 addi x6, x6, -1",
+            "00010010 <push+0x10> fff30313 addi t1, t1, -1",
+        ),
+        (
+            "00010014 fe031ce3 bne x6, x0, -8",
+            "00010014 <push+0x14> fe031ce3 bne t1, zero, 0001000c <push+0xc>",
+        ),
+        (
+            "00010020 00b4ee63 bltu x9, x11, 28",
+            "00010020 <push+0x20> 00b4ee63 bltu s1, a1, 0001003c <push+0x3c>",
+        ),
+        (
+            "00010000 ffdff0ef jal x1, -4",
+            "00010000 <push> ffdff0ef jal ra, 0000fffc",
+        ),
+        (
+            "00000000 ffdff0ef jal x1, -4",
+            "00000000 ffdff0ef jal ra, fffffffc <count+0x7ffffffc>",
+        ),
+        (
+            "0001002c 00000073 ecall",
+            "0001002c <push+0x2c> 00000073 ecall",
+        ),
+        ("00010030 ffffffff -", "00010030 <push+0x30> ffffffff -"),
+    ] {
+        has_names(&rt, rt.alloc(), shapes::listing(), true, line, named)?;
+    }
+    Ok(())
+}
+
+/// An entry of a serial order has its target, and a step of a story, which has no address, its offset.
+#[test]
+fn instructions_of_other_lines_have_names(rt: HostRuntime) -> Result<(), Fail> {
+    let alloc = rt.alloc();
+    let line = "9 0 00010010 beq x5, x6, -8";
+    let named = "9 0 00010010 <push+0x10> beq t0, t1, 00010008 <push+0x8>";
+    has_names(&rt, alloc, shapes::order(), true, line, named)?;
+    let line = "4 1 00010004 amoadd.w x31, x3, (x4) = 00000100 word 1 00000100 00000107";
+    let named =
+        "4 1 00010004 <push+0x4> amoadd.w t6, gp, (tp) = 00000100 word 1 (count+0x4) 00000100 00000107";
+    has_names(&rt, alloc, shapes::order(), true, line, named)?;
+    let line = "23 turn 0: retires jal x1, 8 = 00010008";
+    let named = "23 turn 0: retires jal ra, 8 = 00010008";
+    has_names(&rt, alloc, shapes::story(), true, line, named)
 }
 
 /// Whether these rows are passed on for a line.
