@@ -64,6 +64,7 @@ pub(crate) fn format_of<'a>(
     Format::Named(Names {
         shapes: asked.shapes,
         places: symbols,
+        disassembly: asked.abi,
     })
 }
 
