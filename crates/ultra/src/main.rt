@@ -74,7 +74,7 @@ fn main(rt: HostRuntime) -> ExitCode {
 /// terminal. A call that fails leaves its error in `reason`.
 fn carry_out<
     R: Env + Files + Input + Net + Threads + Wait + Clock + Eprint + Print + Sync + AllocGlobal,
-    W: Write,
+    W: Write + Drop,
     E: Write,
 >(rt: &R, terminal: bool, reason: &Reason, stdout: W, err: &mut E) -> u8 {
     let arguments = match env::args(rt) {
@@ -91,7 +91,7 @@ fn carry_out<
 /// Does what the words of a command line ask for.
 fn carry_out_words<
     R: Files + Input + Net + Threads + Wait + Clock + Eprint + Print + Sync + AllocGlobal,
-    W: Write,
+    W: Write + Drop,
     E: Write,
 >(
     rt: &R,
@@ -113,7 +113,7 @@ fn carry_out_words<
 /// Does what settings ask for, and prints its lines in the format that they ask for.
 fn execute_in_format<
     R: Files + Input + Net + Threads + Wait + Clock + Eprint + Print + Sync + AllocGlobal,
-    W: Write,
+    W: Write + Drop,
     E: Write,
 >(
     rt: &R,
@@ -689,7 +689,7 @@ fn refuse_arguments<E: Write>(kind: ErrorKind, err: &mut E) -> u8 {
 
 /// Reports why the command line is refused, in the words of its parser. Help and the version that were asked for go to
 /// standard output.
-fn refuse_words<W: Write, E: Write>(
+fn refuse_words<W: Write + Drop, E: Write>(
     words: &[&str],
     error: &Error,
     reason: &Reason,

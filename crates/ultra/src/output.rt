@@ -35,6 +35,7 @@ impl<W: Write> Write for Output<'_, W> {
 }
 
 /// How the lines of a command are to be printed.
+#[derive(Clone, Copy, Drop)]
 struct Asked {
     /// As JSON.
     json: bool,
