@@ -1,5 +1,5 @@
-//! Tests of links, images and traces: devices that fail at each call in turn, and images and traces made by hand, both
-//! accepted and refused.
+//! Tests of links, images, traces and symbol tables: devices that fail at each call in turn, images and traces made by
+//! hand, both accepted and refused, and tables made by hand, whole and broken.
 //!
 //! The tests are a crate of their own, so that crates above these parts need not wait for them.
 #![tactic(auto)]

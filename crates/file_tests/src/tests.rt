@@ -1,8 +1,9 @@
-//! Links, and the files that are read and written through them.
+//! Links, the files that are read and written through them, and symbol tables.
 
 mod images;
 mod links;
 mod memory;
+mod symbols;
 mod traces;
 
 use std::fmt::Debug;

@@ -1,0 +1,7 @@
+pub mod Cuts
+pub mod Ascii
+pub mod Fields
+pub mod Kept
+pub mod Mapped
+pub mod Sorting
+pub mod Nearest

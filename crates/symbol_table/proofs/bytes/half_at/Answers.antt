@@ -1,0 +1,9 @@
+use Rattle.std.proofs.Common.{ap, ◌∙◌}
+use Rattle.std.proofs.lemmas.List.{take_rest}
+use Rattle.byteorder.specs.Endian.{little_number}
+use Rattle.symbol_table.specs.Parts.{number_at}
+use Rattle.symbol_table.proofs.bytes.half_at.Goals as goal
+
+pub returns : goal.returns
+unfolding number_at
+returns c = c.read_u16.ensures ∙ ap (little_number 2) (take_rest c.args.file.now c.args.place)
