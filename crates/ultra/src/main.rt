@@ -16,7 +16,7 @@ use crate::files::{
     STANDARD, open, open_beside, open_beside_trace, open_image, read_once, trace_to, writer_to,
 };
 use crate::loopback_port::LoopbackPort;
-use crate::output::{NoNames, Output, shapes_of};
+use crate::output::{Output, shapes_of};
 use crate::refusal::{Refusal, refuse};
 use crate::reports::{Explained, Place, Reason, Reports, place_of, report_place};
 use crate::standard_streams::StandardStreams;
@@ -75,6 +75,7 @@ fn main(rt: HostRuntime) -> ExitCode {
 /// terminal. A call that fails leaves its error in `reason`.
 fn carry_out<
     'r,
+    's,
     R: Env + Files + Input + Net + Threads + Wait + Clock + Eprint + Print + Sync + AllocGlobal,
     W: Write,
     E: Write,
@@ -82,10 +83,10 @@ fn carry_out<
     rt: &R,
     terminal: bool,
     reason: &'r Reason,
-    out: &mut Meter<Explained<'r, Output<NoNames, W>>>,
+    out: &mut Meter<Explained<'r, Output<'s, W>>>,
     err: &mut E,
 ) -> u8
-    requires works { ⟦<Meter<Explained<'r, Output<NoNames, W>>> as Link>⟧.has_failed out.old ≡ false }
+    requires works { ⟦<Meter<Explained<'r, Output<'s, W>>> as Link>⟧.has_failed out.old ≡ false }
 {
     let arguments = match env::args(rt) {
         Ok(arguments) => arguments,
@@ -101,6 +102,7 @@ fn carry_out<
 /// Does what the words of a command line ask for.
 fn carry_out_words<
     'r,
+    's,
     R: Files + Input + Net + Threads + Wait + Clock + Eprint + Print + Sync + AllocGlobal,
     W: Write,
     E: Write,
@@ -109,10 +111,10 @@ fn carry_out_words<
     arguments: &[String],
     terminal: bool,
     reason: &'r Reason,
-    out: &mut Meter<Explained<'r, Output<NoNames, W>>>,
+    out: &mut Meter<Explained<'r, Output<'s, W>>>,
     err: &mut E,
 ) -> u8
-    requires works { ⟦<Meter<Explained<'r, Output<NoNames, W>>> as Link>⟧.has_failed out.old ≡ false }
+    requires works { ⟦<Meter<Explained<'r, Output<'s, W>>> as Link>⟧.has_failed out.old ≡ false }
 {
     let Ok(words) = texts(rt.alloc(), arguments) else {
         return report_fault(Fault::Memory, err);

@@ -1,18 +1,19 @@
 //! Standard output, to which lines go in a format.
 
-use line_formats::{Format, FormattedLines, Names, Places, Shape, shapes};
+use line_formats::{Format, FormattedLines, Names, Shape, shapes};
 use settings::{Settings, TraceCommand};
 use std::alloc::Global;
 use std::io::{self, Write};
+use symbol_table::SymbolTable;
 
-/// A writer to which bytes go as they are, or lines in a format, perhaps with names from a table of type P. If there is
-/// no memory for the text of a line, a write fails.
+/// A writer to which bytes go as they are, or lines in a format. If there is no memory for the text of a line, a write
+/// fails.
 #[derive(Drop)]
-pub(crate) struct Output<P: Places, W: Write> {
-    lines: FormattedLines<Format<P>, W>,
+pub(crate) struct Output<'s, W: Write> {
+    lines: FormattedLines<Format<SymbolTable<'s>>, W>,
 }
 
-impl<P: Places + Drop, W: Write> Output<P, W> {
+impl<'s, W: Write> Output<'s, W> {
     /// A writer to the device, of bytes as they are.
     pub(crate) fn new(alloc: Global, device: W) -> Self {
         Output {
@@ -31,12 +32,12 @@ impl<P: Places + Drop, W: Write> Output<P, W> {
     }
 
     /// From now on, lines go with names.
-    pub(crate) fn print_names(&mut self, names: Names<'static, P>) {
+    pub(crate) fn print_names(&mut self, names: Names<'static, SymbolTable<'s>>) {
         self.lines.format = Format::Named(names);
     }
 }
 
-impl<P: Places, W: Write> Write for Output<P, W> {
+impl<W: Write> Write for Output<'_, W> {
     fn write(&mut self, buf: &[u8]) -> io::Result<usize> {
         match self.lines.format {
             // Bytes may be no lines, as those of an image.
@@ -47,20 +48,6 @@ impl<P: Places, W: Write> Write for Output<P, W> {
 
     fn flush(&mut self) -> io::Result<()> {
         self.lines.device.flush()
-    }
-}
-
-/// A table without names.
-#[derive(Drop)]
-pub(crate) struct NoNames;
-
-impl Places for NoNames {
-    ghost use Rattle.std.specs.Prelude.{None};
-
-    ghost place = { λ names address. None };
-
-    fn place(&self, _address: u32) -> Option<(&str, u32)> {
-        None
     }
 }
 
