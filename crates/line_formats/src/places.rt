@@ -1,7 +1,7 @@
 //! Names for addresses.
 
 ghost use Rattle.std.specs.Prelude.{◌≡◌, ◌++◌, OnOk, option_and_then, option_map, string_bytes};
-ghost use Rattle.line_formats.specs.Places.{bracketed, place_in, place_text};
+ghost use Rattle.line_formats.specs.Places.{place_between, place_in, place_text};
 
 use std::alloc::AllocError;
 use std::fmt::Write;
@@ -28,7 +28,7 @@ pub(crate) fn push_place<P: Places>(
     text: &mut String,
 ) -> Result<(), AllocError>
     ensures { OnOk result (string_bytes text.new ≡ string_bytes text.old
-        ++ bracketed before.now after.now (option_and_then (place_in P.place places.now) address)) }
+        ++ place_between before.now after.now (option_and_then (place_in P.place places.now) address)) }
 {
     match place_of(places, address) {
         Some((name, offset)) => {
