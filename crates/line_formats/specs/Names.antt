@@ -1,6 +1,6 @@
 -- Lines with the names of their addresses.
-use Rattle.std.specs.Prelude.{ℕ, ◌+◌, ◌*◌, ◌^◌, ◌||◌, nat_lt, Bool, true, false, List, [], ◌∷◌, ◌++◌, Option, Some}
-use Rattle.std.specs.Prelude.{None, bytes_eq, codes, flat_map, if◌then◌else◌, option_and_then}
+use Rattle.std.specs.Prelude.{◌≡◌, ℕ, ◌+◌, ◌*◌, ◌^◌, ◌||◌, nat_lt, Bool, true, false, List, [], ◌∷◌, ◌++◌, Option}
+use Rattle.std.specs.Prelude.{Some, None, bytes_eq, codes, flat_map, if◌then◌else◌, option_and_then}
 use Rattle.std.specs.Option.{option_map_or, option_or}
 use Rattle.line_formats.specs.Instructions.{instruction_text}
 use Rattle.line_formats.specs.Numbers.{decimal_value, word_value}
@@ -80,3 +80,9 @@ named_line place abi shapes line =
     (λ s. let cuts = cuts_of s.1.now line in named_parts place (insn_text place abi (line_address cuts)) cuts)
     (shape_of shapes line)
     line
+
+-- ---- a law
+
+-- With no place for any address, and with instructions as they are, each line goes as it is.
+abbrev pub LinesStay : Type 0
+LinesStay = (shapes : List Shape) (line : List ℕ) → named_line (λ address. None) false shapes line ≡ line
