@@ -4,3 +4,4 @@ pub mod Writing
 pub mod Feeding
 pub mod Reading
 pub mod ObjectTokens
+pub mod Staying

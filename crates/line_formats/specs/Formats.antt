@@ -9,17 +9,17 @@ use Rattle.line_formats.specs.declared.format.Format.TheVariants as format
 use Rattle.line_formats.specs.declared.names.Names.{Names}
 
 -- with a line feed after it
-abbrev pub ended : List ℕ → List ℕ
-ended text = text ++ 10 ∷ []
+abbrev pub with_line_feed : List ℕ → List ℕ
+with_line_feed text = text ++ 10 ∷ []
 
 -- a line with names from a table, if there is a table
 abbrev pub named_text : {T : Type 0} → (T → ℕ → Option NamedPlace) → Names T → (line : List ℕ) → List ℕ
 named_text place names line =
-    ended (named_line (place_in place names.places) names.disassembly names.shapes.now line)
+    with_line_feed (named_line (place_in place names.places) names.disassembly names.shapes.now line)
 
 -- what is printed for a line
 abbrev pub format_text : {T : Type 0} → (T → ℕ → Option NamedPlace) → Format T → (line : List ℕ) → List ℕ
-format_text place format.Plain line = ended line
-format_text place (format.Json shapes) line = ended (object_text shapes.now line)
+format_text place format.Plain line = with_line_feed line
+format_text place (format.Json shapes) line = with_line_feed (object_text shapes.now line)
 format_text place (format.Csv shapes) line = csv_text shapes.now line
 format_text place (format.Named names) line = named_text place names line

@@ -7,7 +7,7 @@ use Rattle.asm_lines.specs.Names.{register_of, use_name}
 use Rattle.hex.specs.Hex.{encode_lower}
 use Rattle.line_formats.specs.Cuts.{after, is_nil, upto, words_of}
 use Rattle.line_formats.specs.Numbers.{decimal_value}
-use Rattle.line_formats.specs.Places.{NamedPlace, bracketed}
+use Rattle.line_formats.specs.Places.{NamedPlace, place_between}
 
 -- ---- registers
 
@@ -49,7 +49,8 @@ target_of origin offset =
 
 -- an address in eight hex digits, and its place
 abbrev pub target_text : (place : ℕ → Option NamedPlace) → (address : ℕ) → List ℕ
-target_text place address = encode_lower (to_be_bytes w32 address) ++ bracketed (codes " <") (codes ">") (place address)
+target_text place address =
+    encode_lower (to_be_bytes w32 address) ++ place_between (codes " <") (codes ">") (place address)
 
 -- the target in place of the offset, if that is a number
 abbrev pub jump_text : (place : ℕ → Option NamedPlace) → (origin : ℕ) → (offset : List ℕ) → List ℕ

@@ -1,11 +1,11 @@
 -- Lines with the names of their addresses.
-use Rattle.std.specs.Prelude.{ℕ, ◌+◌, ◌*◌, ◌^◌, ◌||◌, nat_lt, Bool, true, false, List, [], ◌∷◌, ◌++◌, Option, Some}
-use Rattle.std.specs.Prelude.{None, bytes_eq, codes, flat_map, if◌then◌else◌, option_and_then}
+use Rattle.std.specs.Prelude.{◌≡◌, ℕ, ◌+◌, ◌*◌, ◌^◌, ◌||◌, nat_lt, Bool, true, false, List, [], ◌∷◌, ◌++◌, Option}
+use Rattle.std.specs.Prelude.{Some, None, bytes_eq, codes, flat_map, if◌then◌else◌, option_and_then}
 use Rattle.std.specs.Option.{option_map_or, option_or}
 use Rattle.line_formats.specs.Instructions.{instruction_text}
 use Rattle.line_formats.specs.Numbers.{decimal_value, word_value}
 use Rattle.line_formats.specs.Parts.{cuts_of, shape_of}
-use Rattle.line_formats.specs.Places.{NamedPlace, bracketed}
+use Rattle.line_formats.specs.Places.{NamedPlace, place_between}
 use Rattle.line_formats.specs.declared.shape.Kind.{Kind}
 use Rattle.line_formats.specs.declared.shape.Kind.TheVariants as kinds
 use Rattle.line_formats.specs.declared.shape.Part.{Part}
@@ -31,10 +31,10 @@ is_address name = bytes_eq name (codes "pc") || bytes_eq name (codes "address")
 -- what is printed after a field: the place of its address, or of its shared word
 abbrev pub place_after : (place : ℕ → Option NamedPlace) → (name : List ℕ) → Kind → (text : List ℕ) → List ℕ
 place_after place name kinds.Word text =
-    if is_address name then bracketed (codes " <") (codes ">") (option_and_then place (word_value text)) else []
+    if is_address name then place_between (codes " <") (codes ">") (option_and_then place (word_value text)) else []
 place_after place name kinds.Number text =
     if bytes_eq name (codes "word")
-    then bracketed (codes " (") (codes ")") (option_and_then place (address_of_word text))
+    then place_between (codes " (") (codes ")") (option_and_then place (address_of_word text))
     else []
 place_after place name other text = []
 
@@ -80,3 +80,9 @@ named_line place abi shapes line =
     (λ s. let cuts = cuts_of s.1.now line in named_parts place (insn_text place abi (line_address cuts)) cuts)
     (shape_of shapes line)
     line
+
+-- ---- a law
+
+-- With no place for any address, and with instructions as they are, each line goes as it is.
+abbrev pub LinesStay : Type 0
+LinesStay = (shapes : List Shape) (line : List ℕ) → named_line (λ address. None) false shapes line ≡ line

@@ -16,6 +16,6 @@ abbrev pub place_text : NamedPlace → List ℕ
 place_text p = if p.1 == 0 then p.0 else p.0 ++ codes "+0x" ++ digits 16 false p.1
 
 -- a place between brackets; nothing, if there is none
-abbrev pub bracketed : (before after : List ℕ) → Option NamedPlace → List ℕ
-bracketed before after None = []
-bracketed before after (Some p) = before ++ place_text p ++ after
+abbrev pub place_between : (before after : List ℕ) → Option NamedPlace → List ℕ
+place_between before after None = []
+place_between before after (Some p) = before ++ place_text p ++ after

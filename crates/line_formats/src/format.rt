@@ -1,7 +1,7 @@
 //! Formats in which lines can go out.
 
 ghost use Rattle.std.specs.Prelude.{◌≡◌, ◌++◌, ◌∷◌, [], IfOk};
-ghost use Rattle.line_formats.specs.Formats.{ended};
+ghost use Rattle.line_formats.specs.Formats.{with_line_feed};
 
 use crate::csv::Csv;
 use crate::names::Names;
@@ -31,10 +31,10 @@ pub trait LineFormat {
 pub struct Json<'a>(pub &'a [Shape]);
 
 impl LineFormat for Json<'_> {
-    ghost use Rattle.line_formats.specs.Formats.{ended};
+    ghost use Rattle.line_formats.specs.Formats.{with_line_feed};
     ghost use Rattle.line_formats.specs.Shapes.{object_text};
 
-    ghost text = { λ json line. ended (object_text json.0.now line) };
+    ghost text = { λ json line. with_line_feed (object_text json.0.now line) };
 
     fn text(&self, alloc: Global, line: &str) -> Result<Vec<u8>, AllocError> {
         let mut object = object_text(alloc, self.0, line)?;
@@ -73,7 +73,7 @@ impl<P: Places> LineFormat for Format<P> {
 
 /// The line and a line feed.
 fn plain_text(alloc: Global, line: &str) -> Result<Vec<u8>, AllocError>
-    ensures { IfOk result (λ b. b.items ≡ ended line.now) }
+    ensures { IfOk result (λ b. b.items ≡ with_line_feed line.now) }
 {
     let mut text = Vec::new(alloc);
     text.extend_from_slice(line.as_bytes())?;

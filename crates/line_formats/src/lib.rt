@@ -28,6 +28,7 @@ mod parts;
 mod places;
 mod shape;
 pub mod shapes;
+mod symbols;
 
 pub use csv::Csv;
 pub use format::{Format, Json, LineFormat};

@@ -1,11 +1,10 @@
 //! Names for addresses.
 
 ghost use Rattle.std.specs.Prelude.{◌≡◌, ◌++◌, OnOk, option_and_then, option_map, string_bytes};
-ghost use Rattle.line_formats.specs.Places.{bracketed, place_in, place_text};
+ghost use Rattle.line_formats.specs.Places.{place_between, place_in, place_text};
 
 use std::alloc::AllocError;
 use std::fmt::Write;
-use symbol_table::SymbolTable;
 
 /// Names for addresses.
 pub trait Places {
@@ -20,20 +19,6 @@ pub trait Places {
         ensures { option_map (λ p. (p.0.now, p.1)) result ≡ Self.place self.now address };
 }
 
-impl Places for SymbolTable<'_> {
-    ghost use Rattle.std.specs.Option.{option_map};
-    ghost use Rattle.symbol_table.specs.Rows.{place_in as symbol_place};
-
-    ghost place = { λ symbols address. option_map (λ p. (p.name, p.offset)) (symbol_place symbols address) };
-
-    fn place(&self, address: u32) -> Option<(&str, u32)> {
-        match SymbolTable::place(self, address) {
-            Some(place) => Some((place.name, place.offset)),
-            None => None,
-        }
-    }
-}
-
 /// Appends the place of an address between brackets, if there is one.
 pub(crate) fn push_place<P: Places>(
     places: &Option<P>,
@@ -43,7 +28,7 @@ pub(crate) fn push_place<P: Places>(
     text: &mut String,
 ) -> Result<(), AllocError>
     ensures { OnOk result (string_bytes text.new ≡ string_bytes text.old
-        ++ bracketed before.now after.now (option_and_then (place_in P.place places.now) address)) }
+        ++ place_between before.now after.now (option_and_then (place_in P.place places.now) address)) }
 {
     match place_of(places, address) {
         Some((name, offset)) => {

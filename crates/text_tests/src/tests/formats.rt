@@ -1,10 +1,11 @@
 //! The formats of lines: what they print for some lines.
 
-use line_formats::{Csv, FormattedLines, Json, LineFormat, Names, Places, Shape, shapes};
+use line_formats::{Csv, Format, FormattedLines, Json, LineFormat, Names, Places, Shape, shapes};
 use std::alloc::Global;
 use std::io::Write;
 use std::process::Abort;
 use std::test::Fail;
+use symbol_table::SymbolTable;
 use test_support::assert_same;
 
 /// Whether a line that is written in two parts is passed on as this text.
@@ -288,4 +289,34 @@ stage,0,records,1\nstage,0,replies,1\n",
         has_rows(&rt, rt.alloc(), shapes::counts(), line, rows)?;
     }
     Ok(())
+}
+
+/// A format that is chosen while the program runs: lines as they are, objects, and rows.
+#[test]
+fn chosen_formats_print(rt: HostRuntime) -> Result<(), Fail> {
+    let alloc = rt.alloc();
+    let line = "module 7 serves 0";
+    let plain: Format<TwoNames> = Format::Plain;
+    passes_on(&rt, alloc, plain, line, "module 7 serves 0\n")?;
+    let json: Format<TwoNames> = Format::Json(shapes::counts());
+    let object = "{\"kind\":\"module\",\"module\":7,\"serves\":0}\n";
+    passes_on(&rt, alloc, json, line, object)?;
+    let csv: Format<TwoNames> = Format::Csv(shapes::counts());
+    passes_on(&rt, alloc, csv, line, "module,7,serves,0\n")
+}
+
+/// Names from a symbol table.
+#[test]
+fn symbols_are_names(rt: HostRuntime) -> Result<(), Fail> {
+    let alloc = rt.alloc();
+    let places = SymbolTable::of_file(alloc, b"00010000 T push\n80000000 B count\n")?;
+    let names = Names {
+        shapes: shapes::order(),
+        places: Some(places),
+        disassembly: true,
+    };
+    let line = "5 1 00010010 beq x5, x6, -8 word 0 00000100 00000107";
+    let named =
+        "5 1 00010010 <push+0x10> beq t0, t1, 00010008 <push+0x8> word 0 (count) 00000100 00000107\n";
+    passes_on(&rt, alloc, Format::Named(names), line, named)
 }
