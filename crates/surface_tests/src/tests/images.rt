@@ -45,7 +45,7 @@ fn an_image_has_its_layout(rt: HostRuntime) -> Result<(), Fail> {
         let layout = image.layout();
         assert_same!(rt; layout.entry, 0x0001_0000);
         assert_same!(rt; layout.code.as_slice(), [0x73, 0, 0x10, 0].as_slice());
-        assert_same!(rt; (layout.local.len(), layout.shared.len()), (0, 0));
+        assert!(rt; layout.local.is_empty() && layout.shared.is_empty());
     });
     Ok(())
 }
