@@ -1,5 +1,6 @@
-//! Links, and the files that are read and written through them.
+//! Devices of tests, links, and the files that are read and written through them.
 
+mod devices;
 mod images;
 mod links;
 mod memory;
