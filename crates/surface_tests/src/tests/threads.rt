@@ -104,12 +104,28 @@ fn go<N: Run + Send + Sync, R: Threads + Wait + Sync + Abort>(
     Ok(())
 }
 
+/// Runs a log on threads, with a new table.
+fn attempt<R: Threads + Wait + Sync + Abort>(
+    rt: &R,
+    alloc: Global,
+    logged: Logged,
+    arbiters: Vec<Shuffled>,
+) -> Result<(), Fail>
+    requires { vec_len arbiters ≡ 2 ^ logged.opening.config.k }
+{
+    match NewTable::new(alloc) {
+        Ok(room) => go::<Brand, R>(rt, alloc, room, logged, arbiters),
+        Err(error) => Err(Fail::from(error)),
+    }
+}
+
 /// Runs the program on two threads.
 fn run_two<R: Threads + Wait + Sync + Abort>(rt: &R, alloc: Global) -> Result<(), Fail> {
     let logged = log_of(alloc, TEXT, size(1))?;
-    let room = NewTable::new(alloc)?;
-    let arbiters = arbiters(alloc, &logged)?;
-    go::<Brand, R>(rt, alloc, room, logged, arbiters)
+    match arbiters(alloc, &logged) {
+        Ok(arbiters) => attempt(rt, alloc, logged, arbiters),
+        Err(fail) => Err(fail),
+    }
 }
 
 #[test]
