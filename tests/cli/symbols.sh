@@ -38,8 +38,8 @@ names_lines() {
     done
     names explore "$room/symbols" --every --states 40 "$room/barrier_once.elf" &&
         names hunt "$room/symbols" --k 1 --runs 40 --budget 20000 "$room/barrier_phase_late.elf" || return 1
-    # The last line that was compared does have names.
-    grep -q ' pc [0-9a-f]* <loop' "$room/named" && grep -q '^word [0-9]* (' "$room/named"
+    # Names are there, in the last lines that were compared too.
+    grep -q '^word [0-9]* (' "$room/named" && ./ultra order --symbols "$room/symbols" "$room/hot_spot.trace" "$room/hot_spot.elf" | grep -q ' <before+0x4> .* word 0 (count) '
 }
 check 'with --symbols each address and each word that has a name gets it' names_lines
 
@@ -108,6 +108,9 @@ refuses_symbols() {
     ends_with_code 3 link "$room/none: $no_such_file" ./ultra dis --symbols "$room/none" "$room/three.elf" &&
         ends_with_code 3 link "$room: $is_a_folder" ./ultra run --sweep --symbols "$room" "$room/three.elf" &&
         ends 2 'error: standard input is asked for twice' ./ultra dis --symbols - - <"$room/three.elf" || return 1
+    cp "$room/three.elf" "$room/same.elf" &&
+        ends 2 'error: OUT is the same file as FILE' ./ultra run --symbols "$room/same.elf" --trace "$room/same.elf" "$room/three.elf" &&
+        cmp "$room/three.elf" "$room/same.elf" || return 1
     head -c 16777217 /dev/zero >"$room/long" && ends 2 "error: '$room/long' has more than 16777216 bytes" ./ultra dis --symbols "$room/long" "$room/three.elf" || return 1
     local words
     for words in "run --json --symbols $room/symbols" 'order --json --abi' 'stats --json --csv' 'replay --csv' 'story --abi' 'stats --symbols x'; do

@@ -1,5 +1,6 @@
-//! Links, the files that are read and written through them, and symbol tables.
+//! Devices of tests, links, the files that are read and written through them, and symbol tables.
 
+mod devices;
 mod images;
 mod links;
 mod memory;

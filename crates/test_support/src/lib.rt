@@ -47,6 +47,3 @@ pub use source::{Broken, Endless, Source, metered};
 pub use trace::{FOUR_ADDS, ONE_TURN, trace_of};
 pub use watched::{Shown, Watched};
 pub use words::{Words, asked_and_wanted, low, read_words, said};
-
-#[cfg(test)]
-mod tests;

@@ -1,6 +1,6 @@
 //! The names that `--symbols` asks for.
 
-use crate::files::{STANDARD, open};
+use crate::files::{STANDARD, are_one_file, open};
 use crate::refusal::Refusal;
 use crate::reports::Reason;
 use link::{Meter, ReadError, read_within};
@@ -26,6 +26,10 @@ pub(crate) fn symbol_bytes<'a, R: Files + Input + AllocGlobal>(
     if path == STANDARD && reads_standard_input(settings) {
         return Err(Refusal::InputTwice);
     }
+    let out = trace_of(settings);
+    if path != STANDARD && out.is_some_and(|out| are_one_file(rt, path, out)) {
+        return Err(Refusal::SameFile);
+    }
     let mut file = Meter::new(open(rt, path, reason)?);
     match read_within(rt.alloc(), &mut file, MAX_SYMBOL_BYTES) {
         Ok(bytes) => Ok(Some(bytes)),
@@ -48,6 +52,15 @@ fn symbols_of<'a>(settings: &Settings<'a>) -> Option<&'a str> {
         Settings::Replay(report) => report.symbols,
         Settings::Order(order) => order.lines.symbols,
         Settings::Story(lines) => lines.symbols,
+        _ => None,
+    }
+}
+
+/// Where a command that prints names writes the trace that it is asked for.
+fn trace_of<'a>(settings: &Settings<'a>) -> Option<&'a str> {
+    match settings {
+        Settings::Run(run) => run.trace,
+        Settings::Explore(explore) => explore.trace,
         _ => None,
     }
 }

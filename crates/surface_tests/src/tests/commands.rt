@@ -1,6 +1,5 @@
 //! The words of the command line, and the commands, from the bytes of files to the bytes of reports.
 
-use super::size;
 use asm_commands::{asm_command, dis_command};
 use elf_image::Meter;
 use run_command::run_command;
@@ -8,7 +7,7 @@ use settings::{Dis, Settings, settings, status_of};
 use std::alloc::{AllocError, Global};
 use std::fmt::Write;
 use std::test::Fail;
-use test_support::{EBREAK, Ran, assert_same, metered, ran, with_bytes};
+use test_support::{EBREAK, Ran, assert_same, metered, ran, size, with_bytes};
 use trace_commands::replay_command;
 use words_command::words_command;
 
@@ -57,12 +56,17 @@ fn words_are_run(rt: HostRuntime) -> Result<(), Fail> {
 }
 
 #[test]
-fn texts_become_images_and_lines(rt: HostRuntime) -> Result<(), Fail> {
+fn texts_become_images(rt: HostRuntime) -> Result<(), Fail> {
     let alloc = rt.alloc();
     ran!(Vec::new(alloc), Vec::new(alloc), |out, err| {
         asm_command(alloc, &mut Meter::new(b"ebreak".as_slice()), out, err)
     })
-    .comes_to(0, &EBREAK, "")?;
+    .comes_to(0, &EBREAK, "")
+}
+
+#[test]
+fn images_become_lines(rt: HostRuntime) -> Result<(), Fail> {
+    let alloc = rt.alloc();
     ran!(Vec::new(alloc), Vec::new(alloc), |out, err| {
         dis_command(
             alloc,
@@ -85,11 +89,15 @@ static TRACE: [u8; 24] = [
     1, 0, 0, 0, 0, 0, 0, 0, 0, 0, 0, 0, // the record
 ];
 
-/// The image of `ecall` is that of `ebreak` with another word.
+/// The image of `ecall`: that of `ebreak` with another word.
+fn image() -> [u8; 88] {
+    with_bytes(EBREAK, 86, &[0])
+}
+
 #[test]
-fn images_are_run_and_replayed(rt: HostRuntime) -> Result<(), Fail> {
+fn images_are_run(rt: HostRuntime) -> Result<(), Fail> {
     let alloc = rt.alloc();
-    let file = with_bytes(EBREAK, 86, &[0]);
+    let file = image();
     let mut trace = Some(Meter::new(Vec::new(alloc)));
     ran!(Vec::new(alloc), Vec::new(alloc), |out, err| {
         let file = &mut Meter::new(file.as_slice());
@@ -99,6 +107,13 @@ fn images_are_run_and_replayed(rt: HostRuntime) -> Result<(), Fail> {
     if let Some(trace) = &trace {
         assert_same!(rt; trace.device.as_slice(), TRACE.as_slice());
     }
+    Ok(())
+}
+
+#[test]
+fn images_are_replayed(rt: HostRuntime) -> Result<(), Fail> {
+    let alloc = rt.alloc();
+    let file = image();
     ran!(Vec::new(alloc), Vec::new(alloc), |out, err| {
         let (mut trace, mut file) = (Meter::new(TRACE.as_slice()), metered(Ok(file.as_slice())));
         replay_command(alloc, &mut trace, &mut file, 1024, out, err)

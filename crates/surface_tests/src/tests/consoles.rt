@@ -1,7 +1,7 @@
 //! Bytes through the queue of one sender.
 
-ghost use Rattle.std.specs.Prelude.{◌≡◌, map, IfOk};
-ghost use Rattle.console_monitor.specs.Ends.{sender_queue};
+ghost use Rattle.std.specs.Prelude.{◌≡◌, ◌<◌, length, map, IfOk};
+ghost use Rattle.console_monitor.specs.Ends.{queues_of, sender_queue};
 ghost use Rattle.processor_threads.specs.Consoles.{end_queue};
 
 use console_monitor::{CAPACITY, ConsoleRefusal, End, Monitor, Sender, console};
@@ -12,19 +12,23 @@ use std::test::Fail;
 use test_support::assert_same;
 
 /// Bytes are taken in the order in which they were put. A full queue gives the byte back.
+fn are_taken<R: Wait + Abort>(rt: &R, sender: &mut Sender, monitor: &mut Monitor)
+    requires { 0 < length (queues_of monitor.old) }
+{
+    assert_same!(rt; monitor.take(0), None);
+    for _ in 0..CAPACITY {
+        assert_same!(rt; sender.put(rt, b'a'), Ok(()));
+    }
+    assert_same!(rt; sender.put(rt, b'b'), Err(b'b'));
+    assert_same!(rt; monitor.take(0), Some(b'a'));
+    assert_same!(rt; sender.put(rt, b'b'), Ok(()));
+}
+
 #[test]
 fn bytes_go_through(rt: HostRuntime) -> Result<(), Fail> {
     let (mut senders, mut monitor): (Vec<Sender>, Monitor) = console(rt.alloc(), 1)?;
-    let Some(mut sender) = senders.pop() else {
-        return Err(Fail::new("no sender"));
-    };
-    assert_same!(rt; monitor.take(0), None);
-    for _ in 0..CAPACITY {
-        assert_same!(rt; sender.put(&rt, b'a'), Ok(()));
-    }
-    assert_same!(rt; sender.put(&rt, b'b'), Err(b'b'));
-    assert_same!(rt; monitor.take(0), Some(b'a'));
-    assert_same!(rt; sender.put(&rt, b'b'), Ok(()));
+    let mut sender = senders.pop().expect(&rt, "a sender");
+    are_taken(&rt, &mut sender, &mut monitor);
     Ok(())
 }
 

@@ -3,12 +3,11 @@
 ghost use Rattle.std.specs.Prelude.{◌≡◌, true};
 ghost use Rattle.elf_image.specs.Spellings.{FitsRegions};
 
-use super::size;
 use elf_image::{Config, Image, ImageError, Layout, Link, Meter, read_image, write_image};
 use std::alloc::Global;
 use std::process::Abort;
 use std::test::Fail;
-use test_support::{EBREAK, Sink, Source, assert_same};
+use test_support::{EBREAK, Sink, Source, assert_same, lend, size};
 
 /// Whether a layout fits its regions.
 fn fits(layout: &Layout) -> bool
@@ -42,23 +41,47 @@ fn written(
 
 #[test]
 fn an_image_has_its_layout(rt: HostRuntime) -> Result<(), Fail> {
-    let image = copy_of_ebreak(rt.alloc())?;
-    let layout = image.layout();
-    assert_same!(rt; layout.entry, 0x0001_0000);
-    assert_same!(rt; layout.code.as_slice(), [0x73, 0, 0x10, 0].as_slice());
-    assert!(rt; layout.local.is_empty() && layout.shared.is_empty());
+    lend(copy_of_ebreak(rt.alloc())?, |image| {
+        let layout = image.layout();
+        assert_same!(rt; layout.entry, 0x0001_0000);
+        assert_same!(rt; layout.code.as_slice(), [0x73, 0, 0x10, 0].as_slice());
+        assert!(rt; layout.local.is_empty() && layout.shared.is_empty());
+    });
     Ok(())
+}
+
+/// Checks what is written of a layout to such a device, and how the write ends.
+fn is_written<R: Abort>(
+    rt: &R,
+    alloc: Global,
+    layout: &Layout,
+    fails_at: usize,
+    wanted: &[u8],
+    ended: Result<(), ImageError>,
+) {
+    lend(
+        written(rt, alloc, layout, fails_at),
+        |(bytes, found, has_failed)| {
+            assert_same!(rt; bytes.as_slice(), wanted);
+            assert_same!(rt; (*found, *has_failed), (ended, ended.is_err()));
+        },
+    );
 }
 
 /// A writer that takes a byte a call has the bytes before the call that fails.
 #[test]
 fn an_image_is_written(rt: HostRuntime) -> Result<(), Fail> {
-    let image = copy_of_ebreak(rt.alloc())?;
-    for (fails_at, count, ended) in [(0, 88, Ok(())), (5, 4, Err(ImageError::Link))] {
-        let (bytes, found, has_failed) = written(&rt, rt.alloc(), image.layout(), fails_at);
-        assert_same!(rt; bytes.as_slice(), &EBREAK[..count]);
-        assert_same!(rt; (found, has_failed), (ended, ended.is_err()));
-    }
+    lend(copy_of_ebreak(rt.alloc())?, |image| {
+        is_written(&rt, rt.alloc(), image.layout(), 0, &EBREAK, Ok(()));
+        is_written(
+            &rt,
+            rt.alloc(),
+            image.layout(),
+            5,
+            &EBREAK[..4],
+            Err(ImageError::Link),
+        );
+    });
     Ok(())
 }
 

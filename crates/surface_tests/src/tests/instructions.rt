@@ -13,7 +13,7 @@ use rv_table::{
     ShiftOp, StoreOp, TABLE, row_of,
 };
 use std::test::Fail;
-use test_support::assert_same;
+use test_support::{assert_same, lend};
 
 /// `addi x1, x0, 1` in the table of 57 rows, and as a word.
 #[test]
@@ -33,28 +33,45 @@ fn one_instruction(rt: HostRuntime) {
     assert_same!(rt; TABLE.len(), 57);
     assert!(rt; TABLE.iter().any(|listed| *listed == row));
     assert_same!(rt; encode(&addi), 0x0010_0093);
-    assert_same!(rt; decode(0x0010_0093), Some(addi));
-    for word in [0x0000_0000, 0xFFFF_FFFF, 0x4200_5013] {
-        assert_same!(rt; decode(word), None);
+    for (word, wanted) in [
+        (0x0010_0093, Some(addi)),
+        (0x0000_0000, None),
+        (0xFFFF_FFFF, None),
+        (0x4200_5013, None),
+    ] {
+        assert_same!(rt; decode(word), wanted, word);
     }
 }
 
 #[test]
 fn effects_of_rows(rt: HostRuntime) {
-    assert_same!(rt; register_result(RegisterOp::Sub, 1, 2), 0xFFFF_FFFF);
-    assert_same!(rt; immediate_result(ImmediateOp::Xori, 0x00FF, 0x000F), 0x00F0);
-    assert_same!(rt; shift_result(ShiftOp::Slli, 1, 31), 0x8000_0000);
-    assert!(rt; is_branch_taken(BranchOp::Bne, 0, 1));
-    assert!(rt; !is_branch_taken(BranchOp::Bgeu, 0, 1));
-    assert_same!(rt; load_result(LoadOp::Lb, 0x80), 0xFFFF_FF80);
-    assert_same!(rt; amo_result(AmoOp::Max, 0xFFFF_FFFF, 1), 1);
+    for (found, wanted) in [
+        (register_result(RegisterOp::Sub, 1, 2), 0xFFFF_FFFF),
+        (immediate_result(ImmediateOp::Xori, 0x00FF, 0x000F), 0x00F0),
+        (shift_result(ShiftOp::Slli, 1, 31), 0x8000_0000),
+        (load_result(LoadOp::Lb, 0x80), 0xFFFF_FF80),
+        (amo_result(AmoOp::Max, 0xFFFF_FFFF, 1), 1),
+        (part(Size::Byte, 3, 0xAABB_CCDD), 0xAA),
+        (sum(0xFFFF_FFFF, 1), 0),
+        (immediate_word(Immediate::new(0xFFF)), 0xFFFF_FFFF),
+        (branch_offset(Immediate::new(4)), 8),
+        (jump_offset(Immediate::new(0xF_FFFE)), 0xFFFF_FFFC),
+    ] {
+        assert_same!(rt; found, wanted);
+    }
+}
+
+#[test]
+fn conditions_and_sizes_of_rows(rt: HostRuntime) {
+    for (found, wanted) in [
+        (is_branch_taken(BranchOp::Bne, 0, 1), true),
+        (is_branch_taken(BranchOp::Bgeu, 0, 1), false),
+        (is_aligned(Size::Half, 2), true),
+        (is_aligned(Size::Word, 2), false),
+    ] {
+        assert_same!(rt; found, wanted);
+    }
     assert_same!(rt; (load_size(LoadOp::Lw), store_size(StoreOp::Sb)), (Size::Word, Size::Byte));
-    assert!(rt; is_aligned(Size::Half, 2) && !is_aligned(Size::Word, 2));
-    assert_same!(rt; part(Size::Byte, 3, 0xAABB_CCDD), 0xAA);
-    assert_same!(rt; sum(0xFFFF_FFFF, 1), 0);
-    assert_same!(rt; immediate_word(Immediate::new(0xFFF)), 0xFFFF_FFFF);
-    assert_same!(rt; branch_offset(Immediate::new(4)), 8);
-    assert_same!(rt; jump_offset(Immediate::new(0xF_FFFE)), 0xFFFF_FFFC);
 }
 
 #[test]
@@ -65,12 +82,18 @@ fn functions_apply(rt: HostRuntime) {
         and: 0xFFFF_FF00,
         xor: 0x0000_00AA,
     };
-    assert_same!(rt; (signed.apply(5), signed.apply(0x8000_0000)), (3, 0xFFFF_FFFF));
-    assert_same!(rt; (unsigned.apply(0), unsigned.apply(0x8000_0000)), (1, 9));
-    assert_same!(rt; bits.apply(0x1122_3344), 0x1122_33AA);
-    assert_same!(rt; Phi::Add(1).apply(0xFFFF_FFFF), 0);
-    assert_same!(rt; Phi::identity().apply(7), 7);
-    assert_same!(rt; Phi::constant(7).apply(9), 7);
+    for (found, wanted) in [
+        (signed.apply(5), 3),
+        (signed.apply(0x8000_0000), 0xFFFF_FFFF),
+        (unsigned.apply(0), 1),
+        (unsigned.apply(0x8000_0000), 9),
+        (bits.apply(0x1122_3344), 0x1122_33AA),
+        (Phi::Add(1).apply(0xFFFF_FFFF), 0),
+        (Phi::identity().apply(7), 7),
+        (Phi::constant(7).apply(9), 7),
+    ] {
+        assert_same!(rt; found, wanted);
+    }
     assert!(rt; Phi::identity().is_identity() && !bits.is_identity());
     assert!(rt; Phi::constant(7).is_constant() && !bits.is_constant());
 }
@@ -89,11 +112,12 @@ fn functions_compose(rt: HostRuntime) {
 /// A module returns the word as it was, and stores what the function makes of it.
 #[test]
 fn words_are_served(rt: HostRuntime) -> Result<(), Fail> {
-    let mut module = Module::new(rt.alloc(), 2)?;
-    assert!(rt; module.len() == 2);
-    assert_same!(rt; module.serve(1, &Phi::Add(7)), 0);
-    assert!(rt; module.len() == 2);
-    assert_same!(rt; module.serve(1, &Phi::constant(5)), 7);
-    assert_same!(rt; (module.word(0), module.word(1), module.word(2)), (Some(0), Some(5), None));
+    lend(Module::new(rt.alloc(), 2)?, |module| {
+        assert!(rt; module.len() == 2);
+        assert_same!(rt; module.serve(1, &Phi::Add(7)), 0);
+        assert!(rt; module.len() == 2);
+        assert_same!(rt; module.serve(1, &Phi::constant(5)), 7);
+        assert_same!(rt; [module.word(0), module.word(1), module.word(2)], [Some(0), Some(5), None]);
+    });
     Ok(())
 }

@@ -1,12 +1,11 @@
 //! The log of a machine of one processor.
 
-use super::{machine_of, size};
 use machine_lock::{LockRefusal, Logged};
 use machine_steps::{Cause, Fault, Machine, Outcome, Step};
 use std::alloc::AllocGlobal;
 use std::process::Abort;
 use std::test::Fail;
-use test_support::{assert_same, lend};
+use test_support::{assert_same, lend, machine_of, size};
 
 /// A local instruction, one that refers to shared word 0, and a stop.
 const TEXT: &str = "lui x12, 0x80000\namoadd.w x10, x12, (x12)\nebreak";
@@ -40,17 +39,21 @@ fn room_for(log: &mut Logged, extra: u32) -> Result<(), LockRefusal> {
 fn steps_are_entered(rt: HostRuntime) -> Result<(), Fail> {
     let machine = machine_of(rt.alloc(), TEXT, size(0))?;
     lend(log_from(&rt, machine), |log| {
-        assert!(rt; matches!(log.one(0)?, Outcome::Retired(_)));
-        assert_same!(rt; log.step(Step::Turn(0)), Ok(Outcome::Issued));
-        assert_same!(rt; log.step(Step::Turn(0)), Ok(Outcome::Stalled));
-        assert_same!(rt; log.step(Step::Turn(1)), Err(LockRefusal::Unnamed));
+        assert!(rt; matches!(log.one(0), Ok(Outcome::Retired(_))));
+        for (p, wanted) in [
+            (0, Ok(Outcome::Issued)),
+            (0, Ok(Outcome::Stalled)),
+            (1, Err(LockRefusal::Unnamed)),
+        ] {
+            assert_same!(rt; log.step(Step::Turn(p)), wanted, p);
+        }
         assert_same!(rt; log.drain(), Ok(2));
         assert_same!(rt; log.machine().word(0), Some(0x8000_0000));
         let stop = Outcome::Stopped(Cause::Fault(Fault::Breakpoint));
         assert_same!(rt; log.one(0), Ok(stop));
         assert_same!(rt; log.steps(), STEPS.as_slice());
-        Ok(())
-    })
+    });
+    Ok(())
 }
 
 /// A log has at most 4,194,304 steps.

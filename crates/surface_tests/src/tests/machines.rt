@@ -1,13 +1,12 @@
 //! A machine of two processors that add 1 and 2 to shared word 0, which is 10.
 
-use super::{machine_of, size};
 use machine_steps::{
     Cause, Config, Entry, Fault, Machine, NewError, Outcome, Poke, Seconds, Status, Step,
 };
-use std::alloc::Global;
+use std::alloc::{AllocGlobal, Global};
 use std::process::Abort;
 use std::test::Fail;
-use test_support::{assert_same, lend};
+use test_support::{assert_same, lend, machine_of, size};
 
 /// The add of each processor, and its stop.
 const TEXT: &str = "amoadd.w a0, a1, (a2)\nebreak";
@@ -47,6 +46,16 @@ fn adders(rt: &impl Abort, alloc: Global) -> Result<Machine, Fail> {
         assert_same!(rt; machine.apply(Step::Poke(*poke)), Outcome::Poked, poke);
     }
     Ok(machine)
+}
+
+/// Lends such a machine to a body.
+fn on_adders<F: FnOnce(&mut Machine) -> Result<(), Fail>>(
+    rt: &(impl Abort + AllocGlobal),
+    body: F,
+) -> Result<(), Fail>
+    requires { F.IsAlwaysCallable body }
+{
+    lend(adders(rt, rt.alloc())?, body)
 }
 
 /// Both requests combine at the only stage, and one service answers both.
@@ -90,35 +99,41 @@ fn result_of(outcome: Outcome) -> Option<u32> {
 fn have_added(rt: &impl Abort, machine: &Machine) {
     assert!(rt; machine.is_idle());
     assert_same!(rt; machine.drain_step(), None);
-    assert_same!(rt; (machine.reg(0, 10), machine.reg(1, 10)), (Some(10), Some(11)));
-    assert_same!(rt; (machine.word(0), machine.word(1024)), (Some(13), None));
-    assert_same!(rt; (machine.pc(1), machine.pc(2)), (Some(0x0001_0004), None));
+    assert_same!(rt; [machine.reg(0, 10), machine.reg(1, 10)], [Some(10), Some(11)]);
+    assert_same!(rt; [machine.word(0), machine.word(1024)], [Some(13), None]);
+    assert_same!(rt; [machine.pc(1), machine.pc(2)], [Some(0x0001_0004), None]);
     assert_same!(rt; machine.status(0), Some(Status::Running));
-    assert_same!(rt; machine.byte(1, 0x0002_0000), Some(0xA5));
-    assert_same!(rt; machine.byte(0, 0x0002_0000), Some(0));
+    let bytes = [machine.byte(1, 0x0002_0000), machine.byte(0, 0x0002_0000)];
+    assert_same!(rt; bytes, [Some(0xA5), Some(0)]);
+}
+
+/// Checks the outcomes of the first six of the adds' steps.
+fn send_adds(rt: &impl Abort, machine: &mut Machine) {
+    for (step, outcome) in ADDS.iter().zip(outcomes()) {
+        assert_same!(rt; machine.apply(*step), outcome, step);
+    }
 }
 
 #[test]
 fn steps_are_applied(rt: HostRuntime) -> Result<(), Fail> {
-    lend(adders(&rt, rt.alloc())?, |machine| {
-        for (step, outcome) in ADDS.iter().zip(outcomes()) {
-            assert_same!(rt; machine.apply(*step), outcome, step);
-        }
+    on_adders(&rt, |machine| {
+        send_adds(&rt, machine);
         assert_same!(rt; machine.apply(Step::Serve(2)), Outcome::Stalled);
-        assert_same!(rt; result_of(machine.apply(Step::Turn(0))), Some(10));
-        assert_same!(rt; result_of(machine.apply(Step::Turn(1))), Some(11));
+        for (p, wanted) in [(0, 10), (1, 11)] {
+            assert_same!(rt; result_of(machine.apply(Step::Turn(p))), Some(wanted), p);
+        }
         have_added(&rt, machine);
-    });
-    Ok(())
+        Ok(())
+    })
 }
 
 #[test]
 fn steps_are_run(rt: HostRuntime) -> Result<(), Fail> {
-    lend(adders(&rt, rt.alloc())?, |machine| {
+    on_adders(&rt, |machine| {
         machine.run(&ADDS);
         have_added(&rt, machine);
-    });
-    Ok(())
+        Ok(())
+    })
 }
 
 /// The serial order of a list of steps.
@@ -132,18 +147,28 @@ fn order_of(
     machine.order(alloc, steps)
 }
 
+/// Checks the serial order of a list of steps.
+fn has_order(
+    rt: &(impl Abort + AllocGlobal),
+    machine: &mut Machine,
+    steps: &[Step],
+    wanted: &[Entry],
+) -> Result<(), Fail> {
+    let order = order_of(rt, rt.alloc(), machine, steps)?;
+    assert_same!(rt; order.as_slice(), wanted);
+    Ok(())
+}
+
 /// One service answers both references, processor 0 first. A poke and a stop are in the order; a turn of a processor
 /// that the machine does not have is not.
 #[test]
 fn steps_have_an_order(rt: HostRuntime) -> Result<(), Fail> {
-    lend(adders(&rt, rt.alloc())?, |machine| {
-        let order = order_of(&rt, rt.alloc(), machine, &ADDS)?;
-        let wanted = [Entry::Processor(0), Entry::Processor(1)];
-        assert_same!(rt; order.as_slice(), wanted.as_slice());
+    on_adders(&rt, |machine| {
+        let adds = [Entry::Processor(0), Entry::Processor(1)];
+        has_order(&rt, machine, &ADDS, &adds)?;
         let steps = [Step::Poke(POKES[0]), Step::Turn(2), Step::Turn(0)];
-        let order = order_of(&rt, rt.alloc(), machine, &steps)?;
-        let wanted = [Entry::Poke(POKES[0]), Entry::Processor(0)];
-        assert_same!(rt; order.as_slice(), wanted.as_slice());
+        let others = [Entry::Poke(POKES[0]), Entry::Processor(0)];
+        has_order(&rt, machine, &steps, &others)?;
         let stopped = Status::Faulted(Fault::Breakpoint);
         assert_same!(rt; machine.status(0), Some(stopped));
         Ok(())
@@ -153,29 +178,30 @@ fn steps_have_an_order(rt: HostRuntime) -> Result<(), Fail> {
 /// Each request goes to the module and back by itself, in four steps.
 #[test]
 fn references_are_drained(rt: HostRuntime) -> Result<(), Fail> {
-    lend(adders(&rt, rt.alloc())?, |machine| {
+    on_adders(&rt, |machine| {
         machine.run(&ADDS[..2]);
         assert!(rt; !machine.is_idle());
         assert_same!(rt; machine.drain_step(), Some(Step::Up { stage: 0, wire: 0 }));
         assert_same!(rt; machine.drain(), 8);
         have_added(&rt, machine);
         assert_same!(rt; machine.drain(), 0);
-    });
-    Ok(())
+        Ok(())
+    })
 }
 
 #[test]
 fn instructions_are_whole(rt: HostRuntime) -> Result<(), Fail> {
-    lend(adders(&rt, rt.alloc())?, |machine| {
-        assert_same!(rt; result_of(machine.one(0)), Some(10));
-        assert_same!(rt; result_of(machine.one(1)), Some(11));
+    on_adders(&rt, |machine| {
+        for (p, wanted) in [(0, 10), (1, 11)] {
+            assert_same!(rt; result_of(machine.one(p)), Some(wanted), p);
+        }
         have_added(&rt, machine);
         let stop = Outcome::Stopped(Cause::Fault(Fault::Breakpoint));
-        assert_same!(rt; machine.one(1), stop);
-        assert_same!(rt; machine.one(1), Outcome::Stalled);
-        assert_same!(rt; machine.one(2), Outcome::Stalled);
-    });
-    Ok(())
+        for (p, wanted) in [(1, stop), (1, Outcome::Stalled), (2, Outcome::Stalled)] {
+            assert_same!(rt; machine.one(p), wanted, p);
+        }
+        Ok(())
+    })
 }
 
 /// Why a copy of the image of this machine, which has 1,024 shared words, is refused at this size, if it is.
@@ -189,13 +215,17 @@ fn machines_keep_their_image_and_size(rt: HostRuntime) -> Result<(), Fail> {
     lend(machine_of(rt.alloc(), TEXT, size(1))?, |machine| {
         assert_same!(rt; machine.config(), size(1));
         assert_same!(rt; machine.image().layout().code.len(), 8);
-        assert_same!(rt; refusal(rt.alloc(), machine, size(6))?, None);
-        assert_same!(rt; refusal(rt.alloc(), machine, size(7))?, Some(NewError::Config));
         let other = Config {
             shared_words: 8,
             ..size(1)
         };
-        assert_same!(rt; refusal(rt.alloc(), machine, other)?, Some(NewError::Config));
+        for (config, wanted) in [
+            (size(6), None),
+            (size(7), Some(NewError::Config)),
+            (other, Some(NewError::Config)),
+        ] {
+            assert_same!(rt; refusal(rt.alloc(), machine, config)?, wanted, config);
+        }
         Ok(())
     })
 }

@@ -3,15 +3,16 @@
 ghost use Rattle.std.specs.Prelude.{◌≡◌, ◌^◌};
 ghost use Rattle.machine_lock.specs.Passes.{IsWhole};
 
-use super::{log_of, size};
-use machine_lock::{Loan, LocalEnd, LockRefusal, Logged, NewTable, Pass, PassState, Run, Shared};
+use machine_lock::{
+    Loan, LocalEnd, LockRefusal, Logged, NewTable, Pass, PassEvent, PassState, Run, Shared,
+};
 use machine_steps::{Outcome, Step};
 use std::alloc::Global;
 use std::marker::Brand;
 use std::process::Abort;
 use std::sync::Wait;
 use std::test::Fail;
-use test_support::{assert_same, lend};
+use test_support::{assert_same, lend, log_of, size};
 
 /// Two local instructions, and one that adds 5 to shared word 0.
 const TEXT: &str = "lui x12, 0x80000\naddi x11, x0, 5\namoadd.w x10, x11, (x12)";
@@ -35,19 +36,13 @@ fn take_local<N: Run, R: Wait + Abort>(
 }
 
 /// Takes a reference: its turn, its service, and the turn that takes the reply.
-fn refer<N: Run, R: Wait + Abort>(
-    rt: &R,
-    shared: &Shared<N>,
-    pass: &mut Pass<N>,
-) -> Result<(), LockRefusal>
+fn refer<N: Run, R: Wait + Abort>(rt: &R, shared: &Shared<N>, pass: &mut Pass<N>)
     ensures { pass.new.processor ≡ pass.old.processor }
 {
-    assert_same!(rt; shared.turn(rt, pass)?, Outcome::Issued);
-    let served = Outcome::Served { leader: 0 };
-    assert_same!(rt; shared.net(rt, pass, Step::Serve(0))?, served);
+    assert_same!(rt; shared.turn(rt, pass), Ok(Outcome::Issued));
+    assert_same!(rt; shared.net(rt, pass, Step::Serve(0)), Ok(Outcome::Served { leader: 0 }));
     assert_same!(rt; shared.net(rt, pass, Step::Turn(0)), Err(LockRefusal::Unnamed));
-    assert!(rt; matches!(shared.turn(rt, pass)?, Outcome::Retired(_)));
-    Ok(())
+    assert!(rt; matches!(shared.turn(rt, pass), Ok(Outcome::Retired(_))));
 }
 
 /// Takes both local instructions and the reference.
@@ -60,7 +55,7 @@ fn take_all<N: Run, R: Wait + Abort>(
     ensures { pass.new.processor ≡ pass.old.processor }
 {
     take_local(rt, alloc, shared, pass)?;
-    refer(rt, shared, pass)?;
+    refer(rt, shared, pass);
     Ok(())
 }
 
@@ -80,19 +75,42 @@ fn take_all_first<N: Run, R: Wait + Abort>(
     take_all(rt, alloc, shared, &mut passes[0])
 }
 
-/// Checks that a pass has three retirements, at places 0, 1 and 4, and that its last answer was to the turn at place 4.
+/// The place of one of a pass's events.
+fn place_of(pass_events: &[PassEvent], number: usize) -> Option<u32> {
+    match pass_events.get(number) {
+        Some(pass_event) => Some(pass_event.place),
+        None => None,
+    }
+}
+
+/// Checks that a pass has three retirements, at places 0, 1 and 4.
+fn has_places(rt: &impl Abort, pass_events: &[PassEvent]) {
+    for (number, place) in [(0, Some(0)), (1, Some(1)), (2, Some(4)), (3, None)] {
+        assert_same!(rt; place_of(pass_events, number), place, number);
+    }
+}
+
+/// The place of the last answer to a pass, and the step that it answers.
+fn last_of<N: Run>(pass: &Pass<N>) -> Option<(u32, Step)> {
+    match pass.last() {
+        Some(answer) => Some((answer.place, answer.step)),
+        None => None,
+    }
+}
+
+/// Checks that a pass has retired, and that its last answer was to the turn at place 4.
 fn has_retired<N: Run>(rt: &impl Abort, pass: &Pass<N>) {
     assert_same!(rt; (pass.processor(), pass.steps(), pass.is_lent()), (0, 5, false));
-    assert_same!(rt; pass.pass_events().len(), 3);
-    for (pass_event, place) in pass.pass_events().iter().zip([0, 1, 4]) {
-        assert_same!(rt; pass_event.place, place);
-    }
-    match pass.last() {
-        Some(answer) => {
-            assert_same!(rt; answer.place, 4);
-            assert_same!(rt; answer.step, Step::Turn(0));
-        }
-        None => assert!(rt; false, "no answer"),
+    has_places(rt, pass.pass_events());
+    assert_same!(rt; last_of(pass), Some((4, Step::Turn(0))));
+}
+
+/// Checks the machine and the steps of the log, and its one pass.
+fn are_gathered<N: Run>(rt: &impl Abort, logged: &Logged, passes: &[Pass<N>]) {
+    assert_same!(rt; logged.machine().word(0), Some(5));
+    assert_same!(rt; (logged.steps().len(), passes.len()), (5, 1));
+    for pass in passes {
+        has_retired(rt, pass);
     }
 }
 
@@ -106,14 +124,10 @@ fn by_passes<N: Run, R: Wait + Abort>(
     requires { IsWhole N.count passes.items }
 {
     let taken = take_all_first(rt, alloc, &shared, &mut passes);
-    lend(shared.gather(passes), |(logged, passes)| {
-        assert_same!(rt; logged.machine().word(0), Some(5));
-        assert_same!(rt; logged.steps().len(), 5);
-        assert_same!(rt; passes.len(), 1);
-        for pass in passes.iter() {
-            has_retired(rt, pass);
-        }
-    });
+    lend(
+        shared.gather(passes),
+        |(logged, passes)| are_gathered(rt, logged, passes.as_slice()),
+    );
     taken
 }
 

@@ -1,6 +1,5 @@
 //! Replies, sweeps and sessions of small machines.
 
-use super::{log_of, machine_of, size};
 use arrayvec::ArrayVec;
 use debug_lines::Command;
 use debug_replies::{Error, Faults, error_of, is_running, named_stop, show, show_stop};
@@ -12,22 +11,27 @@ use std::alloc::Global;
 use std::process::Abort;
 use std::sync::Wait;
 use std::test::Fail;
-use test_support::{assert_same, lend};
+use test_support::{assert_same, lend, log_of, machine_of, size};
 
 /// Refers to the shared word at `a2`. At address 0 there is no memory.
 const TEXT: &str = "amoadd.w a0, a1, (a2)";
 
-/// What a command shows of a machine.
-fn shown(rt: &impl Abort, machine: &Machine, line: &[u8]) -> ArrayVec<u8, 1024> {
-    let mut text = ArrayVec::new();
-    assert!(rt; machine.are_home());
-    show(machine, &Command::read(line), &mut text);
-    text
+/// The error of a command to a machine, if it has one.
+fn refusal(machine: &Machine, line: &[u8]) -> Option<Error> {
+    error_of(machine, &Command::read(line))
 }
 
-/// The stop reply of a machine in which no processor has stopped since it opened: it names none.
-fn stop_of(rt: &impl Abort, machine: &Machine) -> ArrayVec<u8, 1024> {
-    let mut text = ArrayVec::new();
+/// Checks what a command shows of a machine.
+fn shows(rt: &impl Abort, machine: &Machine, line: &[u8], wanted: &[u8]) {
+    let mut text: ArrayVec<u8, 1024> = ArrayVec::new();
+    assert!(rt; machine.are_home());
+    show(machine, &Command::read(line), &mut text);
+    assert_same!(rt; text.as_slice(), wanted);
+}
+
+/// Checks the stop reply of a machine in which no processor has stopped since it opened: it names none.
+fn names_no_stop(rt: &impl Abort, machine: &Machine) {
+    let mut text: ArrayVec<u8, 1024> = ArrayVec::new();
     assert!(rt; machine.are_home());
     let before = Faults::of(machine);
     show_stop(
@@ -35,7 +39,7 @@ fn stop_of(rt: &impl Abort, machine: &Machine) -> ArrayVec<u8, 1024> {
         named_stop(machine, &Breaks::new(), &before),
         &mut text,
     );
-    text
+    assert_same!(rt; text.as_slice(), b"at -".as_slice());
 }
 
 /// Whether a processor runs.
@@ -47,11 +51,11 @@ fn runs(rt: &impl Abort, machine: &Machine, processor: u32) -> bool {
 #[test]
 fn replies_over_a_machine(rt: HostRuntime) -> Result<(), Fail> {
     lend(machine_of(rt.alloc(), TEXT, size(2))?, |machine| {
-        assert_same!(rt; error_of(machine, &Command::read(b"state 4")), Some(Error::Processor));
-        assert_same!(rt; error_of(machine, &Command::read(b"state 3")), None);
-        assert_same!(rt; shown(&rt, machine, b"mem 0 10000 4").as_slice(), b"2f25b600".as_slice());
-        assert_same!(rt; stop_of(&rt, machine).as_slice(), b"at -".as_slice());
-        assert!(rt; runs(&rt, machine, 3) && !runs(&rt, machine, 4));
+        let refusals = [refusal(machine, b"state 4"), refusal(machine, b"state 3")];
+        assert_same!(rt; refusals, [Some(Error::Processor), None]);
+        shows(&rt, machine, b"mem 0 10000 4", b"2f25b600");
+        names_no_stop(&rt, machine);
+        assert_same!(rt; [runs(&rt, machine, 3), runs(&rt, machine, 4)], [true, false]);
     });
     Ok(())
 }
@@ -81,20 +85,42 @@ fn sweeps_meet_breaks(rt: HostRuntime) -> Result<(), Fail> {
     Ok(())
 }
 
-/// A session of these lines on a new machine of four processors: how it ends, what it writes, and the exit status.
-fn session(rt: &impl Wait, alloc: Global, input: &[u8]) -> Result<(SessionEnd, Vec<u8>, u8), Fail> {
-    let mut log = log_of(alloc, TEXT, size(2))?;
+/// A session of these lines on a log: how it ends, what it writes, and the exit status.
+fn served(
+    rt: &impl Wait,
+    alloc: Global,
+    log: &mut Logged,
+    input: &[u8],
+) -> (SessionEnd, Vec<u8>, u8) {
     let mut writer = Meter::new(Vec::new(alloc));
     let end = serve(
         rt,
         &mut Meter::new(input),
         &mut writer,
-        &mut log,
+        log,
         &mut Sweep,
         1000,
     );
     let status = debug_end(end, log.machine(), &mut Vec::new(alloc));
-    Ok((end, writer.device, status))
+    (end, writer.device, status)
+}
+
+/// Checks a session of these lines on a new machine of four processors.
+fn session<R: Wait + Abort>(
+    rt: &R,
+    alloc: Global,
+    input: &[u8],
+    written: &[u8],
+    wanted: (SessionEnd, u8),
+) -> Result<(), Fail> {
+    let found = lend(log_of(alloc, TEXT, size(2))?, |log| {
+        served(rt, alloc, log, input)
+    });
+    lend(found, |(end, output, status)| {
+        assert_same!(rt; output.as_slice(), written);
+        assert_same!(rt; (*end, *status), wanted);
+    });
+    Ok(())
 }
 
 /// The status of a session that ends well depends on the machine; any other end has its own.
@@ -118,12 +144,9 @@ fn sessions_have_their_status(rt: HostRuntime) -> Result<(), Fail> {
 
 #[test]
 fn sessions_are_served(rt: HostRuntime) -> Result<(), Fail> {
+    let alloc = rt.alloc();
     let input = b"step 0\nstate 0\nstate 3\nstate 4\nquit\n";
-    let (end, output, status) = session(&rt, rt.alloc(), input)?;
-    assert_same!(rt; output.as_slice(), b"at 0\nfault 5\nrun\nE03\nok\n".as_slice());
-    assert_same!(rt; (end, status), (SessionEnd::Quit, 1));
-    let (end, output, status) = session(&rt, rt.alloc(), b"state 0")?;
-    assert_same!(rt; output.len(), 0);
-    assert_same!(rt; (end, status), (SessionEnd::EndOfInput, 0));
-    Ok(())
+    let written = b"at 0\nfault 5\nrun\nE03\nok\n";
+    session(&rt, alloc, input, written, (SessionEnd::Quit, 1))?;
+    session(&rt, alloc, b"state 0", b"", (SessionEnd::EndOfInput, 0))
 }

@@ -2,9 +2,8 @@
 
 ghost use Rattle.std.specs.Prelude.{◌≡◌, ◌^◌, IfOk, vec_len};
 
-use super::{log_of, size};
 use machine_lock::{Logged, NewTable, PassState, Run};
-use machine_steps::{Status, Step};
+use machine_steps::{Machine, Status, Step};
 use processor_threads::{Arbiter, Ended, Gate, Shuffled, run_threads};
 use std::alloc::Global;
 use std::marker::Brand;
@@ -13,7 +12,7 @@ use std::sync::Wait;
 use std::sync::atomic::{AtomicU64, Ordering};
 use std::test::Fail;
 use std::thread::Threads;
-use test_support::{assert_same, lend};
+use test_support::{assert_same, lend, log_of, size};
 
 /// Each processor adds 1 to shared word 0, writes `A` to the console, and halts with that byte.
 const TEXT: &str = "
@@ -57,15 +56,23 @@ fn arbiters(alloc: Global, logged: &Logged) -> Result<Vec<Shuffled>, Fail>
 
 /// Checks that the machine has the adds, and each console its byte.
 fn has_run<N: Run>(rt: &impl Abort, ended: &Ended<N>) {
-    assert_same!(rt; ended.fault, None);
+    assert_same!(rt; (ended.fault, ended.listener), (None, None));
     assert_same!(rt; ended.faults.as_slice(), [None, None].as_slice());
-    assert_same!(rt; ended.listener, None);
     assert_same!(rt; ended.passes.len(), 2);
-    assert_same!(rt; ended.consoles.len(), 2);
-    for bytes in &ended.consoles {
+    have_written(rt, ended.consoles.as_slice());
+    have_halted(rt, ended.logged.machine());
+}
+
+/// Checks that each of two consoles has its byte.
+fn have_written(rt: &impl Abort, consoles: &[Vec<u8>]) {
+    assert_same!(rt; consoles.len(), 2);
+    for bytes in consoles {
         assert_same!(rt; bytes.as_slice(), b"A".as_slice());
     }
-    let machine = ended.logged.machine();
+}
+
+/// Checks that the word has both adds, and that processor 1 has halted.
+fn have_halted(rt: &impl Abort, machine: &Machine) {
     assert_same!(rt; machine.word(0), Some(2));
     assert_same!(rt; machine.status(1), Some(Status::Halted(65)));
 }
@@ -97,12 +104,28 @@ fn go<N: Run + Send + Sync, R: Threads + Wait + Sync + Abort>(
     Ok(())
 }
 
+/// Runs a log on threads, with a new table.
+fn attempt<R: Threads + Wait + Sync + Abort>(
+    rt: &R,
+    alloc: Global,
+    logged: Logged,
+    arbiters: Vec<Shuffled>,
+) -> Result<(), Fail>
+    requires { vec_len arbiters ≡ 2 ^ logged.opening.config.k }
+{
+    match NewTable::new(alloc) {
+        Ok(room) => go::<Brand, R>(rt, alloc, room, logged, arbiters),
+        Err(error) => Err(Fail::from(error)),
+    }
+}
+
 /// Runs the program on two threads.
 fn run_two<R: Threads + Wait + Sync + Abort>(rt: &R, alloc: Global) -> Result<(), Fail> {
     let logged = log_of(alloc, TEXT, size(1))?;
-    let room = NewTable::new(alloc)?;
-    let arbiters = arbiters(alloc, &logged)?;
-    go::<Brand, R>(rt, alloc, room, logged, arbiters)
+    match arbiters(alloc, &logged) {
+        Ok(arbiters) => attempt(rt, alloc, logged, arbiters),
+        Err(fail) => Err(fail),
+    }
 }
 
 #[test]

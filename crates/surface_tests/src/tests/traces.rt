@@ -1,13 +1,12 @@
 //! The trace of a program that halts at its first instruction: it is written, read and replayed.
 
-use super::{machine_of, size};
 use elf_image::{Config, Meter};
 use machine_log::{StalledStep, replay};
 use machine_steps::{Status, Step};
 use std::alloc::Global;
 use std::process::Abort;
 use std::test::Fail;
-use test_support::{assert_same, lend};
+use test_support::{assert_same, lend, machine_of, size};
 use trace_file::{TraceError, is_trace, read_trace, write_trace};
 
 /// The header of a machine of one processor, and one turn.
@@ -24,15 +23,27 @@ fn written(rt: &impl Abort, alloc: Global, config: &Config, steps: &[Step]) -> V
     writer.device
 }
 
+/// Why these bytes are no trace, if they are none.
+fn refusal(alloc: Global, bytes: &[u8]) -> Option<TraceError> {
+    read_trace(alloc, &mut Meter::new(bytes)).err()
+}
+
 #[test]
 fn a_trace_is_written_and_read(rt: HostRuntime) -> Result<(), Fail> {
-    let bytes = written(&rt, rt.alloc(), &size(0), &[Step::Turn(0)]);
-    assert_same!(rt; bytes.as_slice(), TRACE.as_slice());
-    let trace = read_trace(rt.alloc(), &mut Meter::new(TRACE.as_slice()))?;
-    assert_same!(rt; trace.steps(), [Step::Turn(0)].as_slice());
-    assert_same!(rt; trace.config(1024), size(0));
-    let short = read_trace(rt.alloc(), &mut Meter::new(&TRACE[..23]));
-    assert_same!(rt; short.err(), Some(TraceError::Truncated));
+    lend(
+        written(&rt, rt.alloc(), &size(0), &[Step::Turn(0)]),
+        |bytes| {
+            assert_same!(rt; bytes.as_slice(), TRACE.as_slice());
+        },
+    );
+    assert_same!(rt; refusal(rt.alloc(), &TRACE[..23]), Some(TraceError::Truncated));
+    lend(
+        read_trace(rt.alloc(), &mut Meter::new(TRACE.as_slice()))?,
+        |trace| {
+            assert_same!(rt; trace.steps(), [Step::Turn(0)].as_slice());
+            assert_same!(rt; trace.config(1024), size(0));
+        },
+    );
     Ok(())
 }
 

@@ -1,5 +1,5 @@
 use Rattle.std.specs.Prelude.{◌^◌}
-use Rattle.surface_tests.proofs.tests.threads.run_two.Given as goal
+use Rattle.surface_tests.proofs.tests.threads.attempt.Given as goal
 
 -- the table that was just made, and the machine in the log
 abbrev pub ghosts-go-N-Naming : goal.ghosts-go-N-Naming

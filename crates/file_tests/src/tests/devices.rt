@@ -1,14 +1,7 @@
-//! What the devices do at their calls.
+//! What the devices of `test_support` do at their calls, and how it lends a value.
 
-use crate::{Broken, Deaf, Endless, Full, Sink, Source, assert_same, lend, prepared};
-use std::fmt::Debug;
 use std::io::{Read, Write};
-use std::process::Abort;
-
-/// Fails the test if the two differ, and prints them and their case ([`assert_same!`]).
-fn same<T: PartialEq + Debug, A: Debug>(rt: &impl Abort, found: &T, wanted: &T, at: &A) {
-    assert_eq!(rt; found, wanted, "{at:?}");
-}
+use test_support::{Broken, Deaf, Endless, Full, Sink, Source, assert_same, lend, prepared};
 
 #[test]
 fn gives_a_byte_at_a_call(rt: HostRuntime) {
