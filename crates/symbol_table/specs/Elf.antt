@@ -90,10 +90,11 @@ symbol_entries file table =
 abbrev pub is_listed : SymbolEntry → Bool
 is_listed entry = nat_le (entry.st_info % 16) 2 && nat_lt 0 entry.st_shndx && nat_lt entry.st_shndx 0xFF00
 
--- the string that begins at this place of a string table, up to the next zero byte, if there is one
+-- the string that begins at this place of a string table, up to the next zero byte, if there is one after at most 1,024
+-- bytes
 abbrev pub string_at : (strings : List ℕ) → (place : ℕ) → Option (List ℕ)
 string_at strings place =
-    option_map (λ end. take end (drop place strings)) (position (λ b. b == 0) (drop place strings))
+    option_map (λ end. take end (part_of strings place 1025)) (position (λ b. b == 0) (part_of strings place 1025))
 
 -- the row of an entry with a name among these strings
 unfoldable pub entry_row : (strings : List ℕ) → SymbolEntry → Option SymbolRow

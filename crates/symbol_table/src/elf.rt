@@ -8,7 +8,7 @@ ghost use Rattle.symbol_table.specs.Elf.{symbol_entries, symbol_entry, tables_of
 ghost use Rattle.symbol_table.specs.Parts.{part_of};
 ghost use Rattle.symbol_table.specs.Rows.{row_of};
 
-use crate::bytes::{half_at, part_of, position_of, rest_from, whole_count, word_at};
+use crate::bytes::{half_at, part_of, position_of, whole_count, word_at};
 use crate::row::{Symbol, keep, name_of};
 use std::alloc::{AllocError, Global};
 
@@ -32,6 +32,9 @@ const STT_FUNC: u8 = 2;
 
 /// The first index of a section that is none: `SHN_LORESERVE`.
 const SHN_LORESERVE: u16 = 0xFF00;
+
+/// The most bytes of a name that counts.
+const MAX_NAME_BYTES: usize = 1024;
 
 /// The fields of the ELF header that tell where the section headers are.
 #[derive(Clone, Copy, Debug, Drop)]
@@ -257,11 +260,12 @@ impl SymbolEntry {
     }
 }
 
-/// The string that begins at this place of a string table, if it ends there.
+/// The string that begins at this place of a string table, if it ends there and is not too long for a name. So many
+/// entries at one long string cost little.
 fn string_at(strings: &[u8], place: u32) -> Option<&[u8]>
     ensures { option_map (λ string. string.now) result ≡ string_at strings.now place }
 {
-    let rest = rest_from(strings, place as usize);
+    let rest = part_of(strings, place as usize, MAX_NAME_BYTES + 1);
     let end = position_of(rest, 0)?;
     Some(rest.split_at(end).0)
 }
