@@ -45,9 +45,10 @@ check 'with --symbols each address and each word that has a name gets it' names_
 
 # An image's own symbol table: that of a C program, by each compiler, and what nm prints of it.
 names_c() {
-    local compiler
+    local compiler compilers
+    mapfile -t compilers < <(compilers_of_c)
     [ -d "$room/c" ] || cp -r examples/c "$room/c" || return 1
-    for compiler in "$@"; do
+    for compiler in "${compilers[@]}"; do
         make -s -C "$room/c" clean && make -s -C "$room/c" "$compiler" queue.elf || return 1
         names run "$room/c/queue.elf" --sweep --k 2 --trace "$room/queue.trace" "$room/c/queue.elf" &&
             names order "$room/c/queue.elf" "$room/queue.trace" "$room/c/queue.elf" && names dis "$room/c/queue.elf" "$room/c/queue.elf" || return 1
@@ -74,7 +75,7 @@ names_what_is_whole() {
 if ! command -v make >/dev/null || [ -z "$(compilers_of_c)" ]; then
     left_out 'symbols of C programs, because make or a compiler for RISC-V is not installed'
 else
-    check 'with --symbols the symbol table of a C program gives the names' names_c $(compilers_of_c)
+    check 'with --symbols the symbol table of a C program gives the names' names_c
     then_check 'a symbol table that is cut off or damaged has fewer names' names_what_is_whole
 fi
 

@@ -45,7 +45,8 @@ upto_joins word [] = go (is_some (after word []))
     go false = tt
 upto_joins word (b ∷ text) = go (is_some (after word (b ∷ text))) (upto_joins word text)
   where
-    cons : (o : Option (List ℕ × List ℕ)) → IfSome o (λ x. text ≡ x.0 ++ x.1) → IfSome {T = List ℕ × List ℕ} (option_map (λ x. (b ∷ x.0, x.1)) o) (λ x. b ∷ text ≡ x.0 ++ x.1)
+    cons : (o : Option (List ℕ × List ℕ)) → IfSome o (λ x. text ≡ x.0 ++ x.1) →
+        IfSome {T = List ℕ × List ℕ} (option_map (λ x. (b ∷ x.0, x.1)) o) (λ x. b ∷ text ≡ x.0 ++ x.1)
     cons None more = tt
     cons (Some x) more = ap (λ t. b ∷ t) more
 

@@ -41,8 +41,8 @@ impl<'a> SymbolTable<'a> {
     /// the type, which is any letter, and the name, with single blanks between them. A number has 1 to 8 or 16 hex
     /// digits and is below 2^32. Each other line, as one of an undefined symbol, is skipped.
     ///
-    /// A name is printable ASCII without blanks, in an ELF file of at most 1,024 bytes. Mapping symbols (`$x`) and local
-    /// labels (`.L3`) do not count.
+    /// A name is printable ASCII without blanks, in an ELF file of at most 1,024 bytes. Mapping symbols (`$x`) and
+    /// local labels (`.L3`) do not count.
     ///
     /// # Errors
     ///

@@ -38,9 +38,7 @@ use machine_picture::Svg;
 use observed_results::ObservedWords;
 use processor_threads::{Gate, Open};
 use run_command::{Progress, run_command, threaded_run_command, unlogged_run_command};
-use settings::{
-    Explore, Hunt, Lines, Replay, Run, Session, Settings, Sizes, settings, status_of,
-};
+use settings::{Explore, Hunt, Lines, Replay, Run, Session, Settings, Sizes, settings, status_of};
 use std::alloc::{AllocError, Global};
 use std::env;
 use std::io::{self, ErrorKind, Input, IsTerminal, Read, Write};
@@ -93,14 +91,7 @@ fn carry_out_words<
     R: Files + Input + Net + Threads + Wait + Clock + Eprint + Print + Sync + AllocGlobal,
     W: Write + Drop,
     E: Write,
->(
-    rt: &R,
-    arguments: &[String],
-    terminal: bool,
-    reason: &Reason,
-    stdout: W,
-    err: &mut E,
-) -> u8 {
+>(rt: &R, arguments: &[String], terminal: bool, reason: &Reason, stdout: W, err: &mut E) -> u8 {
     let Ok(words) = texts(rt.alloc(), arguments) else {
         return report_fault(Fault::Memory, err);
     };
@@ -115,14 +106,7 @@ fn execute_in_format<
     R: Files + Input + Net + Threads + Wait + Clock + Eprint + Print + Sync + AllocGlobal,
     W: Write + Drop,
     E: Write,
->(
-    rt: &R,
-    settings: &Settings<'_>,
-    terminal: bool,
-    reason: &Reason,
-    stdout: W,
-    err: &mut E,
-) -> u8 {
+>(rt: &R, settings: &Settings<'_>, terminal: bool, reason: &Reason, stdout: W, err: &mut E) -> u8 {
     let bytes = match symbol_bytes(rt, settings, reason) {
         Ok(bytes) => bytes,
         Err(refusal) => return refusal.report_fault(err),

@@ -6,7 +6,8 @@ use std::alloc::Global;
 use std::io::{self, Write};
 use symbol_table::SymbolTable;
 
-/// A writer to which lines go in a format. If there is no memory for a line, a write fails. Lines as they are need none.
+/// A writer to which lines go in a format. If there is no memory for a line, a write fails. Lines as they are need
+/// none.
 #[derive(Drop)]
 pub(crate) struct Output<'a, W: Write> {
     lines: FormattedLines<Format<SymbolTable<'a>>, W>,
