@@ -37,7 +37,7 @@ impl<W: Write> Write for Output<'_, W> {
 
 /// How the lines of a command are to be printed.
 #[derive(Clone, Copy, Drop)]
-struct Asked {
+struct Style {
     /// As JSON.
     json: bool,
     /// With the ABI's names of registers, and with the targets of jumps and branches.
@@ -54,19 +54,19 @@ pub(crate) fn format_of<'a>(
     if prints_csv(settings) {
         return Format::Csv(shapes::counts());
     }
-    let Some(asked) = asked(settings) else {
+    let Some(style) = style_of(settings) else {
         return Format::Plain;
     };
-    if asked.json {
-        return Format::Json(asked.shapes);
+    if style.json {
+        return Format::Json(style.shapes);
     }
-    if symbols.is_none() && !asked.abi {
+    if symbols.is_none() && !style.abi {
         return Format::Plain;
     }
     Format::Named(Names {
-        shapes: asked.shapes,
+        shapes: style.shapes,
         places: symbols,
-        disassembly: asked.abi,
+        disassembly: style.abi,
     })
 }
 
@@ -79,7 +79,7 @@ fn prints_csv(settings: &Settings<'_>) -> bool {
 }
 
 /// How a command's lines are to be printed, if that can be chosen.
-fn asked(settings: &Settings<'_>) -> Option<Asked> {
+fn style_of(settings: &Settings<'_>) -> Option<Style> {
     let (shapes, json, abi) = match settings {
         Settings::Check(check) => (shapes::mistakes(), check.json, false),
         Settings::Dis(dis) => (shapes::listing(), false, dis.abi),
@@ -93,5 +93,5 @@ fn asked(settings: &Settings<'_>) -> Option<Asked> {
         Settings::Story(lines) => (shapes::story(), lines.json, false),
         _ => return None,
     };
-    Some(Asked { json, abi, shapes })
+    Some(Style { json, abi, shapes })
 }
