@@ -181,7 +181,11 @@ report_to_a_full_disk() {
 check 'a run reports a full disk for its report: link, status 3' ends_with_code 3 link "standard output: $no_space_left" report_to_a_full_disk
 
 refuses_a_trace_in_no_folder() {
-    ends_with_code 3 X5 "$room/none/example.trace: $no_such_file" ./ultra run --trace "$room/none/example.trace" "$room/example.elf"
+    ends_with_code 3 X5 "$room/none/example.trace: $no_such_file" ./ultra run --trace "$room/none/example.trace" "$room/example.elf" &&
+        printf 'done: jal x0, done\n' >"$room/done.s" && assembles_to "$room/done.s" "$room/done.elf" || return 1
+    # Before the run, which no budget would end soon, and before a hunt.
+    ends_with_code 3 X5 "$room/none/done.trace: $no_such_file" ./ultra run --budget 4000000000 --trace "$room/none/done.trace" "$room/done.elf" &&
+        ends_with_code 3 X5 "$room/none/done-: $no_such_file" ./ultra hunt --runs 1000000 --trace "$room/none/done-" "$room/done.elf"
 }
 check 'a run reports a missing folder for its trace: X5, status 3' refuses_a_trace_in_no_folder
 

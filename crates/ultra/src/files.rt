@@ -8,7 +8,7 @@ use crate::reports::{Explained, Reason};
 use command_io::{CreateAt, OnFirstWrite};
 use link::{Link, Meter};
 use settings::Replay;
-use std::io::{Input, Read};
+use std::io::{ErrorKind, Input, Read};
 use std::os::unix::fs::MetadataExt;
 use std::rt::Files;
 use std::{fs, io};
@@ -97,13 +97,35 @@ pub(crate) fn open_beside<'a, 'r, R: Files + Input>(
 pub(crate) fn open_beside_trace<'a, 'r, R: Files + Input>(
     rt: &R,
     path: &'a str,
-    trace: Option<&str>,
+    trace: Option<&'a str>,
     reason: &'r Reason,
 ) -> Result<Explained<'r, Source<R::File, R::Reader>>, Refusal<'a>> {
     if trace.is_some_and(|trace| trace == STANDARD) {
         return Err(Refusal::PrintedTrace);
     }
+    if let Some(trace) = trace {
+        look_for_folder(rt, trace)?;
+    }
     open_beside(rt, path, trace, reason)
+}
+
+/// Refuses a file that is to be written in a folder that is not there: the first write, after a run, would fail.
+pub(crate) fn look_for_folder<'a, R: Files>(rt: &R, path: &'a str) -> Result<(), Refusal<'a>> {
+    let Some((folder, _)) = path.rsplit_once('/') else {
+        return Ok(());
+    };
+    if folder.is_empty() {
+        return Ok(());
+    }
+    match fs::metadata(rt, folder) {
+        Err(error) if is_missing(error.kind()) => Err(Refusal::NoFolder(path, error)),
+        _ => Ok(()),
+    }
+}
+
+/// Whether an error says that a folder is not there.
+fn is_missing(kind: ErrorKind) -> bool {
+    kind == ErrorKind::NotFound || kind == ErrorKind::NotADirectory
 }
 
 /// A writer to OUT, which the first write opens. A write that fails leaves its error in `reason`.

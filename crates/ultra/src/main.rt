@@ -14,7 +14,8 @@ mod symbols;
 mod traces;
 
 use crate::files::{
-    STANDARD, open, open_beside, open_beside_trace, open_image, read_once, trace_to, writer_to,
+    STANDARD, look_for_folder, open, open_beside, open_beside_trace, open_image, read_once,
+    trace_to, writer_to,
 };
 use crate::loopback_port::LoopbackPort;
 use crate::output::{Output, format_of};
@@ -559,6 +560,9 @@ fn hunt_file<'a, R: Files + Input + Clock + Eprint + AllocGlobal, W: LinkWrite, 
     requires works { W.has_failed out.old ≡ false }
 {
     let words = words_of(rt.alloc(), hunt.observe, &hunt.sizes)?;
+    if let Some(prefix) = hunt.trace {
+        look_for_folder(rt, prefix)?;
+    }
     let mut file = Meter::new(open(rt, hunt.file, reason)?);
     let config = config_of(&hunt.sizes);
     let runs = Hunted {

@@ -4,12 +4,15 @@ use crate::reports::{Place, report_place};
 use crate::symbols::MAX_SYMBOL_BYTES;
 use command_io::{Fault, REFUSED, report_fault};
 use std::io::{self, Write};
+use trace_file::TraceError;
 
 /// Why a command does not begin.
 #[derive(Clone, Copy, Debug, Drop)]
 pub(crate) enum Refusal<'a> {
     /// The file at this path cannot be opened, with this error of the system.
     Closed(&'a str, io::Error),
+    /// A trace cannot be written at this path: its folder cannot be found, with this error of the system.
+    NoFolder(&'a str, io::Error),
     /// OUT is the same file as the one to read. Neither is opened.
     SameFile,
     /// A witness is asked for without a file for its trace, or the other way round.
@@ -38,6 +41,11 @@ impl Refusal<'_> {
         match self {
             Refusal::Closed(path, error) => {
                 let status = report_fault(Fault::Link, err);
+                report_place(Place::File(path), Some(error), err);
+                status
+            }
+            Refusal::NoFolder(path, error) => {
+                let status = report_fault(Fault::Trace(TraceError::Link), err);
                 report_place(Place::File(path), Some(error), err);
                 status
             }
