@@ -78,7 +78,7 @@ Usage: ultra <COMMAND>
 $ ultra --help
 DisplayHelp
   words    Run a program of hex words on one processor and print its registers
-  check    List every fault of a text, each with its line, column, word and what would be right
+  check    List every mistake of a text, each with its line, column, word and what would be right
 $ ultra words --help
 DisplayHelp
 Usage: ultra words <FILE>

@@ -16,7 +16,7 @@ DisplayHelp
 Usage: ultra check [OPTIONS] <FILE>
 $ ultra help check
 DisplayHelp
-List every fault of a text, each with its line, column, word and what would be right
+List every mistake of a text, each with its line, column, word and what would be right
 $ ultra check --help
 DisplayHelp
 Exit status: 0 the text has no fault, 1 it has faults, 2 a refused command line,\
