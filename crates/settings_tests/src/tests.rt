@@ -98,7 +98,7 @@ InvalidSubcommand
 error: unrecognized subcommand 'frob'
 $ ultra asm --help
 DisplayHelp
-Exit status: 0 done, 2 a fault of the text or of the command line,\
+Exit status: 0 done, 2 a mistake of the text or a refused command line,\
 $ ultra dis --help
 DisplayHelp
 --words <NUMBER>  Shared words of four bytes that the machine has, 1 to 262144 [default: 1024]

@@ -19,5 +19,5 @@ DisplayHelp
 List every mistake of a text, each with its line, column, word and what would be right
 $ ultra check --help
 DisplayHelp
-Exit status: 0 the text has no fault, 1 it has faults, 2 a refused command line,\
+Exit status: 0 the text has no mistake, 1 it has mistakes, 2 a refused command line,\
 ";

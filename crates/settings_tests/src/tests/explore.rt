@@ -53,7 +53,7 @@ DisplayHelp
 --every             Explore every k from 0 to 6,\
 $ ultra explore --help
 DisplayHelp
---witness <NUMBER>  Write the trace of a way to the result of this number,\
+--witness <NUMBER>  Write the trace of a path to the result of this number,\
 $ ultra explore --help
 DisplayHelp
 With --every the machines of 1, 2, 4, 8, 16, 32 and 64 processors are explored one after another,\
