@@ -86,6 +86,12 @@ expected_results() {
                 result_line 'halt 01' 'halt 02' <"$room/words" && result_line 'halt 02' 'halt 01' <"$room/words"
             done
             ;;
+        queue_lock) expected_results "$1" queue 1 ;;
+        queue_wrong) # the same, or the first place is taken before its item is there
+            expected_results "$1" queue 1
+            { word 0 2 && word 1 2 && word 2 1 && word 3 2; } | result_line 'halt 02' 'halt 00'
+            { word 0 2 && word 1 2 && word 2 2 && word 3 1; } | result_line 'halt 00' 'halt 01'
+            ;;
         own_number) numbered_halts "$n" <(word 0 "$n") ;;
         own_ticket) # either of two processors gets the first ticket
             numbered_halts "$n" <(word 0 "$n" && word 1 "$n")
@@ -99,7 +105,7 @@ expected_results() {
 expected_classes() {
     local last=$(((1 << $3) - 1)) first=0
     case $2 in
-        neighbours | own_number | peterson | peterson_wrong | queue) return ;;
+        neighbours | own_number | peterson | peterson_wrong | queue | queue_lock | queue_wrong) return ;;
         readers_writer | signal) first=1 ;;
     esac
     [ "$1" = each ] || [ "$first" -ge "$last" ] || echo "processors $first to $last can be exchanged"
@@ -283,6 +289,8 @@ each self_scheduled 2 0 2914
 each shares 1 0
 each readers_writer 2 0
 each queue 1 0
+each queue_lock 1 0
+each queue_wrong 1 0
 each own_number 2 0 16
 each own_ticket 1 0
 exchanged lost_adds 2 0 48
@@ -354,7 +362,7 @@ refuses_a_witness_of_every_size() {
     local options
     for options in '--witness 1' "--trace $room/witness" "--witness 1 --trace $room/witness" "--witness 0 --each --trace $room/witness"; do
         # shellcheck disable=SC2086 # the options are words
-        ends 2 'error: --every goes with neither --witness nor --trace' ./ultra explore --every $options "$room/counter.elf" &&
+        ends 2 'error: --every goes with none of --fair, --witness and --trace' ./ultra explore --every $options "$room/counter.elf" &&
             [ ! -e "$room/witness" ] || { echo "$options" && return 1; }
     done
 }
@@ -392,6 +400,76 @@ refuses_what_is_no_list() {
     done
 }
 check 'what is no list of the words of the machine is refused, with status 2' refuses_what_is_no_list
+
+# ---- results compared with those of a specification
+
+# compares STATUS MISSING NAME SPEC OPTION ..: `--against SPEC` prints those results of the list of --each whose lines without
+# pc are not among SPEC's, and ends with STATUS. There are MISSING.
+compares() {
+    local status=$1 missing=$2 name=$3 spec=$4 ended=0 number all others verb=are
+    shift 4
+    ./ultra asm "examples/$name.s" "$room/program.elf" && ./ultra asm "examples/$spec.s" "$room/spec.elf" || return 1
+    explores each "$@" "$room/spec.elf" >"$room/others"
+    explores each "$@" "$room/program.elf" >"$room/results"
+    ./ultra explore --against "$room/spec.elf" "$@" "$room/program.elf" >"$room/out" 2>"$room/err" || ended=$?
+    lines_of_results "$room/others" >"$room/known"
+    lines_of_results "$room/results" >"$room/lines"
+    all="$(wc -l <"$room/lines") observed result$([ "$(wc -l <"$room/lines")" = 1 ] || echo s)"
+    others=$(wc -l <"$room/known")
+    [ "$([ "$missing" = 0 ] && echo "${all%% *}" || echo "$missing")" != 1 ] || verb=is
+    {
+        grep -nvxFf "$room/known" "$room/lines" | cut -d : -f 1 | while read -r number; do
+            echo "result $number"
+            printed_result "$number" | tr '|' '\n'
+        done
+        if [ "$missing" = 0 ]; then
+            echo "all $all $verb among the $others of SPEC"
+        else
+            echo "$missing of $all $verb not among the $others of SPEC"
+        fi
+    } | diff - "$room/out" && diff /dev/null "$room/err" && diff <(echo "$status") <(echo "$ended") &&
+        diff <(echo "$missing") <(grep -c '^result ' "$room/out")
+}
+while read -r status missing name spec options; do
+    # shellcheck disable=SC2086 # the options are words
+    check "of examples/$name.s, explore --against $options prints the $missing results that examples/$spec.s does not have" \
+        compares "$status" "$missing" "$name" "$spec" $options
+done <<'END'
+0 0 explore/queue explore/queue_lock --k 1
+0 0 explore/queue_lock explore/queue --k 1
+1 2 explore/queue_wrong explore/queue_lock --k 1
+1 2 explore/queue_wrong explore/queue_lock --k 1 --observe 0
+0 0 explore/queue explore/queue_wrong --k 1
+0 0 explore/queue_wrong explore/queue_wrong --k 1
+1 2 explore/peterson_wrong explore/peterson --k 1
+1 1 explore/peterson_wrong explore/peterson --k 1 --observe 3
+0 0 explore/peterson_wrong explore/peterson --k 1 --observe 0-2
+0 0 explore/own_number explore/own_ticket --k 1 --observe 0
+1 1 explore/own_ticket explore/own_number --k 1 --observe 0
+1 23 explore/own_ticket explore/own_number --k 2 --observe 0
+1 1 explore/counter explore/lost_adds --k 1
+1 2 explore/barrier_early explore/barrier_one_round --k 1 --observe 5
+1 1 published/bounded_queue_wrong published/bounded_queue --k 1 --observe 4
+END
+
+# A comparison goes with no witness and not with every size. What is wrong with the specification is reported with its name.
+refuses_a_specification() {
+    local options
+    ./ultra asm examples/explore/lost_adds.s "$room/lost.elf" || return 1
+    for options in --every '--witness 1' "--trace $room/witness"; do
+        # shellcheck disable=SC2086 # the options are words
+        ends 2 'error: --against goes with none of --every, --fair, --witness and --trace' \
+            ./ultra explore --against "$room/lost.elf" $options "$room/counter.elf" && [ ! -e "$room/witness" ] || { echo "$options" && return 1; }
+    done
+    ends 2 'error: standard input is asked for twice' ./ultra explore --against - - &&
+        ends_with_code 3 link "$room/none.elf: $no_such_file" ./ultra explore --against "$room/none.elf" "$room/counter.elf" &&
+        ends_with_code 3 I9 "$room: $is_a_folder" ./ultra explore --against "$room" "$room/counter.elf" &&
+        head -c 51 "$room/counter.elf" >"$room/short.elf" &&
+        ends_with_code 2 I1 "$room/short.elf" ./ultra explore --against "$room/short.elf" "$room/counter.elf" &&
+        ends_with_code 4 states "$room/lost.elf" ./ultra explore --k 1 --states 12 --against "$room/lost.elf" "$room/ebreak.elf" &&
+        ends 4 'ultra: states' ./ultra explore --k 1 --states 12 --against "$room/ebreak.elf" "$room/lost.elf"
+}
+check 'a comparison with a witness or with every size is refused, and what is wrong with the other image is reported' refuses_a_specification
 
 # ---- every size
 
@@ -561,7 +639,7 @@ check 'on a terminal a line shows the progress of a search' shows_progress_of_a_
 
 # finds_what_another_search_finds TEXT OPTION ..: with these options `ultra explore` prints the same as
 # tests/tools/every_result.py, an independent search: the results in their order, the processors that can be exchanged,
-# the number of states, and whether schedules end; or a line for each size. The faults and the status are the same too.
+# the number of states, and whether schedules, or fair ones, end; or a line for each size. The faults and the status are the same too.
 finds_what_another_search_finds() {
     local text=$1 ended=0 status=0
     shift
@@ -600,6 +678,14 @@ readers_writer --k 2 --each
 queue --k 2 --each
 own_number --k 2 --each
 own_ticket --k 2 --each
+lost_adds --k 2 --fair
+barrier --k 1 --fair
+barrier_stuck --k 1 --fair
+signal --k 2 --fair
+peterson --k 1 --fair
+swap_lock --k 2 --fair
+ticket_lock --k 2 --fair
+readers_writer --k 2 --fair
 lost_adds --k 2
 lost_adds --k 3
 counter --k 5

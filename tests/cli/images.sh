@@ -61,7 +61,7 @@ agrees_with_asm() {
         ./ultra check "$text" >"$room/out"
         grep -qE "^line ${BASH_REMATCH[2]} column [0-9]+: ${BASH_REMATCH[1]}[ :]" "$room/out" || { echo "$text"; return 1; }
     done
-    for text in examples/*.s examples/algorithms/*.s examples/algorithms/wrong/*.s examples/explore/*.s; do
+    for text in examples/*.s examples/algorithms/*.s examples/algorithms/wrong/*.s examples/{explore,published}/*.s; do
         echo 'no faults' | diff - <(./ultra check "$text" 2>&1) || { echo "$text"; return 1; }
     done
 }
@@ -146,6 +146,15 @@ refuses_a_cut_image() {
     ends_with_code 2 I1 "$room/cut.elf" ./ultra dis "$room/cut.elf"
 }
 check 'dis refuses an image that is cut off: I1, status 2' refuses_a_cut_image
+
+# A text where an image is wanted: what makes it one is said.
+refuses_a_text() {
+    local text=examples/algorithms/barrier.s
+    ends_with_code 2 I2 "$text: a text, which \`ultra asm $text OUT\` makes an image" ./ultra run "$text" &&
+        printf 'ebreak\n' >"$room/short.s" &&
+        ends_with_code 2 I1 "$room/short.s: a text, which \`ultra asm $room/short.s OUT\` makes an image" ./ultra explore "$room/short.s"
+}
+check 'run and explore of a text say what makes it an image: I2, I1, status 2' refuses_a_text
 
 # An image with more shared words than the machine has.
 reads_for_its_words() {

@@ -29,7 +29,12 @@ prints_objects_for_lines() {
     for name in lost_adds barrier_once barrier_stuck signal; do
         ./ultra asm "examples/explore/$name.s" "$room/$name.elf" && prints_both explore --k 1 "$room/$name.elf" || return 1
     done
-    prints_both explore --every --states 40 "$room/barrier_once.elf" || return 1
+    prints_both explore --every --states 40 "$room/barrier_once.elf" &&
+        prints_both explore --fair --k 1 "$room/barrier_once.elf" &&
+        prints_both explore --k 1 --against "$room/counter.elf" "$room/lost_adds.elf" &&
+        prints_both explore --k 0 --against "$room/counter.elf" "$room/lost_adds.elf" &&
+        prints_both explore --k 1 --observe 1 --against "$room/counter.elf" "$room/lost_adds.elf" &&
+        prints_both explore --k 1 --against "$room/lost_adds.elf" "$room/lost_adds.elf" || return 1
     for name in example hot_spot prefix_sums ebreak; do
         prints_both run --sweep --k 1 --trace "$room/$name.trace" "$room/$name.elf" || return 1
     done
@@ -38,6 +43,8 @@ prints_objects_for_lines() {
         for command in replay order story stats; do
             prints_both "$command" "$room/$name.trace" "$room/$name.elf" || return 1
         done
+        prints_both stats --latency "$room/$name.trace" "$room/$name.elf" || return 1
+        prints_both story --rounds "$room/$name.trace" "$room/$name.elf" || return 1
     done
     prints_both hunt --k 1 --runs 40 --budget 20000 "$room/barrier_phase_late.elf" && prints_both hunt --k 1 --runs 3 "$room/ebreak.elf" &&
         prints_both check examples/broken/several.s && prints_both check examples/broken/register.s && prints_both check "$room/three.s" || return 1
@@ -58,7 +65,7 @@ refuses_two_forms() {
     local words
     while read -r words; do
         # shellcheck disable=SC2086 # the options are words
-        ends 2 'error: --json goes with none of --symbols, --abi and --csv' ./ultra $words --json "$room/none" || { echo "$words" && return 1; }
+        ends 2 'error: --json goes with none of --symbols, --abi, --decimal and --csv' ./ultra $words --json "$room/none" || { echo "$words" && return 1; }
     done <<'WORDS'
 run --symbols none
 hunt --symbols none
@@ -66,8 +73,10 @@ explore --symbols none
 replay --symbols none none
 order --symbols none none
 order --abi none
+order --decimal none
+explore --decimal
 story --symbols none none
 stats --csv none
 WORDS
 }
-check '--json is refused with --symbols, --abi and --csv, with status 2' refuses_two_forms
+check '--json is refused with --symbols, --abi, --decimal and --csv, with status 2' refuses_two_forms

@@ -122,6 +122,37 @@ refuses_symbols() {
 }
 check 'symbols that cannot be read are refused: link, status 3, and their options go with no other format' refuses_symbols
 
+# The labels of a text by address, worked out by hand. Other commands read them as symbols. The image is as without them.
+label_lines() {
+    printf '%s\n' '00010000 00000004 t start' '00010004 00000008 t loop' '0001000c 00000000 t end' '0001000c 00000004 t stop' '80000000 00000004 d count'
+}
+writes_labels() {
+    printf '%s\n' 'start: addi a0, x0, 5' 'loop: addi a0, a0, -1' 'bne a0, x0, loop' 'end:' 'stop: ecall' .shared 'count: .word 7' >"$room/labels.s"
+    assembles_to "$room/labels.s" "$room/labels.elf" && ./ultra asm --symbols "$room/labels.map" "$room/labels.s" "$room/mapped.elf" &&
+        cmp "$room/labels.elf" "$room/mapped.elf" && diff <(label_lines) "$room/labels.map" &&
+        names dis "$room/labels.map" "$room/labels.elf" && grep -q '^0001000c <stop> ' "$room/named" || return 1
+    ./ultra asm --symbols - "$room/labels.s" "$room/mapped.elf" | diff <(label_lines) - &&
+        ./ultra asm --course --symbols "$room/course.map" - - <"$room/labels.s" | cmp "$room/labels.elf" - && diff <(label_lines) "$room/course.map" &&
+        ./ultra asm --symbols "$room/course.map" "$room/ebreak.s" "$room/mapped.elf" && diff /dev/null "$room/course.map"
+}
+check 'with --symbols asm writes the labels of a text, and other commands read them' writes_labels
+
+# Neither FILE nor OUT is overwritten. A text with a mistake leaves MAP, and a MAP that cannot be written leaves the image.
+refuses_a_map() {
+    local map line='error: MAP is the same file as FILE or OUT'
+    printf 'start: ecall\n' >"$room/start.s" && printf frob >"$room/frob.s" && assembles_to "$room/start.s" "$room/start.elf" || return 1
+    for map in start.s start.elf ../"$(basename "$room")"/start.s; do
+        ends 2 "$line" ./ultra asm --symbols "$room/$map" "$room/start.s" "$room/start.elf" || return 1
+    done
+    ends 2 "$line" ./ultra asm --symbols "$room/new.elf" "$room/start.s" "$room/new.elf" && [ ! -e "$room/new.elf" ] &&
+        ends 2 "$line" ./ultra asm --symbols - "$room/start.s" - && diff <(echo 'start: ecall') "$room/start.s" || return 1
+    ends_with_code 2 'A1 line 1' "$room/frob.s" ./ultra asm --symbols "$room/frob.map" "$room/frob.s" "$room/frob.elf" && [ ! -e "$room/frob.map" ] &&
+        ends_with_code 3 link "/dev/full: $no_space_left" ./ultra asm --symbols /dev/full "$room/start.s" "$room/full.elf" &&
+        ends_with_code 3 link "$room/none/a.map: $no_such_file" ./ultra asm --symbols "$room/none/a.map" "$room/start.s" "$room/none.elf" &&
+        cmp "$room/start.elf" "$room/full.elf" && cmp "$room/start.elf" "$room/none.elf"
+}
+check 'asm refuses a MAP that is FILE or OUT, and reports one that cannot be written: link, status 3' refuses_a_map
+
 # Standard input as symbols.
 reads_symbols() {
     symbol_lines >"$room/symbols"
@@ -135,7 +166,11 @@ prints_csv() {
     local name
     for name in example hot_spot prefix_sums ebreak; do
         ./ultra run --sweep --k 3 --trace "$room/$name.trace" "$room/$name.elf" >"$room/out" 2>&1
-        ./ultra stats "$room/$name.trace" "$room/$name.elf" | tests/tools/counts.py | diff - <(./ultra stats --csv "$room/$name.trace" "$room/$name.elf") || return 1
+        # The status is 1 if a fault has stopped a processor.
+        ./ultra stats --latency "$room/$name.trace" "$room/$name.elf" >"$room/counts" || [ $? -eq 1 ] || return 1
+        tests/tools/counts.py <"$room/counts" |
+            diff - <(./ultra stats --latency --csv "$room/$name.trace" "$room/$name.elf") || return 1
+        grep -v '^latency' "$room/counts" | diff - <(./ultra stats "$room/$name.trace" "$room/$name.elf") || return 1
     done
     diff <(printf '%s\n' subject,number,count,value machine,,k,0 machine,,c,4 machine,,b,4 machine,,r,1) \
         <(./ultra run --sweep --k 0 --trace "$room/three.trace" "$room/three.elf" >"$room/out" && ./ultra stats --csv "$room/three.trace" "$room/three.elf" | head -n 5)

@@ -8,7 +8,12 @@ rows.writerow(["subject", "number", "count", "value"])
 for line in sys.stdin:
     words = line.split()
     subject, number = words[0], ""
-    if subject in ("stage", "module", "processor"):
+    items = "rounds" if subject == "latency" else "groups"
+    if subject == "latency":
+        if words[1] != "all":
+            subject, number = words[1:3]
+        words = [word for word in words[2 if words[1] == "all" else 3:] if word != "rounds"]
+    elif subject in ("stage", "module", "processor"):
         number = words[1]
         words = words[2:]
     elif subject == "machine":
@@ -16,7 +21,7 @@ for line in sys.stdin:
     while words:
         if "x" in words[0]:
             size, count = words.pop(0).split("x")
-            rows.writerow([subject, number, f"groups of {size}", count])
+            rows.writerow([subject, number, f"{items} of {size}", count])
         else:
             rows.writerow([subject, number, *words[:2]])
             words = words[2:]

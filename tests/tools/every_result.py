@@ -1,16 +1,17 @@
 #!/usr/bin/env python3
 """What `ultra explore` prints for a text, found by an independent search.
 
-    every_result.py TEXT STAGES [--each] [--states N]    as `ultra explore --k STAGES`
-    every_result.py TEXT --every [--each] [--states N]   as `ultra explore --every`
+    every_result.py TEXT STAGES [--each] [--fair] [--states N]   as `ultra explore --k STAGES`
+    every_result.py TEXT --every [--each] [--states N]           as `ultra explore --every`
 
-It knows the instructions of examples/explore, reads the text and not the image, and shares nothing with the simulator. A state is
-each processor at its next reference to a shared word, with the registers that it may still read, or stopped, or found to spin, and
-the shared words. The search does not go on from a state in which a processor spins.
+It knows the instructions of examples/explore and examples/published, reads the text and not the image, and shares nothing with the
+simulator. A state is each processor at its next reference to a shared word, with the registers that it may still read, or stopped,
+or found to spin, and the shared words. The search does not go on from a state in which a processor spins.
 
 Processors that are in the same state at their first reference are of one class, and can be exchanged, unless a processor asks for its
 own number later. States that differ by an exchange are one: it has the processors of a class in the order in which their states
-were found. With --each every processor is a class of its own.
+were found. With --each every processor is a class of its own, and also with --fair. A fair schedule need not end if a processor spins,
+or if in some strongly connected component each processor that runs has a move.
 
 It prints faults as `ultra` does, and ends with the same status.
 """
@@ -276,12 +277,12 @@ class Search:
                 yield p
 
     def find(self, first, limit):
-        self.states, self.moves = [(first, ())], []
+        self.states, self.moves, self.moved_by = [(first, ())], [], []
         places = {self.states[0]: 0}
         for state in self.states:
             # The search does not go on from a state in which a processor spins: it leads to itself.
             spins = not self.spinners.isdisjoint(state[0])
-            targets = {places[state]: True} if spins else {}
+            targets, moved_by = {places[state]: True} if spins else {}, {}
             for p in () if spins else self.movers(state[0]):
                 then = self.moved(state, p)
                 if then is None:
@@ -290,7 +291,9 @@ class Search:
                     places[then] = len(self.states)
                     self.states.append(then)
                 targets[places[then]] = True
+                moved_by[p] = places[then]
             self.moves.append(list(targets))
+            self.moved_by.append(moved_by)
             if len(self.states) >= limit:
                 raise GivenUp('states')
 
@@ -315,6 +318,19 @@ class Search:
             return 'some schedule never ends; an end can always be reached', False
         return 'from ' + counted(stuck, 'state') + ' no end can be reached', True
 
+    def fairness(self):
+        """The verdict on fair schedules, of a search without exchanges."""
+        of = components(self.moves)
+        stays = {}
+        for at, moved_by in enumerate(self.moved_by):
+            movers = stays.setdefault(of[at], set())
+            movers.update(p for p, target in moved_by.items() if of[target] == of[at])
+        for at, moved_by in enumerate(self.moved_by):
+            spins = not self.spinners.isdisjoint(self.states[at][0])
+            if spins or moved_by and stays[of[at]].issuperset(moved_by):
+                return 'some fair schedule may never end'
+        return 'every fair schedule ends'
+
     def spread(self, ready):
         """The number of states of which something holds: of each that is `ready`, given those of which it holds already. It is found
         backwards, from the states without successors."""
@@ -329,6 +345,41 @@ class Search:
                 held.add(at)
                 front += before[at]
         return len(held)
+
+
+def components(moves):
+    """The strongly connected component of each state, by Tarjan's algorithm."""
+    number, low, of, path, on_path = {}, {}, {}, [], set()
+    for root in range(len(moves)):
+        if root in number:
+            continue
+        work = [(root, iter(moves[root]))]
+        number[root] = low[root] = len(number)
+        path.append(root)
+        on_path.add(root)
+        while work:
+            at, targets = work[-1]
+            for target in targets:
+                if target not in number:
+                    number[target] = low[target] = len(number)
+                    path.append(target)
+                    on_path.add(target)
+                    work.append((target, iter(moves[target])))
+                    break
+                if target in on_path:
+                    low[at] = min(low[at], number[target])
+            else:
+                work.pop()
+                if work:
+                    low[work[-1][0]] = min(low[work[-1][0]], low[at])
+                if low[at] == number[at]:
+                    while True:
+                        state = path.pop()
+                        on_path.remove(state)
+                        of[state] = at
+                        if state == at:
+                            break
+    return of
 
 
 def rank_of(end):
@@ -375,7 +426,7 @@ def exit_status(results, is_stuck):
     return int(faulted or is_stuck)
 
 
-def print_results(search):
+def print_results(search, is_fair):
     """Prints all results of a size, and returns the exit status."""
     results, (schedules, is_stuck) = search.results(), search.ways_on()
     for at, (processors, words) in enumerate(results, 1):
@@ -390,6 +441,8 @@ def print_results(search):
             print(f'processors {runs_of(own)} can be exchanged')
     print(counted(len(results), 'result') + ', ' + counted(len(search.states), 'state'))
     print(schedules)
+    if is_fair:
+        print(search.fairness())
     return exit_status(results, is_stuck)
 
 
@@ -414,6 +467,7 @@ def main():
     words.add_argument('text')
     words.add_argument('stages', type=int, nargs='?', default=2)
     words.add_argument('--each', action='store_true')
+    words.add_argument('--fair', action='store_true')
     words.add_argument('--every', action='store_true')
     words.add_argument('--states', type=int, default=1_000_000)
     asked = words.parse_args()
@@ -421,7 +475,7 @@ def main():
     if asked.every:
         return max([print_size(text, k, asked.each, asked.states) for k in range(7)])
     try:
-        return print_results(searched(text, 1 << asked.stages, asked.each, asked.states))
+        return print_results(searched(text, 1 << asked.stages, asked.each or asked.fair, asked.states), asked.fair)
     except GivenUp as why:
         print(f'ultra: {why}', file=sys.stderr)
         return 4

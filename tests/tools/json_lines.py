@@ -13,7 +13,7 @@ SCHEMA = json.loads((pathlib.Path(__file__).resolve().parents[2] / "docs/ultra.s
 
 # ---- the schema: what it uses of JSON Schema
 
-TYPES = {"object": dict, "array": list, "string": str, "integer": int, "null": type(None)}
+TYPES = {"object": dict, "array": list, "string": str, "integer": int, "number": (int, float), "null": type(None)}
 WORDS = {"$schema", "$defs", "title", "description"}
 
 
@@ -114,21 +114,33 @@ def size(it):
     return start + ", ".join([count(it["results"], "result"), count(it["states"], "state"), verdict(it), status(it)])
 
 
+def comparison(it):
+    verb = "is" if it.get("missing", it["results"]) == 1 else "are"
+    start, among = (f"{it['missing']} of", "not among") if "missing" in it else ("all", "among")
+    return f"{start} {count(it['results'], 'observed result')} {verb} {among} the {it['specification']} of SPEC"
+
+
 def pairs(it):
     """`NAME NUMBER` for each member."""
     return " ".join(f"{name} {number}" for name, number in it.items() if name != "kind")
 
 
+def latency(it):
+    subject = part(it, "processor {}", "processor") + part(it, "word {}", "word") or "all"
+    line = "references {references} least {least} mean {mean:.2f} greatest {greatest} rounds".format(**it)
+    return f"latency {subject} {line}" + "".join(f" {low}x{all}" for low, all in it["rounds"])
+
+
 def step(it):
     place = {"turn": "{processor}", "up": "{stage} {wire}", "down": "{stage} {wire}", "serve": "{module}", "poke": ""}[it["step"]]
     outcome = {
-        "sends": lambda: "sends",
+        "sends": lambda: "sends {function} to word {word}".format(**it),
         "retires": lambda: f"retires {event(it)}",
         "stops": lambda: f"stops {status(it)}",
         "moves": lambda: f"moves to depth {it['depth']}",
-        "joins": lambda: f"{it['second']} joins {it['leader']} at stage {it['at_stage']}",
-        "serves": lambda: f"serves {it['served']}: {' '.join(map(str, it['processors']))}",
-        "answers": lambda: f"answers {' '.join(map(str, it['leaders']))} at stage {it['at_stage']}",
+        "joins": lambda: "{second} joins {leader} at stage {at_stage}: {goes_on} goes on, {kept} is kept".format(**it),
+        "serves": lambda: f"serves {it['served']}: {' '.join(map(str, it['processors']))}: word {it['word']} {it['before']:08x} to {it['after']:08x}",
+        "answers": lambda: f"answers {' '.join(map(str, it['leaders']))} at stage {it['at_stage']}:" + "".join(f" {v:08x}" for v in it["values"]),
         "writes": lambda: "writes",
     }[it["outcome"]]()
     words = f"{owner(it)} {poked(it)}" if it["step"] == "poke" else place.format(**it)
@@ -144,12 +156,16 @@ PLAIN = {
     "exchange": lambda it: "processors {processors} can be exchanged".format(**it),
     "results": lambda it: f"{count(it['results'], 'result')}, {count(it['states'], 'state')}",
     "schedules": verdict,
+    "fairness": lambda it: {"always": "every fair schedule ends", "unknown": "some fair schedule may never end"}[it["end"]],
+    "comparison": comparison,
     "size": size,
     "machine": lambda it: "machine " + pairs(it),
     "steps": pairs,
     "stage": pairs,
     "module": lambda it: "module {module} serves {serves}".format(**it) + "".join(f" {one}x{all}" for one, all in it.get("groups", ())),
     "turns": pairs,
+    "latency": latency,
+    "round": pairs,
     "step": step,
     "entry": lambda it: f"{it['number']} {it['processor']} {it['address']:08x} {event(it)}{reference(it)}",
     "poke": lambda it: f"{it['number']} {owner(it)} poke {poked(it)}{reference(it)}",

@@ -36,8 +36,9 @@ module, goes = {}, [0] * len(lines)
 for number in reversed(range(len(lines))):
     step = lines[number]
     if step[1] == "serve":
-        module.update((int(it), int(step[2].strip(":"))) for it in step[5:])
-    elif step[3:] == ["sends"]:
+        last = next(at for at in range(5, len(step)) if step[at].endswith(":"))
+        module.update((int(it.strip(":")), int(step[2].strip(":"))) for it in step[5:last + 1])
+    elif step[3] == "sends":
         goes[number] = module[int(step[2].strip(":"))]
 
 requests, replies, records = defaultdict(list), defaultdict(list), defaultdict(list)

@@ -105,7 +105,8 @@ def named_result(rows, _, line):
 
 
 def named_step(rows, _, line):
-    """A line of a story: a write from outside to a byte has an address."""
+    """A line of a story: a write from outside to a byte has an address, and a request and a service have a word."""
+    line = re.sub(rf"(?<= to word )([0-9]+)$|(?<=: word )([0-9]+)(?= {HEX} to {HEX}$)", lambda it: after_word(rows, it[1] or it[2]), line)
     return re.sub(rf"( poke \S+ )({HEX})(?= [0-9a-f]{{2}}: writes$)", lambda it: it[1] + after_address(rows, it[2]), line)
 
 

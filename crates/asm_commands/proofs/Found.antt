@@ -14,14 +14,15 @@ use Rattle.assembler.specs.Meaning.{Labels, Place, Piece, start, address, after,
 use Rattle.assembler.specs.Passes.{nows}
 use Rattle.asm_commands.specs.declared.text_fault.TextFault.{TextFault}
 use Rattle.line_faults.specs.declared.cursor.Cursor.{Cursor}
-use Rattle.line_faults.specs.declared.hint.Hint.{Hint}
-use Rattle.line_faults.specs.Advice.{advice_of}
+use Rattle.line_faults.specs.word_faults.declared.hint.Hint.{Hint}
+use Rattle.line_faults.specs.word_faults.Advice.{advice_of}
 use Rattle.line_faults.specs.AdviceAtFault.{IsAdvised}
 use Rattle.line_faults.specs.Places.{place_of}
-use Rattle.line_faults.specs.Spans.{Span, StandsIn}
+use Rattle.line_faults.specs.word_faults.Spans.{Span, StandsIn}
 use Rattle.line_faults.specs.WordAtFault.{word_at_fault}
 use Rattle.asm_commands.specs.Faults.{error_of, error_at, errors_from, IsAt, IsNamed, IsInPlace, place_after, AreFaultsOf, AreTheFaults}
 
+-- The lines from the ith on are that line and those after it.
 pub at_item : (lines : List (Bor (List ℕ))) (i : ℕ) (d : Bor (List ℕ)) → i < length lines →
     nows (drop i lines) ≡ (get_or lines i d).now ∷ nows (drop (i + 1) lines)
 at_item lines i d lt = rw (add-one, drop-cons lines i d lt) refl

@@ -1,3 +1,5 @@
 pub mod FaultLines
 pub mod Found
 pub mod Present
+pub mod Courses
+pub mod SymbolMaps

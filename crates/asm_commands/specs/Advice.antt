@@ -4,16 +4,17 @@ use Rattle.std.specs.Fmt.{decimal, signed_decimal}
 use Rattle.command_io.specs.Digits.{hex_of_word}
 use Rattle.asm_lines.specs.declared.statement.Section.{Section}
 use Rattle.asm_lines.specs.declared.statement.Section.TheVariants.{Code, Local, Shared}
-use Rattle.line_faults.specs.declared.hint.Hint.{Hint}
-use Rattle.line_faults.specs.declared.hint.Hint.TheVariants.{NoWord, NearWord, Instead, NotNeeded, LabelName, Colon}
-use Rattle.line_faults.specs.declared.hint.Hint.TheVariants.{Operands, Comma, NoOperand}
-use Rattle.line_faults.specs.declared.hint.Hint.TheVariants.{Wants, Bracket, OutOfRange, UpperBits, OutsideCode}
-use Rattle.line_faults.specs.declared.hint.Hint.TheVariants.{Unaligned, Odd, Far, StandsOn}
-use Rattle.line_faults.specs.declared.hint.Hint.TheVariants.{NearLabel, Full}
-use Rattle.line_faults.specs.declared.shape.Wanted.{Wanted}
-use Rattle.line_faults.specs.declared.shape.Wanted.TheVariants.{Register, Lower, Upper, Shift, Fence, Branch, Jump}
-use Rattle.line_faults.specs.declared.shape.Wanted.TheVariants.{Address, Base, Word, Byte, Count}
-use Rattle.line_faults.specs.Wants.{range_of}
+use Rattle.line_faults.specs.word_faults.declared.hint.Hint.{Hint}
+use Rattle.line_faults.specs.word_faults.declared.hint.Hint.TheVariants.{NoWord, NearWord, Instead, NotNeeded}
+use Rattle.line_faults.specs.word_faults.declared.hint.Hint.TheVariants.{LabelName, Colon, Operands, Comma, NoOperand}
+use Rattle.line_faults.specs.word_faults.declared.hint.Hint.TheVariants.{Wants, Bracket, OutOfRange, UpperBits}
+use Rattle.line_faults.specs.word_faults.declared.hint.Hint.TheVariants.{OutsideCode, Unaligned, Odd, Far, StandsOn}
+use Rattle.line_faults.specs.word_faults.declared.hint.Hint.TheVariants.{NearLabel, Full}
+use Rattle.line_faults.specs.word_faults.declared.shape.Wanted.{Wanted}
+use Rattle.line_faults.specs.word_faults.declared.shape.Wanted.TheVariants.{Register, Lower, Upper, Shift}
+use Rattle.line_faults.specs.word_faults.declared.shape.Wanted.TheVariants.{Fence, Branch, Jump, Address, Base}
+use Rattle.line_faults.specs.word_faults.declared.shape.Wanted.TheVariants.{Word, Byte, Count}
+use Rattle.line_faults.specs.word_faults.Wants.{range_of}
 use Rattle.asm_commands.specs.Words.{shown}
 
 -- ` from LEAST to MOST`

@@ -6,7 +6,7 @@ use Rattle.assembler.specs.declared.fault.AsmFault.{AsmFault}
 use Rattle.assembler.specs.declared.fault.AsmError.{AsmError}
 use Rattle.assembler.specs.Meaning.{Labels, Place, Piece, start, address, after, lines_of, labels_of, pieces_of}
 use Rattle.line_faults.specs.Faults.{fault_in}
-use Rattle.line_faults.specs.Advice.{advice_of}
+use Rattle.line_faults.specs.word_faults.Advice.{advice_of}
 use Rattle.line_faults.specs.AdviceAtFault.{IsAdvised}
 use Rattle.line_faults.specs.WordAtFault.{word_at_fault}
 use Rattle.asm_commands.specs.declared.text_fault.TextFault.{TextFault}

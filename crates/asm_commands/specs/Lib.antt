@@ -6,3 +6,6 @@ pub mod Checking
 pub mod CodeLines
 pub mod Disassembling
 pub mod Faults
+pub mod Courses
+pub mod CourseViews
+pub mod SymbolMaps

@@ -2,8 +2,8 @@
 
 ghost use Rattle.std.specs.Prelude.{◌≡◌, ◌++◌, IfOk, OnOk, codes, string_bytes};
 ghost use Rattle.std.specs.Fmt.{decimal, signed_decimal};
-ghost use Rattle.line_faults.specs.declared.hint.Hint.TheVariants.{UpperBits, Far, StandsOn, Full};
-ghost use Rattle.line_faults.specs.Wants.{range_of};
+ghost use Rattle.line_faults.specs.word_faults.declared.hint.Hint.TheVariants.{UpperBits, Far, StandsOn, Full};
+ghost use Rattle.line_faults.specs.word_faults.Wants.{range_of};
 ghost use Rattle.asm_commands.specs.Advice.{advice_text, place_text, label_text, from_to, wanted_text, unaligned_text};
 ghost use Rattle.asm_commands.specs.Advice.{upper_front, section_name};
 ghost use Rattle.asm_commands.specs.Words.{shown};

@@ -70,7 +70,7 @@ fn program_of(alloc: Global, bytes: &[u8]) -> Result<Program, Fault>
 }
 
 /// Writes the image of a program.
-fn write_program<W: LinkWrite>(program: &Program, out: &mut W) -> Result<(), Fault>
+pub fn write_program<W: LinkWrite>(program: &Program, out: &mut W) -> Result<(), Fault>
     requires works { W.has_failed out.old ≡ false }
     ensures failed { W.has_failed out.new ≡ is_err result }
     ensures written { OnOk result (Appends (W.contents out.old) (W.contents out.new) (spelling program.now)) }

@@ -79,7 +79,7 @@ fn check_text<W: LinkWrite>(alloc: Global, text: &str, out: &mut W) -> Result<u8
 }
 
 /// The exit status that says whether there is a fault.
-fn status_of(faults: &[TextFault<'_>]) -> u8
+pub fn status_of(faults: &[TextFault<'_>]) -> u8
     ensures status { result ≡ status_of faults.now }
     ensures low { result ≤ 1 }
 {

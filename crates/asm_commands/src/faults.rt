@@ -1,12 +1,12 @@
 //! The list of faults.
 
-ghost use Rattle.std.specs.Prelude.{◌≡◌, ◌+◌, ◌++◌, IfOk, IfSome, OnOk, option_to_list};
+ghost use Rattle.std.specs.Prelude.{◌≡◌, ◌+◌, ◌++◌, IfOk, IfSome, OnOk, fold, option_to_list};
 ghost use Rattle.std.specs.Option.{option_map};
 ghost use Rattle.assembler.specs.Meaning.{start, after, labels_of, line_piece, pieces_from};
 ghost use Rattle.assembler.specs.Passes.{nows};
 ghost use Rattle.asm_commands.specs.Faults.{AreTheFaults, AreFaultsOf, IsAt, IsNamed, error_of, error_at};
 ghost use Rattle.line_faults.specs.Places.{label_values, place_of};
-ghost use Rattle.line_faults.specs.Views.{spot_span};
+ghost use Rattle.line_faults.specs.word_faults.Views.{spot_span};
 
 use crate::text_fault::TextFault;
 use asm_lines::{LineError, parts_at, read_line};
@@ -33,11 +33,19 @@ pub fn text_faults<'a>(alloc: Global, text: &'a str) -> Result<Vec<TextFault<'a>
 fn labels_of<'a>(alloc: Global, lines: &[&'a [u8]]) -> Result<BTreeMap<&'a [u8], Label>, AllocError>
     ensures { IfOk result (λ labels. label_values labels ≡ labels_of (nows lines.now)) }
 {
+    let end = end_place(alloc, lines)?;
+    Ok(end.labels)
+}
+
+/// The place after the last of these lines, with all their labels.
+pub fn end_place<'a>(alloc: Global, lines: &[&'a [u8]]) -> Result<Cursor<'a>, AllocError>
+    ensures { IfOk result (λ end. place_of end ≡ fold after start (nows lines.now)) }
+{
     let mut cursor = Cursor::new(alloc);
     for (at, line) in lines.iter().enumerate() {
         pass_line(alloc, &mut cursor, line, at + 1)?;
     }
-    Ok(cursor.labels)
+    Ok(cursor)
 }
 
 /// Moves the cursor past the line with this number.

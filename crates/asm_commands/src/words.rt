@@ -33,7 +33,7 @@ pub fn push_word(alloc: Global, text: &mut String, word: &[u8]) -> Result<(), Al
 }
 
 /// Appends each byte of a word.
-fn push_shown(alloc: Global, text: &mut String, word: &[u8]) -> Result<(), AllocError>
+pub fn push_shown(alloc: Global, text: &mut String, word: &[u8]) -> Result<(), AllocError>
     ensures { OnOk result (string_bytes text.new ≡ string_bytes text.old ++ flat_map shown_byte word.now) }
 {
     for byte in word {

@@ -112,13 +112,21 @@ flag name = record (new_rule name) { long = Some name; action = Some SetTrue }
 abbrev pub file : Rule
 file = path (codes "FILE")
 
--- the file with the names that are printed beside addresses
+-- the file with the names that are printed beside addresses, or that `asm` writes for that
 abbrev pub symbols : Rule
 symbols = option (codes "symbols")
+
+-- whether values are printed in decimal
+abbrev pub decimal : Rule
+decimal = flag (codes "decimal")
 
 -- whether lines are printed as JSON
 abbrev pub json : Rule
 json = flag (codes "json")
+
+-- whether a text is a course text
+abbrev pub course : Rule
+course = flag (codes "course")
 
 -- the sizes of a machine
 abbrev pub sizes : List Rule
@@ -147,10 +155,10 @@ unfoldable pub words_command : App
 words_command = command (codes "words") (file ∷ [])
 
 unfoldable pub check_command : App
-check_command = command (codes "check") (file ∷ json ∷ [])
+check_command = command (codes "check") (file ∷ course ∷ json ∷ [])
 
 unfoldable pub asm_command : App
-asm_command = command (codes "asm") (file ∷ path (codes "OUT") ∷ [])
+asm_command = command (codes "asm") (file ∷ path (codes "OUT") ∷ course ∷ symbols ∷ [])
 
 unfoldable pub dis_command : App
 dis_command = command (codes "dis")
@@ -159,33 +167,41 @@ dis_command = command (codes "dis")
 unfoldable pub run_command : App
 run_command = command (codes "run")
     (file ∷ option (codes "trace") ∷ flag (codes "sweep") ∷ flag (codes "no-log") ∷ flag (codes "unfinished")
-    ∷ flag (codes "quiet") ∷ symbols ∷ json ∷ (sizes ++ (number budget.bounds ∷ number start.bounds ∷ [])))
+    ∷ flag (codes "quiet") ∷ symbols ∷ decimal ∷ json ∷ (sizes ++ (number budget.bounds ∷ number start.bounds ∷ [])))
 
 unfoldable pub hunt_command : App
 hunt_command = command (codes "hunt")
     (file ∷ option (codes "trace") ∷ option (codes "observe") ∷ flag (codes "overwrite") ∷ flag (codes "expect-one")
-    ∷ flag (codes "quiet") ∷ symbols ∷ json
+    ∷ flag (codes "quiet") ∷ symbols ∷ decimal ∷ json
     ∷ (sizes ++ (number steps.bounds ∷ number runs.bounds ∷ number start.bounds ∷ [])))
 
 unfoldable pub explore_command : App
 explore_command = command (codes "explore")
-    (file ∷ option (codes "trace") ∷ option (codes "observe") ∷ flag (codes "each") ∷ flag (codes "every")
-    ∷ flag (codes "quiet") ∷ symbols ∷ json ∷ (sizes ++ (number states.bounds ∷ number witness ∷ [])))
+    (file ∷ option (codes "trace") ∷ option (codes "observe") ∷ option (codes "against") ∷ option (codes "never")
+    ∷ option (codes "always") ∷ option (codes "finally") ∷ flag (codes "each") ∷ flag (codes "fair")
+    ∷ flag (codes "every") ∷ flag (codes "quiet") ∷ symbols ∷ decimal ∷ json
+    ∷ (sizes ++ (number states.bounds ∷ number witness ∷ [])))
 
 unfoldable pub replay_command : App
-replay_command = command (codes "replay") (replay ++ (symbols ∷ json ∷ []))
+replay_command = command (codes "replay") (replay ++ (symbols ∷ decimal ∷ json ∷ []))
 
 unfoldable pub order_command : App
-order_command = command (codes "order") (lines ++ (flag (codes "abi") ∷ json ∷ []))
+order_command = command (codes "order") (lines ++ (flag (codes "abi") ∷ decimal ∷ json ∷ []))
 
 unfoldable pub story_command : App
-story_command = command (codes "story") (lines ++ (json ∷ []))
+story_command = command (codes "story") (lines ++ (flag (codes "rounds") ∷ decimal ∷ json ∷ []))
 
 unfoldable pub stats_command : App
-stats_command = command (codes "stats") (replay ++ (flag (codes "csv") ∷ json ∷ []))
+stats_command = command (codes "stats") (replay ++ (flag (codes "latency") ∷ flag (codes "csv") ∷ json ∷ []))
 
 unfoldable pub picture_command : App
 picture_command = command (codes "picture") (replay ++ (number step ∷ []))
+
+unfoldable pub trace_command : App
+trace_command = command (codes "trace") (path (codes "TRACE") ∷ [])
+
+unfoldable pub steps_command : App
+steps_command = command (codes "steps") (file ∷ path (codes "OUT") ∷ [])
 
 unfoldable pub debug_command : App
 debug_command = command (codes "debug")
@@ -217,6 +233,8 @@ ultra_command = with_subcommands (
     ∷ story_command.top
     ∷ stats_command.top
     ∷ picture_command.top
+    ∷ trace_command.top
+    ∷ steps_command.top
     ∷ debug_command.top
     ∷ explain_command.top
     ∷ []) program

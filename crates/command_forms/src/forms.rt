@@ -5,11 +5,13 @@ ghost use Rattle.command_forms.specs.Forms.{app_of_form, with_forms};
 ghost use Rattle.command_forms.specs.Commands.{asm_command, check_command, debug_command, dis_command};
 ghost use Rattle.command_forms.specs.Commands.{explain_command, explore_command, hunt_command, order_command};
 ghost use Rattle.command_forms.specs.Commands.{picture_command, program, replay_command, run_command, stats_command};
-ghost use Rattle.command_forms.specs.Commands.{story_command, ultra_command, words_command};
+ghost use Rattle.command_forms.specs.Commands.{steps_command, story_command, trace_command, ultra_command};
+ghost use Rattle.command_forms.specs.Commands.{words_command};
 
 use crate::help::{
     ASM_ENDS, CHECK_ENDS, DEBUG_ENDS, DIS_ENDS, EXPLAIN_ENDS, EXPLORE_ENDS, HUNT_ENDS, ORDER_ENDS,
-    PICTURE_ENDS, REPLAY_ENDS, RUN_ENDS, STATS_ENDS, STORY_ENDS, WORDS_ENDS,
+    PICTURE_ENDS, REPLAY_ENDS, RUN_ENDS, STATS_ENDS, STEPS_ENDS, STORY_ENDS, TRACE_ENDS,
+    WORDS_ENDS,
 };
 use crate::ranges::{
     BUDGET, COMBINATIONS, ChoiceOption, FIRST_LINE, FIRST_START, LAST_LINE, NumberOption, PORT,
@@ -95,10 +97,22 @@ const SYMBOLS: Argument = Argument::Text {
     help: "Print names beside addresses and words, from the symbol table of an ELF file or from what `nm` prints; not with --json",
 };
 
+/// Whether values are printed in decimal.
+const DECIMAL: Argument = Argument::Flag {
+    name: "decimal",
+    help: "Print values in decimal, in two's complement; not with --json",
+};
+
 /// Whether lines are printed as JSON.
 const JSON: Argument = Argument::Flag {
     name: "json",
     help: "Print each line as a JSON object",
+};
+
+/// Whether a text is a course text.
+const COURSE: Argument = Argument::Flag {
+    name: "course",
+    help: "Take the pseudo-instructions, forms and directives of RISC-V textbooks, as `li a0, 5`",
 };
 
 const WORDS: CommandForm = CommandForm {
@@ -114,7 +128,7 @@ const WORDS: CommandForm = CommandForm {
 const CHECK: CommandForm = CommandForm {
     name: "check",
     about: "List every mistake of a text, each with its line, column, word and what would be right",
-    arguments: &[TEXT, JSON],
+    arguments: &[TEXT, COURSE, JSON],
     ends: CHECK_ENDS,
 };
 
@@ -126,6 +140,12 @@ const ASM: CommandForm = CommandForm {
         Argument::Path {
             id: "OUT",
             help: "Where to write the image, an ELF32 file; opened after the whole text is assembled",
+        },
+        COURSE,
+        Argument::Text {
+            name: "symbols",
+            value: "MAP",
+            help: "Write the addresses of the labels to MAP, as `nm` prints them, for --symbols of other commands",
         },
     ],
     ends: ASM_ENDS,
@@ -178,6 +198,7 @@ const RUN: CommandForm = CommandForm {
         },
         QUIET,
         SYMBOLS,
+        DECIMAL,
         JSON,
         Argument::Number(STAGES),
         Argument::Number(QUEUE),
@@ -215,6 +236,7 @@ const HUNT: CommandForm = CommandForm {
         },
         QUIET,
         SYMBOLS,
+        DECIMAL,
         JSON,
         Argument::Number(STAGES),
         Argument::Number(QUEUE),
@@ -243,9 +265,33 @@ const EXPLORE: CommandForm = CommandForm {
             value: "LIST",
             help: "Words by which results differ, as `0-3,8`; they are printed without others [default: all]",
         },
+        Argument::Text {
+            name: "against",
+            value: "SPEC",
+            help: "Print only the results that the image SPEC does not have; not with --every or --witness",
+        },
+        Argument::Text {
+            name: "never",
+            value: "CONDITION",
+            help: "Print instead whether no state between references satisfies the condition, as `at 0x10010-0x10020 > 1`",
+        },
+        Argument::Text {
+            name: "always",
+            value: "CONDITION",
+            help: "Print instead whether each state does",
+        },
+        Argument::Text {
+            name: "finally",
+            value: "CONDITION",
+            help: "Print instead whether each state does in which no processor runs",
+        },
         Argument::Flag {
             name: "each",
             help: "Print every result by itself; alike processors are not exchanged",
+        },
+        Argument::Flag {
+            name: "fair",
+            help: "Also tell whether every fair schedule ends; alike processors are not exchanged",
         },
         Argument::Flag {
             name: "every",
@@ -253,6 +299,7 @@ const EXPLORE: CommandForm = CommandForm {
         },
         QUIET,
         SYMBOLS,
+        DECIMAL,
         JSON,
         Argument::Number(STAGES),
         Argument::Number(QUEUE),
@@ -273,6 +320,7 @@ const REPLAY: CommandForm = CommandForm {
         TRACED_IMAGE,
         Argument::Number(SHARED_WORDS),
         SYMBOLS,
+        DECIMAL,
         JSON,
     ],
     ends: REPLAY_ENDS,
@@ -294,6 +342,7 @@ const ORDER: CommandForm = CommandForm {
             name: "abi",
             help: "Write registers by their ABI names, and the target of a jump or branch as an address; not with --json",
         },
+        DECIMAL,
         JSON,
     ],
     ends: ORDER_ENDS,
@@ -311,6 +360,11 @@ const STORY: CommandForm = CommandForm {
         Argument::Choice(FIRST_LINE),
         Argument::Choice(LAST_LINE),
         SYMBOLS,
+        Argument::Flag {
+            name: "rounds",
+            help: "Print `round N` before the first printed step of each round of the sweep",
+        },
+        DECIMAL,
         JSON,
     ],
     ends: STORY_ENDS,
@@ -323,6 +377,10 @@ const STATS: CommandForm = CommandForm {
         TRACE,
         TRACED_IMAGE,
         Argument::Number(SHARED_WORDS),
+        Argument::Flag {
+            name: "latency",
+            help: "Print how many rounds of the sweep references took: all, each processor's, and those to each word",
+        },
         Argument::Flag {
             name: "csv",
             help: "Print the counts as CSV, a row for each number; not with --json",
@@ -342,6 +400,29 @@ const PICTURE: CommandForm = CommandForm {
         Argument::Choice(STEP),
     ],
     ends: PICTURE_ENDS,
+};
+
+const TRACE_TEXT: CommandForm = CommandForm {
+    name: "trace",
+    about: "Print a trace as a text, which can be edited and made a trace again by `ultra steps`",
+    arguments: &[TRACE],
+    ends: TRACE_ENDS,
+};
+
+const STEPS_TEXT: CommandForm = CommandForm {
+    name: "steps",
+    about: "Make a trace of a text of steps, which may be written by hand",
+    arguments: &[
+        Argument::Path {
+            id: "FILE",
+            help: "A text, as `ultra trace` prints it: `machine k 1 c 4 b 4 r 1`, and then a step a line, as `turn 0`",
+        },
+        Argument::Path {
+            id: "OUT",
+            help: "Where to write the trace, for `ultra replay`; opened after the whole text is read",
+        },
+    ],
+    ends: STEPS_ENDS,
 };
 
 const DEBUG: CommandForm = CommandForm {
@@ -465,6 +546,20 @@ fn picture() -> CommandForm
     PICTURE
 }
 
+#[tactic(auto, unfolding(crate::specs::Commands::trace_command))]
+fn trace_text() -> CommandForm
+    ensures { app_of_form result ≡ trace_command }
+{
+    TRACE_TEXT
+}
+
+#[tactic(auto, unfolding(crate::specs::Commands::steps_command))]
+fn steps_text() -> CommandForm
+    ensures { app_of_form result ≡ steps_command }
+{
+    STEPS_TEXT
+}
+
 #[tactic(auto, unfolding(crate::specs::Commands::debug_command))]
 fn debug() -> CommandForm
     ensures { app_of_form result ≡ debug_command }
@@ -481,7 +576,7 @@ fn explain() -> CommandForm
 
 /// All commands, in the order in which the help lists them.
 #[tactic(auto, unfolding(crate::specs::Commands::ultra_command))]
-pub(crate) fn commands() -> [CommandForm; 14]
+pub(crate) fn commands() -> [CommandForm; 16]
     ensures { with_forms result program ≡ ultra_command }
 {
     [
@@ -497,6 +592,8 @@ pub(crate) fn commands() -> [CommandForm; 14]
         story(),
         stats(),
         picture(),
+        trace_text(),
+        steps_text(),
         debug(),
         explain(),
     ]

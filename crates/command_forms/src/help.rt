@@ -13,6 +13,9 @@ pub(crate) const CHECK_ENDS: &str = "\
 Lists every mistake of the text: its line, its column, its code as `ultra asm` reports it (A1 to A6), the wrong
 word, and what would be right there. The last line says how many mistakes there are. Writes nothing.
 
+With --course the text may have the pseudo-instructions, forms and directives of RISC-V textbooks. A line with
+these is rewritten to plain lines (docs/ASSEMBLER.md, \"Course texts\"), and named by its first word.
+
 Exit status: 0 the text has no mistake, 1 it has mistakes, 2 a refused command line, 3 FILE cannot be opened or
 read or is not UTF-8, or standard output cannot be written (`link`), 4 out of memory.";
 
@@ -22,8 +25,14 @@ The first mistake is reported on standard error, as `ultra: A3 line 2`, and OUT 
 first word, A2 form, A3 number out of range or place not divisible by 4, A4 label twice, A5 label
 missing, A6 section full, each with its line. `ultra check FILE` lists all mistakes of a text.
 
+With --course the text may have the pseudo-instructions, forms and directives of RISC-V textbooks. A line with
+these is rewritten to plain lines (docs/ASSEMBLER.md, \"Course texts\"); a mistake has the line of FILE.
+
+--symbols writes a line for each label to MAP, by address, as `0001000c 00000008 t loop`: its address, its
+size, `t` in code or `d` in data, and its name. MAP is opened after OUT is written.
+
 Exit status: 0 done, 2 a mistake of the text or a refused command line, 3 FILE cannot be read or is not
-UTF-8 (`link`) or OUT cannot be written (`I9`), 4 out of memory.";
+UTF-8 (`link`), OUT cannot be written (`I9`) or MAP cannot be written (`link`), 4 out of memory.";
 
 /// What `dis` prints and reports, and its exit statuses.
 pub(crate) const DIS_ENDS: &str = "\
@@ -156,11 +165,17 @@ the trace (`L2`).";
 pub(crate) const STORY_ENDS: &str = "\
 Takes the steps as `ultra replay` does, and prints a line for each that says what the machine did: a
 request was issued, moved from switch to switch or was combined with another, a module served a word, a
-reply moved back, an instruction retired, a processor stopped, or a write came from outside.
+reply moved back, an instruction retired, a processor stopped, or a write came from outside. A line also
+tells the function of a request, as `add 00000002`, what goes on and what is kept of two that are combined,
+the word that is served with its value before and after, and the values that a split reply brings.
 
 With --processor these are the turns and writes of the processor, and the steps of the message that stands
 for it, alone or combined with others. With --word they are the steps of references to the word, and writes
 to it. Lines keep their numbers if options leave others out.
+
+With --rounds a line `round N` stands before the first of the printed steps of each round of the sweep, N
+from 1. A write from outside is of no round. For other schedules these are the fewest rounds of the sweep
+that take the steps in their order, as `ultra stats` counts them.
 
 Errors are reported on standard error as by `ultra replay`, and then nothing is printed.
 
@@ -173,6 +188,10 @@ Takes the steps as `ultra replay` does, and counts: for each stage of the networ
 moved on and those that were combined, for each module the references that it served and for how many
 processors, for each processor its instructions.
 
+With --latency there are also lines for all references, and for those of each processor and each
+shared word: how many they are, the least, the mean and the greatest number of rounds from sending a
+request to retiring its instruction, and as `8x5` that five references took from 8 to 15 rounds.
+
 Errors are reported on standard error as by `ultra replay`, and then nothing is printed.
 
 Exit status: 0 done, 1 a fault stopped a processor, 2 a refused trace, image or command line, 3 a
@@ -183,14 +202,38 @@ pub(crate) const PICTURE_ENDS: &str = "\
 The steps are those of `ultra story`: the trace's, and then those that drain the network. The machine is
 drawn after the first N of them, or after all if there are fewer, so `--step N` shows the machine in
 which line N of the story happens. From left to right stand the processors, the stages of switches and
-the modules. A request or a reply names its leader and the processors that it stands for; a wait record
-names the leader that went on and the one that waits. `ultra picture TRACE FILE > FILE.svg` writes a
-file that browsers show.
+the modules. A request shows its function, its word and the processors that it stands for, the leader
+first; a wait record who waits for whom, and what it then does to the value; a reply its value. Of more
+than 8 processors a summary is drawn. `ultra picture TRACE FILE > FILE.svg` writes a file that browsers
+show.
 
 Errors are reported on standard error as by `ultra replay`, and then nothing is printed.
 
 Exit status: 0 done, 1 a fault has stopped a processor of the machine drawn, 2 a refused trace, image or
 command line, 3 a file or standard output failed, 4 out of memory.";
+
+/// What `trace` prints, and its exit statuses.
+pub(crate) const TRACE_ENDS: &str = "\
+The first line is the machine's size, `machine k K c C b B r R`. Then comes a line for each step, as
+`ultra story` names steps: `turn P`, `up S W` and `down S W` (stage, wire), `serve M`, or a write from
+outside, `poke P xN VVVVVVVV`, `poke P pc VVVVVVVV`, `poke P AAAAAAAA HH` (local memory) or `poke -
+AAAAAAAA HH` (shared memory). `ultra steps` makes the same trace of this text.
+
+Exit status: 0 done, 2 a refused trace (`ultra: X1` to `X4`) or command line, 3 TRACE cannot be opened
+(`link`) or read (`X5`) or standard output cannot be written (`link`), 4 out of memory.";
+
+/// What `steps` takes and reports, and its exit statuses.
+pub(crate) const STEPS_ENDS: &str = "\
+The text is that of `ultra trace`, with any blanks between words, empty lines, and comments from `#` to
+the end of a line. Numbers may also be written as `0x3F`, hex digits in either case, and registers by
+their names, as `a0`.
+
+The first mistake is reported on standard error, as `ultra: S2 line 3`, and OUT is not opened: S1 no
+sizes of a machine, S2 no step, S3 a number out of its range on this machine, S4 more than 4194304
+steps. S5 is a text of more than 256 MiB. Whether the machine can take the steps, `ultra replay` says.
+
+Exit status: 0 done, 2 a mistake of the text or a refused command line, 3 FILE cannot be read (`link`)
+or OUT cannot be written (`X5`), 4 out of memory.";
 
 /// What `explore` prints, and its exit statuses.
 pub(crate) const EXPLORE_ENDS: &str = "\
@@ -209,12 +252,31 @@ processor, and a line `word I VVVVVVVV` for each shared word that is not zero, a
 and the number of states between references to shared words. The last line is `every schedule ends`,
 `some schedule never ends; an end can always be reached`, or `from N states no end can be reached`.
 
+With --fair one more line is printed: `every fair schedule ends`, or `some fair schedule may never end`. A
+schedule is fair if each processor that runs takes turns again and again. None is exchanged then.
+
 With --observe LIST a result has, of the shared words, only those in the list: numbers and ranges from 0
 to 262143 with commas between them. Results that then are the same are one, and --witness N leads to the
 first result of those that are printed as the Nth.
 
+With --against SPEC the results of the image SPEC are found too, on a machine of the same size. Printed are
+those results of FILE that SPEC does not have, by their statuses, consoles and observed words, and not by pc;
+and a last line such as `1 of 2 observed results is not among the 1 of SPEC`, or `all 2 observed results are
+among the 3 of SPEC`. Alike processors are not exchanged, so the numbers are those of --each. It excludes
+--every, --fair, --witness and --trace.
+
 With --every the machines of 1, 2, 4, 8, 16, 32 and 64 processors are explored one after another, and a
-line is printed for each; --k has no effect. It excludes --witness and --trace.
+line is printed for each; --k has no effect. It excludes --fair, --witness and --trace.
+
+With --never CONDITION no result is printed, but `never CONDITION: holds`, or `never CONDITION: broken` and
+the numbers of the processors that refer, one after another, on a shortest way to a state that satisfies
+the condition. States are those between references: each processor has stopped, or is at its next reference
+to a shared word. --always asks whether each state satisfies the condition, and --finally whether each does
+in which no processor runs. A condition has alternatives with `|` between them, each of parts with `&`
+between them. A part is `word N OP V`; `at A OP V` or `at A-B OP V`, for the number of processors that run
+with a pc of A, or from A to B; `running OP V`, `halted OP V` or `faulted OP V`; or `any fault`. OP is one of
+== != < <= > >=, and a number is decimal, or hex after 0x. One such option excludes the others, --observe,
+--against, --each, --fair, --every, --witness, --trace, --symbols, --decimal and --json.
 
 With --witness N and --trace OUT the steps of a path to result N are written to OUT, for a machine with
 --c and --b: `ultra replay OUT FILE` prints the report of that result. With --witness 0 they lead to the
@@ -223,13 +285,14 @@ first of the states from which no end can be reached.
 An error is reported on standard error, and then no result is printed: `ultra: I1` to `I8` a refused
 image, `K1` a size out of the machine's limits, `states` at least --states states are found, `alone` a
 processor takes a million instructions without a reference to a shared word and without coming back to
-where it was, `link` FILE cannot be opened or standard output cannot be written, `I9` FILE cannot be
-read, `X5` OUT cannot be written, `L2` a way of more than 4194304 steps, `memory`.
+where it was, or, with --never and the like, comes back, so that a verdict is not known, `link` FILE
+cannot be opened or standard output cannot be written, `I9` FILE cannot be read, `X5` OUT cannot be
+written, `L2` a way of more than 4194304 steps, `memory`. If SPEC is at fault, a second line has its name.
 
 Exit status: 0 done, 1 in a result a fault has stopped a processor or from a state no end can be reached,
 2 a refused image or command line, or there is no such witness, 3 a file or standard output failed, 4 out
 of memory, too many states, a processor alone for too long, or a path too long. With --every it is the
-greatest of all sizes.";
+greatest of all sizes. With --against it is 1 if there is a result that SPEC does not have, else 0.";
 
 /// How `hunt` goes, what it prints, and its exit statuses.
 pub(crate) const HUNT_ENDS: &str = "\

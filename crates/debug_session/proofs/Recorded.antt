@@ -28,7 +28,7 @@ use Rattle.steps.specs.declared.step.Outcome.{Outcome}
 use Rattle.steps.specs.declared.step.Outcome.TheVariants.{Stalled}
 use Rattle.trace_file.specs.Records.{HasRecord, has_poke_record}
 use Rattle.trace_file.specs.Traces.{HaveRecords, IsTrace, trace_of}
-use Rattle.trace_commands.proofs.Lemmas.{is_spelled}
+use Rattle.run_reports.proofs.Lemmas.{is_spelled}
 
 both : (a b n m : ℕ) → a < n → b < m → (nat_lt a n && nat_lt b m) ≡ true
 both a b n m first second = ap₂ (λ x y. x && y) (lt-ltb a n first) (lt-ltb b m second)

@@ -17,8 +17,8 @@ use Rattle.command_io.specs.Links.{Input, IsOfLink}
 use Rattle.elf_image.specs.declared.error.ImageError.TheVariants as of_image
 use Rattle.trace_file.specs.declared.error.TraceError.TheVariants as of_trace
 use Rattle.trace_file.specs.Traces.{trace_bytes, trace_of}
-use Rattle.trace_commands.specs.TraceReports.{IsPartSaved, IsSaved, IsWorking}
-use Rattle.trace_commands.specs.Reports.{IsExitOf}
+use Rattle.run_reports.specs.RunReports.{IsPartSaved, IsSaved, IsWorking}
+use Rattle.run_reports.specs.Reports.{IsExitOf}
 use Rattle.debug_session.specs.Conversations.{HasServed, IsServed}
 use Rattle.debug_session.specs.Sweeps.{sweep_spec}
 use Rattle.debug_session.specs.declared.session_end.SessionEnd.{SessionEnd}

@@ -3,7 +3,7 @@
 ghost use Rattle.std.specs.Prelude.{◌≡◌, ◌↔◌, true, false, IfOk, IfErr, IsErrOf, OnOk};
 ghost use Rattle.command_io.specs.ErrorOutputs.{errors_to};
 ghost use Rattle.command_io.specs.Links.{input};
-ghost use Rattle.trace_commands.specs.TraceReports.{IsWorking};
+ghost use Rattle.run_reports.specs.RunReports.{IsWorking};
 ghost use Rattle.debug_session.specs.Sessions.{IsDebugged, IsNoSession, IsSession, asked_session, link_spec, outputs};
 ghost use Rattle.debug_session.specs.Sessions.{trace_link};
 

@@ -6,8 +6,8 @@ ghost use Rattle.debug_session.specs.Sessions.{IsEndReported, IsStatusOf};
 use crate::session_end::SessionEnd;
 use command_io::{Fault, report_fault};
 use machine_steps::Machine;
+use run_reports::exit_status;
 use std::io::Write;
-use trace_commands::exit_status;
 
 /// Reports on standard error the fault that ended a session, if one did, and returns the exit status of `debug`. After
 /// `quit` or the end of the input, that is 1 if a processor of the machine is faulted, and 0 if none is.

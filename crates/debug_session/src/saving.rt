@@ -5,7 +5,7 @@ ghost use Rattle.std.specs.Io.KnownBytes.{Appends};
 ghost use Rattle.link.specs.Transfer.{AppendsPart};
 ghost use Rattle.command_io.specs.ErrorOutputs.{errors_to};
 ghost use Rattle.trace_file.specs.Traces.{trace_bytes, trace_of};
-ghost use Rattle.trace_commands.specs.TraceReports.{IsPartSaved, IsSaved, IsWorking};
+ghost use Rattle.run_reports.specs.RunReports.{IsPartSaved, IsSaved, IsWorking};
 ghost use Rattle.debug_session.specs.Conversations.{IsServed};
 ghost use Rattle.debug_session.specs.Sessions.{IsBroken, IsEnding, session_result, trace_link};
 

@@ -115,6 +115,77 @@ What to do: as for `memory`.
 ",
     },
     Topic {
+        name: "S1",
+        meaning: "a text of steps does not begin with the sizes of a machine",
+        advice: "\
+`ultra steps` reports it as `S1 line N` of FILE: N is the first line with words, or the last line if
+none has words. It does not open OUT. Exit status 2.
+
+Usual causes: no line `machine` before the first step; a size out of its limits (`k` 0 to 6, `c` 2 to
+16, `b` 0 to 16, `r` 1 to 3 and below `c`); a trace or a story in place of the text.
+
+What to do: write all four sizes in this order, as `ultra trace` and `ultra stats` print them.
+
+    machine k 1 c 4 b 4 r 1
+",
+    },
+    Topic {
+        name: "S2",
+        meaning: "a line of a text of steps is no step",
+        advice: "\
+`ultra steps` reports it as `S2 line N` of FILE, and does not open OUT. Exit status 2.
+
+Usual causes: a number and an outcome, as `ultra story` prints them around a step; a word too many or
+too few; a register that does not exist, such as `x32`; a value without its leading zeros.
+
+What to do: write one of these on a line of its own. An address or a value is eight hex digits, a byte
+two.
+
+    turn 0
+    up 0 1
+    serve 1
+    down 0 1
+    poke 0 x5 0000002a
+    poke 0 pc 00010004
+    poke 0 00020000 2a
+    poke - 80000000 2a
+",
+    },
+    Topic {
+        name: "S3",
+        meaning: "a number of a step is out of its range",
+        advice: "\
+`ultra steps` reports it as `S3 line N` of FILE, and does not open OUT. Exit status 2.
+
+Usual causes: a processor, a module or a wire that a machine of 2^k does not have; a stage that is k
+or more; a write to register 0, to code or to no region; a value for `pc` that is not divisible by 4.
+
+What to do: count from 0, and compare with `k` in the first line. `ultra explain memory-map` shows the
+regions.
+",
+    },
+    Topic {
+        name: "S4",
+        meaning: "a text has more than 4,194,304 steps",
+        advice: "\
+`ultra steps` reports it as `S4 line N` of FILE, where N is the line of the step that has no room, and
+does not open OUT. Exit status 2.
+
+What to do: leave steps out. A trace holds no more.
+",
+    },
+    Topic {
+        name: "S5",
+        meaning: "a text of steps has more than 256 MiB",
+        advice: "\
+`ultra steps` reports it, and does not open OUT. Exit status 2.
+
+Usual causes: an input without an end, such as /dev/zero, or a file of another kind.
+
+What to do: leave comments out. The steps that a trace holds fit in half of that.
+",
+    },
+    Topic {
         name: "I1",
         meaning: "an image ends before its header or its table of segments does",
         advice: "\
@@ -255,7 +326,9 @@ words.
 Usual causes: `--r` that is not below `--c`. Any other number out of its range is a usage error, and a
 trace with such a size is refused as `X2`.
 
-What to do: keep to the limits, which `ultra help run` lists too.
+What to do: keep to the limits, which `ultra help run` lists too. Beside them, `ultra explore` gives
+up at `--states` states, 1,000,000 unless you say more, and `ultra hunt` takes at most 1,000,000 runs
+of 4,000,000 steps each.
 ",
     },
     Topic {
@@ -295,8 +368,8 @@ Usual causes, in a trace written by hand: a kind other than 1 to 7; a processor,
 that a machine of 2^k does not have; a stage that is k or more; a write to register 0, to code or to
 no region; an unused byte that is not 0.
 
-What to do: compare the record with the table of steps in docs/COMMANDS.md. This lists the bytes of
-each record:
+What to do: write the steps as a text, of which `ultra steps` makes a trace, or compare the record
+with the table of steps in docs/COMMANDS.md. This lists the bytes of each record:
 
     od -An -v -tu1 -j12 -w12 program.trace
 ",
@@ -318,7 +391,7 @@ What to do: write the number of records into bytes 8 to 11, the lowest first, or
         meaning: "a trace cannot be read, or cannot be written",
         advice: "\
 Every command that takes a trace reports it, and `ultra run`, `hunt`, `explore` and `debug` do for the
-OUT or the PREFIX of `--trace`. Exit status 3.
+OUT or the PREFIX of `--trace`, `ultra steps` for OUT. Exit status 3.
 
 Usual causes: a folder instead of a file; an OUT in a folder that does not exist or may not be
 written; a full disk. A TRACE that cannot be opened is reported as `link`.
@@ -348,8 +421,9 @@ Usual causes: the image is not that of the run, or was assembled again from a te
 `--words` differs from that of the run; a trace written by hand has a turn of a processor that has
 stopped or waits for a reply, or moves a message that is not there.
 
-What to do: give the image and the `--words` of the run. In a trace written by hand, cut off step N
-and all after it, and look at the report of what is left.
+What to do: give the image and the `--words` of the run. In a schedule written by hand, leave out step
+N and all after it, which is in line N + 2 of what `ultra trace` prints, and look at the story of the
+rest.
 ",
     },
 ];

@@ -11,8 +11,8 @@ use Rattle.local_reduction.specs.LocalStates.{LocalState}
 use Rattle.local_reduction.specs.Forgetting.{with_live, kept_by}
 use Rattle.local_reduction.specs.Results.{FinalResult, HaveStopped, StandsFor, result_at, local_state_result}
 use Rattle.state_search.proofs.Lemmas.{stands_for_back, found_at, there, listed_there, listed_is, mapped_at, up_to}
-use Rattle.state_search.specs.declared.state_tables.Extent.{Extent}
-use Rattle.state_search.specs.StateTables.{TableLists, nowhere, placed_at, means}
+use Rattle.state_search.specs.state_store.declared.state_tables.Extent.{Extent}
+use Rattle.state_search.specs.state_store.StateTables.{TableLists, nowhere, placed_at, means}
 use Rattle.state_search.specs.Search.{state_at}
 use Rattle.exploration.specs.Endings.{AreInOrder, IsAdded, IsEnding, IsEndingAdded, IsOnce, IsResultOf, IsStoodFor, IsStoodForBefore}
 

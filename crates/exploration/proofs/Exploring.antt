@@ -23,14 +23,21 @@ use Rattle.state_graph.specs.Laws.{AllStoodForAreResults, IsTerminationOf, EachR
 use Rattle.local_reduction.specs.Forgetting.{kept_by}
 use Rattle.state_graph.specs.declared.termination.Termination.{Termination}
 use Rattle.state_graph.specs.Termination.{IsTrueOf}
-use Rattle.state_search.specs.declared.state_tables.Extent.{Extent}
-use Rattle.state_search.specs.StateTables.{TableLists, placed_at, setting_at, means}
-use Rattle.state_search.specs.Opening.{AreOfExtent, flat_of}
-use Rattle.state_search.specs.Search.{AreClasses, AreClassesOf, state_at}
+use Rattle.state_search.specs.state_store.declared.state_tables.Extent.{Extent}
+use Rattle.state_search.specs.state_store.StateTables.{TableLists, placed_at, setting_at, means}
+use Rattle.state_search.specs.state_store.Opening.{AreOfExtent, flat_of}
+use Rattle.state_search.specs.Search.{AreClassesOf, state_at}
+use Rattle.state_search.specs.state_store.Moves.{AreClasses}
 use Rattle.state_search.specs.Ends.{AreFound, AreMany}
 use Rattle.exploration.specs.Endings.{AreInOrder, AreSingle, IsEnding, IsStoodFor}
 use Rattle.exploration.specs.Refusals.{refused_by_search}
+use Rattle.exploration.specs.Fairness.{IsFairnessAt, IsFairnessOf}
 use Rattle.exploration.specs.States.{AreAllStates, HasManyStates, IsGivenUp}
+use Rattle.exploration.specs.declared.outcome.Fairness.{Fairness}
+use Rattle.exploration.specs.declared.outcome.Fairness.TheVariants as fairness
+use Rattle.local_reduction.specs.Laws.{FairlyRankedSchedulesEnd}
+use Rattle.state_graph.specs.Fairness.{helper_at}
+use Rattle.state_graph.specs.Ranks.{rank_at}
 use Rattle.state_search.specs.declared.refusal.Refusal.{Refusal as SearchRefusal}
 use Rattle.state_search.specs.declared.refusal.Refusal.TheVariants as search
 use Rattle.state_search.specs.Refusals.{IsGivenUpFor}
@@ -100,6 +107,13 @@ module _ (e : Extent) (code : List ℕ) (classes : List ℕ) (t : TableLists) (r
   flat_schedules law fact =
       law (setting_at e) code (kept_by t.live) classes (state_at e t rows) (length rows) moves m (λ k. []) fact f
       found.successors found.reached reaches
+
+  -- What is found of fair schedules is true of the machine.
+  pub flat_fairness : FairlyRankedSchedulesEnd → (said : Fairness) → IsFairnessAt e code t rows said → IsFairnessOf m said
+  flat_fairness law fairness.Ends h =
+      law (setting_at e) code (kept_by t.live) (state_at e t rows) (length rows) (rank_at h.ranks) (helper_at h.helpers) m (λ k. []) f
+      found.successors.filled reaches h.are
+  flat_fairness law fairness.Unknown h = tt
 
   -- The rows mean all states of the machine.
   pub all_states : HasAllLive code t.live → (termination : Termination) (count : ℕ) → IsTrueOf moves termination →

@@ -1,9 +1,11 @@
 pub mod Endings
 pub mod Shown
 pub mod Exploring
+pub mod FairRanking
 pub mod Sameness
 pub mod Exchanged
 pub mod MachineEnds
 pub mod Forwards
 pub mod Shifting
 pub mod Backwards
+pub mod Verdicts

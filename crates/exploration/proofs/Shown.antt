@@ -1,9 +1,9 @@
 -- Rows in which no processor runs, each with its result: rows with equal results are equal.
-use Rattle.std.proofs.Common.{◌≡◌, ◌⊎◌, inl, inr, ℕ, ◌<◌, ◌≤◌, zero, suc, Bool, true, false, cond, true≢false}
-use Rattle.std.proofs.Common.{List, [], ◌∷◌, ◌++◌, Some, length, map, refl, sym, ap, subst, ◌∙◌, arith, length-append}
+use Rattle.std.proofs.Common.{◌≡◌, ◌⊎◌, inl, inr, ℕ, ◌<◌, Bool, true, false, cond, true≢false}
+use Rattle.std.proofs.Common.{List, [], ◌∷◌, ◌++◌, Some, length, refl, sym, ap, subst, ◌∙◌, arith, length-append}
 use Rattle.std.specs.Prelude.{Contains, nat_eq, not, slice_get, slice_index, slice_index_or}
 use Rattle.std.specs.Cmp.Lexicographic.{nat_list_eq_equiv, pointwise}
-use Rattle.std.specs.List.{list_any, range_with_len}
+use Rattle.std.specs.List.{list_any}
 use Rattle.std.specs.Option.{option_map}
 use Rattle.std.proofs.lemmas.List.{get_or_append_left}
 use Rattle.std.proofs.lemmas.Option.{slice_get-map}
@@ -17,12 +17,13 @@ use Rattle.local_reduction.specs.Closing.{MacroState}
 use Rattle.local_reduction.specs.Exchanging.{IsExchanged}
 use Rattle.local_reduction.specs.Forgetting.{with_live, kept_by}
 use Rattle.local_reduction.specs.Results.{FinalResult, ProcessorResult, HaveStopped, IsResultExchanged, StandsFor, result_at, local_state_result}
-use Rattle.state_search.specs.declared.state_tables.Extent.{Extent}
+use Rattle.state_search.specs.state_store.declared.state_tables.Extent.{Extent}
 use Rattle.state_search.specs.Rows.{IsRowExchanged}
-use Rattle.state_search.specs.Search.{AreClasses, state_at}
-use Rattle.state_search.specs.StateTables.{TableLists, nowhere, placed_at, means, AreDifferent, IsRow}
+use Rattle.state_search.specs.Search.{state_at}
+use Rattle.state_search.specs.state_store.Moves.{AreClasses}
+use Rattle.state_search.specs.state_store.StateTables.{TableLists, nowhere, placed_at, means, AreDifferent, IsRow}
 use Rattle.state_search.proofs.Lemmas.{any_default, found_at, listed_at, listed_same, listed_there, ordered_means, rows_same, up_to}
-use Rattle.exploration.specs.Endings.{AreShown, IsAdded, IsEndingAdded, IsRowAdded}
+use Rattle.exploration.specs.Endings.{AreShown, IsAdded, IsRowAdded}
 use Rattle.exploration.proofs.Endings.{all_results, at_some, has_at, kept_stands, still_there}
 
 -- ---- results of equal states

@@ -6,9 +6,9 @@ use Rattle.local_reduction.specs.Exchanging.{AreAlike}
 use Rattle.local_reduction.specs.Results.{FinalResult, HaveStopped, StandsFor, result_at}
 use Rattle.exploration.specs.Results.{IsMachineResult}
 use Rattle.machine_steps.specs.Machines.{MachineLists}
-use Rattle.state_search.specs.declared.state_tables.Extent.{Extent}
+use Rattle.state_search.specs.state_store.declared.state_tables.Extent.{Extent}
 use Rattle.state_search.specs.Ends.{AreRows}
-use Rattle.state_search.specs.StateTables.{TableLists}
+use Rattle.state_search.specs.state_store.StateTables.{TableLists}
 use Rattle.state_search.specs.Search.{state_at}
 
 -- One of the results stands for this one.

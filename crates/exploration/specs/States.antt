@@ -1,5 +1,5 @@
 -- The states between references that a machine reaches.
-use Rattle.std.specs.Prelude.{◌≡◌, ℕ, ◌<◌, ◌≤◌, Bool, List, []}
+use Rattle.std.specs.Prelude.{ℕ, ◌≤◌, Bool, List, []}
 use Rattle.flat_machine.specs.declared.setting.Setting.{Setting}
 use Rattle.flat_machine.specs.State.{FlatState}
 use Rattle.local_reduction.specs.Closing.{MacroState, ReachesMacroState}

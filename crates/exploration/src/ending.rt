@@ -6,8 +6,9 @@ ghost use Rattle.exploration.specs.Endings.{AreInOrder, AreShown, IsEnding, IsEn
 ghost use Rattle.exploration.specs.Endings.{IsStoodFor};
 ghost use Rattle.state_graph.specs.Ranks.{no_rank};
 ghost use Rattle.state_search.specs.Ends.{AreRows};
-ghost use Rattle.state_search.specs.Search.{AreClasses, state_at};
-ghost use Rattle.state_search.specs.StateTables.{AreDifferent, IsRow, means, placed_at};
+ghost use Rattle.state_search.specs.Search.{state_at};
+ghost use Rattle.state_search.specs.state_store.Moves.{AreClasses};
+ghost use Rattle.state_search.specs.state_store.StateTables.{AreDifferent, IsRow, means, placed_at};
 
 use crate::order::in_order;
 use crate::outcome::{FinalResult, ProcessorResult};

@@ -5,11 +5,16 @@
 //! references (crate `state_search`). Processors that are alike can be exchanged, so a result stands for all that such
 //! exchanges make of it (crates `local_reduction` and `state_graph`).
 //!
+//! [`judge`] finds whether a property holds of all states between references.
+//!
 //! A law shows that the combining machine has exactly the results of the flat machine
 //! ([`results_are_those_of_the_flat_machine`]), so they do not depend on the sizes of its queues and wait buffers.
 #![tactic(auto)]
 
+mod broken;
 mod ending;
+mod fairness;
+mod judging;
 pub mod laws;
 mod opening;
 mod order;
@@ -19,8 +24,9 @@ mod result_laws;
 mod run;
 mod way;
 
+pub use judging::{Judged, Verdict, judge};
 pub use opening::words_of;
-pub use outcome::{Explored, FinalResult, ProcessorResult};
+pub use outcome::{Explored, Fairness, FinalResult, ProcessorResult};
 pub use refusal::Refusal;
 pub use run::{Search, explore};
 pub use state_graph::Termination;

@@ -2,8 +2,8 @@
 
 ghost use Rattle.std.specs.Prelude.{◌<◌, ◌≤◌, length};
 ghost use Rattle.state_search.specs.Rows.{IsRowExchanged};
-ghost use Rattle.state_search.specs.Search.{AreClasses};
-ghost use Rattle.state_search.specs.StateTables.{IsRow};
+ghost use Rattle.state_search.specs.state_store.Moves.{AreClasses};
+ghost use Rattle.state_search.specs.state_store.StateTables.{IsRow};
 
 use flat_machine::Status;
 use state_search::{Extent, SavedLocalState, StateTables, StateVector, trade};

@@ -74,12 +74,23 @@ fn are_same(some: &[ProcessorResult], others: &[ProcessorResult]) -> bool
     true
 }
 
+/// What a search says of fair schedules: those in which each processor that runs takes turns again and again.
+#[derive(Clone, Copy, Debug, PartialEq, Eq, Drop)]
+pub enum Fairness {
+    /// Every fair schedule ends.
+    Ends,
+    /// Nothing: it was not asked for, or the search found no ranks by which every fair schedule ends.
+    Unknown,
+}
+
 /// All final results, up to exchanges of processors of one class, and whether schedules end.
 #[derive(Drop)]
 pub struct Explored {
     /// The results, in the order of their discovery. In each, the processors of a class are sorted by their results.
     pub results: Vec<FinalResult>,
     pub termination: Termination,
+    /// Whether every fair schedule ends, if this was asked for.
+    pub fairness: Fairness,
     /// How many states the search found.
     pub states: usize,
     /// The class of each processor, named by the first processor in it. A result stands for all that exchanges of

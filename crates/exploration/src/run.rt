@@ -2,6 +2,7 @@
 
 ghost use Rattle.std.specs.Prelude.{◌≡◌, ◌<◌, ◌≤◌, ◌^◌, ℕ, false, Contains, length, IfErr, IfOk};
 ghost use Rattle.local_reduction.specs.Results.{FinalResult, HaveStopped, IsFlatResult, StandsFor, result_at};
+ghost use Rattle.exploration.specs.Fairness.{IsFairnessAt, IsFairnessOf};
 ghost use Rattle.exploration.specs.Endings.{AreInOrder, AreSingle, IsEnding, IsOnce, IsStoodFor};
 ghost use Rattle.exploration.specs.States.{AreAllStates, HasManyStates, IsGivenUp};
 ghost use Rattle.state_graph.specs.Laws.{IsTerminationOf};
@@ -12,12 +13,14 @@ ghost use Rattle.state_graph.specs.Ranks.{no_rank};
 ghost use Rattle.state_graph.specs.Termination.{IsTrueOf};
 ghost use Rattle.exploration.specs.Results.{IsMachineResult};
 ghost use Rattle.state_search.specs.Ends.{AreRows};
-ghost use Rattle.state_search.specs.TransitionCache.{KnowsLists, KnowsLocalStates};
-ghost use Rattle.state_search.specs.Opening.{AreOfExtent, flat_of};
+ghost use Rattle.state_search.specs.state_store.TransitionCache.{KnowsLists, KnowsLocalStates};
+ghost use Rattle.state_search.specs.state_store.Opening.{AreOfExtent, flat_of};
 ghost use Rattle.state_search.specs.Refusals.{IsGivenUpFor};
-ghost use Rattle.state_search.specs.Search.{AreClasses, state_at};
+ghost use Rattle.state_search.specs.Search.{state_at};
+ghost use Rattle.state_search.specs.state_store.Moves.{AreClasses};
 
 use crate::ending::results_of;
+use crate::fairness::fairness_of;
 use crate::opening::{cores_of, words_of};
 use crate::outcome::Explored;
 use crate::refusal::Refusal;
@@ -40,6 +43,8 @@ pub struct Search {
     pub limit: u32,
     /// Whether alike processors are exchanged. If not, every result is listed.
     pub exchanged: bool,
+    /// Whether it is asked if every fair schedule ends. If so, no processors are exchanged.
+    pub fair: bool,
     /// The result to which a way is wanted, counted from 1; 0 for a state from which no end can be reached.
     pub wanted: Option<u32>,
 }
@@ -71,12 +76,13 @@ pub fn explore<G: SearchObserver>(
     ensures classes { IfOk result (λ e. length e.classes.items ≡ 2 ^ machine.now.config.k) }
     ensures single { IfOk result (λ e. wish.exchanged ≡ false → AreSingle (2 ^ machine.now.config.k) e.classes.items) }
     ensures termination { IfOk result (λ e. IsTerminationOf (flat_state machine.now) e.termination) }
+    ensures fairness { IfOk result (λ e. IsFairnessOf (flat_state machine.now) e.fairness) }
     ensures states { IfOk result
         (λ e. AreAllStates (flat_state machine.now) e.classes.items e.results.items e.termination e.states) }
     ensures few { IfOk result (λ e. e.states < wish.limit) }
     ensures given_up { IfErr result (IsGivenUp (flat_state machine.now) wish.limit) }
 {
-    if wish.exchanged {
+    if wish.exchanged && !wish.fair {
         match explore_as(alloc, machine, wish, true, observer) {
             Ok(explored) => return Ok(explored),
             Err(SearchRefusal::Asks) => {}
@@ -107,6 +113,7 @@ fn explore_as<G: SearchObserver>(
     ensures classes { IfOk result (λ e. length e.classes.items ≡ 2 ^ machine.now.config.k) }
     ensures single { IfOk result (λ e. exchanged ≡ false → AreSingle (2 ^ machine.now.config.k) e.classes.items) }
     ensures termination { IfOk result (λ e. IsTerminationOf (flat_state machine.now) e.termination) }
+    ensures fairness { IfOk result (λ e. IsFairnessOf (flat_state machine.now) e.fairness) }
     ensures states { IfOk result
         (λ e. AreAllStates (flat_state machine.now) e.classes.items e.results.items e.termination e.states) }
     ensures few { IfOk result (λ e. e.states < wish.limit) }
@@ -128,7 +135,7 @@ fn explore_as<G: SearchObserver>(
 }
 
 /// The extent of a machine.
-fn extent_of(machine: &Machine, exchanged: bool) -> Extent
+pub(crate) fn extent_of(machine: &Machine, exchanged: bool) -> Extent
     ensures { result
         ≡ record {
           processors = 2 ^ machine.now.config.k;
@@ -164,6 +171,7 @@ fn explored_by_width<G: SearchObserver>(
     ensures once { IfOk result (λ e. IsOnce e.results.items) }
     ensures classes { IfOk result (λ e. AreClasses extent e.classes.items) }
     ensures termination { IfOk result (λ e. IsTerminationOf (flat_of code.now cores.now words) e.termination) }
+    ensures fairness { IfOk result (λ e. IsFairnessOf (flat_of code.now cores.now words) e.fairness) }
     ensures states { IfOk result
         (λ e. AreAllStates (flat_of code.now cores.now words) e.classes.items e.results.items
         e.termination e.states) }
@@ -202,6 +210,7 @@ fn explore_from<const N: usize, G: SearchObserver>(
     ensures once { IfOk result (λ e. IsOnce e.results.items) }
     ensures classes { IfOk result (λ e. AreClasses extent e.classes.items) }
     ensures termination { IfOk result (λ e. IsTerminationOf (flat_of code.now cores.now words) e.termination) }
+    ensures fairness { IfOk result (λ e. IsFairnessOf (flat_of code.now cores.now words) e.fairness) }
     ensures states { IfOk result
         (λ e. AreAllStates (flat_of code.now cores.now words) e.classes.items e.results.items
         e.termination e.states) }
@@ -212,6 +221,7 @@ fn explore_from<const N: usize, G: SearchObserver>(
     state_graph::laws::each_result_is_stood_for();
     state_graph::laws::successors_decide_termination();
     local_reduction::laws::dead_registers_can_be_forgotten();
+    local_reduction::laws::fairly_ranked_schedules_end();
     let Ok(live) = LiveTable::new(alloc, code) else {
         return Err(SearchRefusal::Memory);
     };
@@ -240,7 +250,7 @@ fn explore_from<const N: usize, G: SearchObserver>(
         extent,
         classes,
         found,
-        wish.wanted,
+        wish,
     )?;
     Ok(explored)
 }
@@ -255,7 +265,7 @@ fn results_of_space<const N: usize>(
     extent: Extent,
     classes: Vec<u8>,
     found: StateSpace<N>,
-    wanted: Option<u32>,
+    wish: Search,
 ) -> Result<Explored, MoveRefusal>
     requires live { HasAllLive code.now state_tables.old.live }
     requires rows { AreRows extent state_tables.old found.rows.keys }
@@ -276,6 +286,8 @@ fn results_of_space<const N: usize>(
         → IsStoodFor classes.items e.results.items (result_at
         (state_at extent state_tables.old found.entry.rows.keys i))) }
     ensures termination { IfOk result (λ e. IsTrueOf found.entry.moves e.termination) }
+    ensures fairness { IfOk result
+        (λ e. IsFairnessAt extent code.now state_tables.old found.entry.rows.keys e.fairness) }
     ensures order { IfOk result (λ e. AreInOrder classes.items (state_at extent state_tables.old found.entry.rows.keys)
         (length found.entry.rows.keys) e.results.items) }
     ensures states { IfOk result (λ e. e.states ≡ length found.entry.moves) }
@@ -292,9 +304,19 @@ fn results_of_space<const N: usize>(
     let Ok(termination) = termination_of(alloc, &found.moves) else {
         return Err(MoveRefusal::Memory);
     };
-    let way = match place_of(endings.places.as_slice(), termination, wanted) {
+    let fairness = fairness_of(
+        alloc,
+        state_tables,
+        transition_caches,
+        code,
+        extent,
+        classes.as_slice(),
+        &found,
+        wish.fair,
+    )?;
+    let way = match place_of(endings.places.as_slice(), termination, wish.wanted) {
         Some(place) => {
-            let is_end = wanted != Some(0);
+            let is_end = wish.wanted != Some(0);
             way_of(
                 alloc,
                 state_tables,
@@ -312,6 +334,7 @@ fn results_of_space<const N: usize>(
     Ok(Explored {
         results: endings.results,
         termination,
+        fairness,
         states: found.moves.len(),
         classes,
         way,

@@ -3,8 +3,8 @@
 ghost use Rattle.std.specs.Prelude.{◌≡◌, ◌<◌, ◌≤◌, length, OnOk};
 ghost use Rattle.local_reduction.specs.Live.{HasAllLive};
 ghost use Rattle.state_search.specs.Ends.{AreRows};
-ghost use Rattle.state_search.specs.TransitionCache.{KnowsLists, KnowsLocalStates};
-ghost use Rattle.state_search.specs.Search.{AreClasses};
+ghost use Rattle.state_search.specs.state_store.TransitionCache.{KnowsLists, KnowsLocalStates};
+ghost use Rattle.state_search.specs.state_store.Moves.{AreClasses};
 
 use crate::order::in_order;
 use local_memory::Code;

@@ -25,7 +25,7 @@ use Rattle.machine_steps.specs.Runs.{events_of}
 use Rattle.command_io.specs.Events.{shown_from, with_event}
 use Rattle.command_io.specs.Tallies.{ShownBy, TallyState, nothing_shown, with_byte}
 use Rattle.machine_steps.specs.Standing.{HasRunning, processor_of}
-use Rattle.trace_commands.specs.CountedReplays.{IsReplayCounted}
+use Rattle.run_reports.specs.CountedReplays.{IsReplayCounted}
 use Rattle.exploration.specs.local_reduction.LocalStates.{printed_after}
 use Rattle.exploration.specs.local_reduction.Results.{FinalResult, ProcessorResult, result_with}
 use Rattle.exploration.specs.Results.{NoneRuns, machine_result, printed_by, stands_after}

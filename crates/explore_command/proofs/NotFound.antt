@@ -13,7 +13,7 @@ use Rattle.explore_command.specs.declared.refused.Refused.{Refused}
 use Rattle.explore_command.specs.declared.refused.Refused.TheVariants as refused
 use Rattle.explore_command.specs.Causes.{IsNotFound, IsNotSaved, IsNotSearched, IsRefused}
 use Rattle.explore_command.specs.Explorations.{AreResultsOf, Exploration, Problem, SearchResult, marks_of, problem_of}
-use Rattle.trace_commands.specs.TraceReports.{TraceOutput}
+use Rattle.run_reports.specs.RunReports.{TraceOutput}
 
 module _ {T : Type 0} (observed : Option (List Bool)) (p : Problem) (trace : TraceOutput T) (opening : MachineLists)
     (opens : IsOpening p.config p.image opening) where

@@ -4,7 +4,7 @@ use Rattle.command_io.specs.declared.fault.Fault.TheVariants as fault
 use Rattle.exploration.specs.local_reduction.Results.{FinalResult}
 use Rattle.steps.specs.declared.step.Step.{Step}
 use Rattle.trace_file.specs.Traces.{trace_bytes, trace_of}
-use Rattle.trace_commands.specs.TraceReports.{HasSaved, TraceOutput, trace_output}
+use Rattle.run_reports.specs.RunReports.{HasSaved, TraceOutput, trace_output}
 use Rattle.explore_command.specs.declared.refused.Refused.{Refused}
 use Rattle.explore_command.specs.declared.refused.Refused.TheVariants as refused
 use Rattle.explore_command.specs.Causes.{IsNotFound, IsNotLedTo}

@@ -26,7 +26,7 @@ use Rattle.exploration.specs.state_graph.Laws.{IsTerminationOf}
 use Rattle.explore_command.specs.declared.refused.Refused.{Refused}
 use Rattle.explore_command.specs.declared.refused.Refused.TheVariants as refused
 use Rattle.explore_command.specs.Refusals.{HasWitness}
-use Rattle.trace_commands.specs.TraceReports.{HasPartSaved, TraceOutput}
+use Rattle.run_reports.specs.RunReports.{HasPartSaved, TraceOutput}
 use Rattle.explore_command.specs.Explorations.{AreResultsOf, Exploration, IsWanted, PrintsSomeResults, Problem}
 use Rattle.explore_command.specs.Explorations.{SearchResult, marks_of, problem_of}
 use Rattle.observed_results.specs.Parts.{count_of}

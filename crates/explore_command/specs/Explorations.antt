@@ -1,5 +1,6 @@
 -- What the command prints: from the bytes of a file to all final results of the program in it.
-use Rattle.std.specs.Prelude.{◌≡◌, ℕ, ◌<◌, ◌^◌, Bool, true, List, MatchOption, Option, Some, None, All, length}
+use Rattle.std.specs.Prelude.{◌≡◌, ℕ, ◌<◌, ◌^◌, ◌++◌, Bool, true, false, codes, List, [], MatchOption, Option, Some}
+use Rattle.std.specs.Prelude.{None, All, length}
 use Rattle.std.specs.Prelude.{option_map}
 use Rattle.flat_machine.specs.declared.config.Config.{Config}
 use Rattle.elf_image.specs.Files.{IsImageOf}
@@ -13,12 +14,15 @@ use Rattle.machine_steps.specs.Openings.{flat_state}
 use Rattle.machine_steps.specs.Standing.{IsFaulted}
 use Rattle.exploration.specs.local_reduction.Results.{ProcessorResult, FinalResult}
 use Rattle.exploration.specs.Endings.{AreResultsUpTo, AreSingle, IsOnce}
+use Rattle.exploration.specs.Fairness.{IsFairnessOf}
 use Rattle.exploration.specs.States.{AreAllStates}
+use Rattle.exploration.specs.declared.outcome.Fairness.{Fairness}
+use Rattle.exploration.specs.declared.outcome.Fairness.TheVariants as fairness
 use Rattle.exploration.specs.state_graph.declared.termination.Termination.{Termination}
 use Rattle.exploration.specs.state_graph.declared.termination.Termination.TheVariants as fact
 use Rattle.exploration.specs.state_graph.Laws.{IsTerminationOf}
 use Rattle.explore_command.specs.declared.command.Asked.{Asked}
-use Rattle.trace_commands.specs.TraceReports.{HasSaved, TraceOutput}
+use Rattle.run_reports.specs.RunReports.{HasSaved, TraceOutput}
 use Rattle.explore_command.specs.Witnesses.{IsWitness, target}
 use Rattle.observed_results.specs.Lines.{observed_parts, parts_lines, results_lines}
 use Rattle.observed_results.specs.Parts.{HasPart}
@@ -71,16 +75,22 @@ pub record Exploration : Type 0 where
 abbrev pub exploration_of : Config → Asked → Input → Exploration
 exploration_of c asked file = record { config = c; asked = asked; file = file }
 
--- What a search finds: classes of processors, results, whether schedules end, and the number of states.
+-- What a search finds: classes of processors, results, whether schedules and fair ones end, and the number of states.
 pub record SearchResult : Type 0 where
   pub classes : List ℕ
   pub results : List FinalResult
   pub termination : Termination
+  pub fairness : Fairness
   pub states : ℕ
 
-abbrev pub search_result : (classes : List ℕ) → List FinalResult → Termination → (states : ℕ) → SearchResult
-search_result classes results termination states =
-    record { classes = classes; results = results; termination = termination; states = states }
+abbrev pub search_result : (classes : List ℕ) → List FinalResult → Termination → Fairness → (states : ℕ) → SearchResult
+search_result classes results termination fairness states = record {
+  classes = classes;
+  results = results;
+  termination = termination;
+  fairness = fairness;
+  states = states;
+}
 
 -- These are the final results of the machine that opens on the image, up to exchanges of processors of one class, and
 -- this says whether its schedules end. If each result is asked for, each processor is in its own class.
@@ -90,6 +100,7 @@ pub record IsFound (p : Problem) (found : SearchResult) : Type 0 where
   pub all : AreResultsOf opening found.classes found.results
   pub single : p.asked.each ≡ true → AreSingle (2 ^ p.config.k) found.classes
   pub fact : IsTerminationOf (flat_state opening) found.termination
+  pub fair : IsFairnessOf (flat_state opening) found.fairness
   -- There are this many states, and fewer than the limit.
   pub counted : AreAllStates (flat_state opening) found.classes found.results found.termination found.states
   pub few : found.states < p.asked.limit
@@ -105,6 +116,14 @@ abbrev pub lines_of : (observed : Option (List Bool)) → SearchResult → List 
 lines_of None found = results_lines found.results found.classes found.states found.termination
 lines_of (Some marks) found =
     parts_lines (observed_parts marks found.results) found.classes found.states found.termination
+
+-- ---- fair schedules
+
+-- the line on fair schedules, if it is asked for
+abbrev pub fairness_text : (asked : Bool) → Fairness → List ℕ
+fairness_text false f = []
+fairness_text true fairness.Ends = codes "every fair schedule ends\n"
+fairness_text true fairness.Unknown = codes "some fair schedule may never end\n"
 
 -- ---- what is printed
 
@@ -129,7 +148,7 @@ pub record AreExplored {T : Type 0} (observed : Option (List Bool)) (p : Problem
     (text : List ℕ) (status : ℕ) : Type 0 where
   pub found : SearchResult
   pub is : IsFound p found
-  pub lines : text ≡ lines_of observed found
+  pub lines : text ≡ lines_of observed found ++ fairness_text p.asked.fair found.fairness
   pub exit : IsExitOf found.results found.termination status
   pub witnessed : IsWitnessed observed p found.results trace
 

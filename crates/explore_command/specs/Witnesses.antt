@@ -11,7 +11,7 @@ use Rattle.machine_steps.specs.Runs.{IsOpening, IsReplay}
 use Rattle.machine_steps.specs.machine_theory.Processors.{word_at}
 use Rattle.command_io.specs.Tallies.{ShownBy, TallyState, nothing_shown}
 use Rattle.machine_steps.specs.Standing.{HasRunning, processor_of}
-use Rattle.trace_commands.specs.CountedReplays.{IsReplayCounted}
+use Rattle.run_reports.specs.CountedReplays.{IsReplayCounted}
 use Rattle.exploration.specs.local_reduction.Results.{FinalResult, ProcessorResult}
 use Rattle.exploration.specs.Results.{IsMachineResult, NoneRuns, machine_result, stands_after}
 

@@ -3,10 +3,10 @@
 ghost use Rattle.std.specs.Prelude.{◌≡◌, ◌≤◌, ◌↔◌, true, false, IfOk, IfErr, IsErrOf, OnErr};
 ghost use Rattle.command_io.specs.Links.{input, output};
 ghost use Rattle.command_io.specs.Printing.{Prints, ReportsRefusal};
-ghost use Rattle.trace_commands.specs.TraceReports.{IsWorking};
+ghost use Rattle.run_reports.specs.RunReports.{IsWorking};
 ghost use Rattle.explore_command.specs.Causes.{ExploreFails, IsRefused, IsReportedAs, status_of, unknown_line};
 ghost use Rattle.explore_command.specs.Explorations.{PrintsResults, exploration_of};
-ghost use Rattle.trace_commands.specs.TraceReports.{trace_output};
+ghost use Rattle.run_reports.specs.RunReports.{trace_output};
 
 use crate::refused::Refused;
 use crate::searching::explore_image;
@@ -28,6 +28,8 @@ pub struct Asked<'a> {
     pub limit: u32,
     /// Whether each result is listed by itself, so that processors that are alike are not exchanged.
     pub each: bool,
+    /// Whether it is asked if every fair schedule ends. If so, processors that are alike are not exchanged.
+    pub fair: bool,
     /// The number of the result to which the trace leads, counted from 1, or 0 for a state from which no end can be
     /// reached. Ignored if no trace is asked for.
     pub witness: u32,

@@ -10,6 +10,7 @@
 #![tactic(auto)]
 
 mod command;
+mod fairness;
 mod greatest;
 pub mod laws;
 mod left;

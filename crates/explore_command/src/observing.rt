@@ -8,7 +8,7 @@ ghost use Rattle.exploration.specs.state_graph.Laws.{IsTerminationOf};
 ghost use Rattle.machine_steps.specs.Machines.{AreHome, IsIdle};
 ghost use Rattle.machine_steps.specs.Openings.{flat_state};
 ghost use Rattle.machine_steps.specs.Runs.{IsOpening};
-ghost use Rattle.trace_commands.specs.TraceReports.{IsWorking, trace_output};
+ghost use Rattle.run_reports.specs.RunReports.{IsWorking, trace_output};
 ghost use Rattle.explore_command.specs.Causes.{IsNotFound, IsNotLedTo, IsNotSearched};
 ghost use Rattle.explore_command.specs.Explorations.{AreExplored, AreResultsOf, IsWanted, IsWitnessed};
 ghost use Rattle.explore_command.specs.Explorations.{problem_of};
@@ -16,6 +16,7 @@ ghost use Rattle.observed_results.specs.Parts.{AreParts};
 ghost use Rattle.trace_file.specs.Traces.{IsTrace, trace_of};
 
 use crate::command::Asked;
+use crate::fairness::push_fairness;
 use crate::refused::Refused;
 use crate::searching::{find_results, search_of};
 use crate::status::exit_status;
@@ -27,8 +28,8 @@ use link::LinkWrite;
 use machine_log::Logged;
 use machine_steps::Machine;
 use observed_results::{ObservedWords, Parts, parts_of, parts_text};
+use run_reports::save;
 use std::alloc::Global;
-use trace_commands::save;
 
 /// The lines of the different observed parts of the results of a machine that has just opened, and the exit status.
 /// Writes the trace of a way to the first result that has the wanted part, if one is asked for.
@@ -55,7 +56,8 @@ pub(crate) fn explore_observed<T: LinkWrite, G: SearchObserver>(
     let results = found.results.as_slice();
     let classes = found.classes.as_slice();
     let parts = parts_of(alloc, results, words)?;
-    let text = parts_text(alloc, &parts, classes, found.states, found.termination)?;
+    let mut text = parts_text(alloc, &parts, classes, found.states, found.termination)?;
+    push_fairness(&mut text, asked.fair, found.fairness)?;
     save_wanted(
         alloc, machine, config, asked, &found, &parts, trace, observer,
     )?;

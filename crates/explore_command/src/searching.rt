@@ -7,16 +7,18 @@ ghost use Rattle.machine_steps.specs.Openings.{flat_state};
 ghost use Rattle.machine_steps.specs.Machines.{AreHome, IsIdle};
 ghost use Rattle.machine_steps.specs.Runs.{IsOpening};
 ghost use Rattle.exploration.specs.Endings.{AreSingle};
+ghost use Rattle.exploration.specs.Fairness.{IsFairnessOf};
 ghost use Rattle.exploration.specs.States.{AreAllStates};
 ghost use Rattle.exploration.specs.state_graph.Laws.{IsTerminationOf};
-ghost use Rattle.trace_commands.specs.TraceReports.{IsWorking};
+ghost use Rattle.run_reports.specs.RunReports.{IsWorking};
 ghost use Rattle.explore_command.specs.Causes.{IsNotFound, IsNotSaved, IsNotSearched};
 ghost use Rattle.explore_command.specs.Explorations.{AreExplored, AreResultsOf, IsWitnessed, marks_of, problem_of};
 ghost use Rattle.explore_command.specs.Explorations.{search_result};
 ghost use Rattle.explore_command.specs.Refusals.{HasWitness, fault_of_search};
-ghost use Rattle.trace_commands.specs.TraceReports.{trace_output};
+ghost use Rattle.run_reports.specs.RunReports.{trace_output};
 
 use crate::command::Asked;
+use crate::fairness::push_fairness;
 use crate::observing::explore_observed;
 use crate::refused::Refused;
 use crate::status::exit_status;
@@ -28,8 +30,8 @@ use flat_machine::Config;
 use link::LinkWrite;
 use machine_steps::Machine;
 use observed_results::results_text;
+use run_reports::save;
 use std::alloc::Global;
-use trace_commands::save;
 
 /// The lines of the results, and the exit status. Writes the trace of a witness, if one is asked for.
 pub(crate) fn explore_image<T: LinkWrite, G: SearchObserver>(
@@ -107,7 +109,8 @@ fn explore_all<T: LinkWrite, G: SearchObserver>(
     let found = find_results(alloc, machine, search, observer)?;
     let results = found.results.as_slice();
     let classes = found.classes.as_slice();
-    let text = results_text(alloc, results, classes, found.states, found.termination)?;
+    let mut text = results_text(alloc, results, classes, found.states, found.termination)?;
+    push_fairness(&mut text, asked.fair, found.fairness)?;
     save_witness(alloc, machine.image(), config, &found, asked, trace)?;
     Ok((text, exit_status(results, found.termination)))
 }
@@ -120,6 +123,7 @@ pub(crate) fn search_of(asked: Asked<'_>, is_wanted: bool) -> Search
     Search {
         limit: asked.limit,
         exchanged: !asked.each,
+        fair: asked.fair,
         wanted: if is_wanted { Some(asked.witness) } else { None },
     }
 }
@@ -137,6 +141,7 @@ pub(crate) fn find_results<G: SearchObserver>(
     ensures single { IfOk result (λ found. search.exchanged ≡ false →
         AreSingle (2 ^ machine.now.config.k) found.classes.items) }
     ensures termination { IfOk result (λ found. IsTerminationOf (flat_state machine.now) found.termination) }
+    ensures fairness { IfOk result (λ found. IsFairnessOf (flat_state machine.now) found.fairness) }
     ensures states { IfOk result (λ found. AreAllStates (flat_state machine.now) found.classes.items found.results.items
         found.termination found.states) }
     ensures few { IfOk result (λ found. found.states < search.limit) }
@@ -175,7 +180,8 @@ fn save_witness<T: LinkWrite>(
     ensures saved { OnOk result (IsWitnessed None (problem_of config image.now asked.entry) found.now.results.items
         (trace_output T.contents trace.old trace.new)) }
     ensures refused { IfErr result (IsNotSaved None (problem_of config image.now asked.entry)
-        (search_result found.now.classes.items found.now.results.items found.now.termination found.now.states)
+        (search_result found.now.classes.items found.now.results.items found.now.termination found.now.fairness
+        found.now.states)
         (trace_output T.contents trace.old trace.new)) }
     ensures unknown { trace.old ≢ None
         → (HasWitness (length found.now.results.items) found.now.termination asked.entry.witness → ⊥)

@@ -180,7 +180,7 @@ fn explore_size<G: SearchObserver>(
 ) -> Result<Explored, Fault>
     requires words { image.now.shared_words ≡ config.shared_words }
     ensures found { IfOk result (λ found. IsFound (problem_of config image.now asked.entry)
-        (search_result found.classes.items found.results.items found.termination found.states)) }
+        (search_result found.classes.items found.results.items found.termination found.fairness found.states)) }
     ensures refused { IfErr result (IsSizeRefused (problem_of config image.now asked.entry)) }
     ensures size { (IsWithinLimits config → ⊥) → IsErrOf result Fault.Size }
 {

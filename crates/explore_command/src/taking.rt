@@ -9,9 +9,9 @@ use command_io::{Fault, Tally, machine_of_copy};
 use elf_image::Image;
 use flat_machine::Config;
 use machine_steps::Machine;
+use run_reports::replay_counted;
 use std::alloc::Global;
 use steps::Step;
-use trace_commands::replay_counted;
 
 /// The machine that opened on a copy of the image and took these steps, and what its processors have shown in them.
 #[tactic(auto, using(crate::proofs::Refusing::size_refuses))]

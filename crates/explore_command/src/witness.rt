@@ -162,6 +162,7 @@ fn look_for_an_end(alloc: Global, machine: &Machine, limit: u32) -> Result<(), R
     let search = Search {
         limit,
         exchanged: true,
+        fair: false,
         wanted: None,
     };
     match explore(alloc, machine, search, &mut NoProgress) {

@@ -4,8 +4,10 @@ mod agreement;
 mod counts;
 mod ends;
 mod exchanges;
+mod fairness;
 mod hunting;
 mod order;
+mod properties;
 mod random_schedules;
 mod spinning;
 mod texts;
@@ -29,6 +31,7 @@ const fn each(limit: u32) -> Search {
     Search {
         limit,
         exchanged: false,
+        fair: false,
         wanted: None,
     }
 }
@@ -38,6 +41,7 @@ const fn exchanged(limit: u32) -> Search {
     Search {
         limit,
         exchanged: true,
+        fair: false,
         wanted: None,
     }
 }

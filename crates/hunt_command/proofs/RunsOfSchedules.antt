@@ -5,8 +5,8 @@ use Rattle.flat_machine.specs.declared.config.Config.{Config}
 use Rattle.flat_machine.specs.Limits.{IsWithinLimits}
 use Rattle.elf_image.specs.Images.{ImageContents}
 use Rattle.trace_file.specs.Traces.{HaveRecords}
-use Rattle.trace_commands.specs.CountedReplays.{IsReplayCounted}
-use Rattle.trace_commands.proofs.Lemmas.{StepObserver, all_replayed, is_spelled}
+use Rattle.run_reports.specs.CountedReplays.{IsReplayCounted}
+use Rattle.run_reports.proofs.Lemmas.{StepObserver, all_replayed, is_spelled}
 use Rattle.machine_steps.specs.Draining.{drain_steps}
 use Rattle.machine_steps.specs.Machines.{MachineLists}
 use Rattle.machine_steps.specs.Noting.{AreNoted}

@@ -21,8 +21,8 @@ use Rattle.command_io.specs.FaultTexts.{IsReported}
 use Rattle.command_io.specs.Links.{Input, IsOfLink, Output}
 use Rattle.command_io.specs.Printing.{PrintsPrefix}
 use Rattle.command_io.specs.Tallies.{TallyState}
-use Rattle.trace_commands.specs.Reports.{IsExitOf}
-use Rattle.trace_commands.specs.CountedReplays.{IsReplayCounted}
+use Rattle.run_reports.specs.Reports.{IsExitOf}
+use Rattle.run_reports.specs.CountedReplays.{IsReplayCounted}
 use Rattle.hunt_command.specs.declared.command.Hunt.{Hunt}
 use Rattle.hunt_command.specs.declared.refused.Refused.{Refused}
 use Rattle.hunt_command.specs.declared.refused.Refused.TheVariants as refused

@@ -11,7 +11,7 @@ use Rattle.schedules.specs.declared.sweeping.SweepEnd.TheVariants.{Over, Budget}
 use Rattle.command_io.specs.Digits.{hex_of_word, line_feed, status_text}
 use Rattle.command_io.specs.Lines.{console_text}
 use Rattle.command_io.specs.Tallies.{ShownBy, nothing_shown}
-use Rattle.trace_commands.specs.Reports.{shared_lines}
+use Rattle.run_reports.specs.Reports.{shared_lines}
 use Rattle.observed_results.specs.Lines.{observed_line}
 
 -- how a run ended

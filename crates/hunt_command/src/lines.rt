@@ -14,10 +14,10 @@ use command_io::{Shown, Tally, push_console, push_shared_word, push_status, push
 use flat_machine::Status;
 use machine_steps::Machine;
 use observed_results::ObservedWords;
+use run_reports::push_words;
 use schedules::SweepEnd;
 use std::alloc::{AllocError, Global};
 use std::fmt::Write;
-use trace_commands::push_words;
 
 /// The result of a run: how it ended, a line for each processor, with its pc or without, and a line for each observed
 /// word that is not zero; if no words are chosen, for each shared word that is not zero. The run left this machine, and

@@ -3,7 +3,7 @@
 ghost use Rattle.std.specs.Prelude.{◌≡◌, ◌≤◌, List, IfErr, IfOk, length, option_map, string_bytes};
 ghost use Rattle.machine_steps.specs.Machines.{AreHome, MachineLists};
 ghost use Rattle.steps.specs.declared.step.Step.{Step};
-ghost use Rattle.trace_commands.specs.CountedReplays.{IsReplayCounted};
+ghost use Rattle.run_reports.specs.CountedReplays.{IsReplayCounted};
 ghost use Rattle.schedules.specs.Sweeps.{most_of};
 ghost use Rattle.command_io.specs.Files.{IsFaultOfSize};
 ghost use Rattle.hunt_command.specs.Hunts.{AreFound, IsDrainedTo, IsLogOf, IsResultOf, greater};
@@ -18,9 +18,9 @@ use flat_machine::Config;
 use machine_log::{Logged, laws};
 use machine_steps::Machine;
 use observed_results::ObservedWords;
+use run_reports::{drain_counted, exit_status};
 use schedules::SweepEnd;
 use std::alloc::Global;
-use trace_commands::{drain_counted, exit_status};
 
 /// The log of the run with this number, on a machine of this size that opens on a copy of the image, and how the run
 /// ended.

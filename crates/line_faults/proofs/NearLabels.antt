@@ -7,9 +7,9 @@ use Rattle.std.specs.Cmp.Lexicographic.{slice_cmp}
 use Rattle.std.specs.Ordering.{nat_cmp}
 use Rattle.assembler.specs.Meaning.{Labels}
 use Rattle.line_faults.specs.AdviceAtFault.{IsNearLabel}
-use Rattle.line_faults.specs.FirstWords.{few_edits, nearer}
+use Rattle.word_faults.specs.FirstWords.{few_edits, nearer}
 use Rattle.line_faults.specs.Places.{label_values, symbol_of}
-use Rattle.line_faults.specs.Views.{near_view}
+use Rattle.word_faults.specs.Views.{near_view}
 use Rattle.line_faults.specs.declared.labels.Label.{Label}
 
 -- A key of the map is a label.

@@ -13,17 +13,19 @@ use Rattle.asm_lines.specs.Statements.{is_name}
 use Rattle.assembler.specs.declared.fault.AsmFault.{AsmFault}
 use Rattle.assembler.specs.declared.fault.AsmFault.TheVariants.{UnknownWord, Form, Range, LabelTwice, LabelMissing, SectionFull, Memory}
 use Rattle.assembler.specs.Meaning.{Labels}
-use Rattle.line_faults.specs.declared.shape.Wanted.{Wanted}
-use Rattle.line_faults.specs.declared.shape.Wanted.TheVariants.{Register, Lower, Upper, Shift, Fence, Branch, Jump, Address, Base, Word, Byte, Count}
-use Rattle.line_faults.specs.Spans.{Span, span, StandsIn, end_of, blanks_before, trimmed_span, round_byte, cut_span, both_trimmed, bracketed_span}
-use Rattle.line_faults.specs.Spans.{spans_from, operand_spans}
-use Rattle.line_faults.specs.Wants.{Wants, wants_of, wanted_at}
-use Rattle.line_faults.specs.WordAtFault.{LineSpans, before_mark, text_span, label_spans, word_spans}
-use Rattle.line_faults.specs.WordAtFault.{statement_spans, spans_by, spans_of_line, unless}
-use Rattle.line_faults.specs.WordAtFault.{part_named, part_label, label_within, is_number, value_fault, register_fault, address_fault, base_fault}
-use Rattle.line_faults.specs.WordAtFault.{fault_within, missing_within, first_in, is_parted, count_fault, some_operands_fault}
-use Rattle.line_faults.specs.WordAtFault.{operands_fault, form_fault, label_missing, target_span, word_within}
-use Rattle.line_faults.proofs.Cutting.{trimmed_cut, RoundByte, cut_round, cut_last_round}
+use Rattle.word_faults.specs.declared.shape.Wanted.{Wanted}
+use Rattle.word_faults.specs.declared.shape.Wanted.TheVariants.{Register, Lower, Upper, Shift, Fence, Branch, Jump, Address, Base, Word, Byte, Count}
+use Rattle.word_faults.specs.Spans.{Span, span, StandsIn, end_of, blanks_before, trimmed_span, round_byte, cut_span, both_trimmed, bracketed_span}
+use Rattle.word_faults.specs.Spans.{spans_from, operand_spans}
+use Rattle.word_faults.specs.Wants.{Wants, wants_of, wanted_at}
+use Rattle.word_faults.specs.WrongOperands.{LineSpans, before_mark, text_span, label_spans, word_spans}
+use Rattle.word_faults.specs.WrongOperands.{statement_spans, spans_by, spans_of_line, unless}
+use Rattle.word_faults.specs.WrongOperands.{part_named, part_label, label_within, is_number, value_fault, register_fault, address_fault, base_fault}
+use Rattle.line_faults.specs.WordAtFault.{missing_within}
+use Rattle.word_faults.specs.WrongOperands.{fault_within, first_in, is_parted, count_fault, some_operands_fault}
+use Rattle.line_faults.specs.WordAtFault.{label_missing, target_span, word_within}
+use Rattle.word_faults.specs.WrongOperands.{operands_fault, form_fault}
+use Rattle.word_faults.proofs.Lemmas.{trimmed_cut, RoundByte, cut_round, cut_last_round}
 
 -- The line is the text before the piece, the piece, and the text after it.
 pub record Splits (line : List ℕ) (s : Span) : Type 0 where

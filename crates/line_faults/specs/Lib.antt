@@ -1,9 +1,6 @@
 pub mod Places
 pub mod Faults
-pub mod Spans
-pub mod Wants
 pub mod WordAtFault
-pub mod Views
-pub mod Advice
-pub mod FirstWords
 pub mod AdviceAtFault
+-- Definitions of wrong words, passed on to the crates above.
+pub use Rattle.word_faults.specs as word_faults

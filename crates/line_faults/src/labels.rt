@@ -1,15 +1,15 @@
 //! The labels of a text.
 
 ghost use Rattle.std.specs.Prelude.{◌≡◌, IfOk, IfSome};
-ghost use Rattle.line_faults.specs.FirstWords.{few_edits, nearer};
-ghost use Rattle.line_faults.specs.Views.{near_view};
+ghost use Rattle.word_faults.specs.FirstWords.{few_edits, nearer};
+ghost use Rattle.word_faults.specs.Views.{near_view};
 ghost use Rattle.line_faults.specs.AdviceAtFault.{IsNearLabel};
 ghost use Rattle.line_faults.specs.Places.{label_values};
 
-use crate::edits::few_edits;
 use asm_lines::Section;
 use std::alloc::{AllocError, Global};
 use std::collections::BTreeMap;
+use word_faults::few_edits;
 
 /// What is known of a label.
 #[derive(Clone, Copy, Drop)]

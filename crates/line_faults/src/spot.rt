@@ -3,50 +3,25 @@
 ghost use Rattle.std.specs.Prelude.{◌≡◌, ◌%◌, ◌==◌, IfOk, Some, map, unwrap_or, option_and_then, if◌then◌else◌};
 ghost use Rattle.std.specs.Option.{option_map};
 ghost use Rattle.assembler.specs.Meaning.{address};
-ghost use Rattle.line_faults.specs.Advice.{advice_of};
 ghost use Rattle.line_faults.specs.AdviceAtFault.{IsAdviceIn, IsAdvised, IsLabelAdvice, IsStanding, distance_advice};
 ghost use Rattle.line_faults.specs.AdviceAtFault.{far_or_odd, place_advice, last_wanted};
 ghost use Rattle.line_faults.specs.Places.{label_values, place_of, symbol_of};
-ghost use Rattle.line_faults.specs.Spans.{StandsIn, span_of};
-ghost use Rattle.line_faults.specs.Views.{line_spans, spot_span, spot_advice};
-ghost use Rattle.line_faults.specs.Wants.{shape_wants, wanted_at, wants_of};
-ghost use Rattle.line_faults.specs.WordAtFault.{unless, missing_within, first_in, label_missing, target_span};
+ghost use Rattle.line_faults.specs.WordAtFault.{missing_within, label_missing, target_span};
 ghost use Rattle.line_faults.specs.WordAtFault.{word_within, word_at_fault};
+ghost use Rattle.word_faults.specs.Advice.{advice_of};
+ghost use Rattle.word_faults.specs.Spans.{StandsIn, span_of};
+ghost use Rattle.word_faults.specs.Views.{line_spans, spot_span, spot_advice};
+ghost use Rattle.word_faults.specs.Wants.{shape_wants, wanted_at, wants_of};
+ghost use Rattle.word_faults.specs.WrongOperands.{first_in};
 
 use crate::cursor::Cursor;
-use crate::hint::Hint;
 use crate::labels::{Label, Search};
-use crate::operands::{operand_at, wrong_operand};
-use crate::parts::Parts;
-use crate::piece::Piece;
-use crate::shape::{Shape, Wanted};
-use crate::words::unknown_word;
 use assembler::{AsmFault, room_of};
 use std::alloc::{AllocError, Global};
 use std::collections::BTreeMap;
-
-/// The word at fault, and what would be right.
-#[derive(Drop)]
-pub struct Spot<'a> {
-    /// The word at fault.
-    pub piece: Piece<'a>,
-    /// What would be right.
-    pub hint: Hint<'a>,
-}
-
-impl<'a> Spot<'a> {
-    /// The spot, unless everything is right there.
-    pub fn unless(is_right: bool, piece: Piece<'a>, hint: Hint<'a>) -> Option<Spot<'a>>
-        ensures spot { option_map spot_span result ≡ unless is_right (span_of piece.entry) }
-        ensures advice { option_map spot_advice result ≡ unless is_right (advice_of hint.entry) }
-    {
-        if is_right {
-            None
-        } else {
-            Some(Spot { piece, hint })
-        }
-    }
-}
+use word_faults::{
+    Hint, Parts, Piece, Shape, Spot, Wanted, operand_at, unknown_word, wrong_operand,
+};
 
 /// What is known of a line when the search for its fault begins.
 #[derive(Drop)]

@@ -4,20 +4,20 @@ use Rattle.std.proofs.Common.{is_some, option_map}
 use Rattle.std.specs.Prelude.{IfSome, bytes_eq, codes, find, option_and_then}
 use Rattle.std.specs.Option.{option_map_or}
 use Rattle.std.proofs.lemmas.Bool.{eqb-true}
-use Rattle.json.specs.Json.{Json, Members}
-use Rattle.line_formats.specs.Cuts.{after, upto}
-use Rattle.line_formats.specs.Fields.{value_of}
-use Rattle.line_formats.specs.Names.{field_text, insn_text, is_address, line_address, named_line, named_parts, place_after}
+use Rattle.line_shapes.specs.json.Json.{Json, Members}
+use Rattle.line_shapes.specs.Cuts.{after, upto}
+use Rattle.line_shapes.specs.Fields.{value_of}
+use Rattle.line_formats.specs.Names.{Writing, field_text, is_address, line_address, named_line, named_parts, place_after, writing}
 use Rattle.line_formats.specs.Names.{address_of_word}
-use Rattle.line_formats.specs.Numbers.{word_value}
-use Rattle.line_formats.specs.Parts.{cuts_of, has_shape}
+use Rattle.line_shapes.specs.Numbers.{word_value}
+use Rattle.line_shapes.specs.Parts.{cuts_of, has_shape}
 use Rattle.line_formats.specs.Places.{NamedPlace, place_between}
-use Rattle.line_formats.specs.Shapes.{field_in, members_of, text_of, with_member}
-use Rattle.line_formats.specs.declared.shape.Kind.{Kind}
-use Rattle.line_formats.specs.declared.shape.Kind.TheVariants as kinds
-use Rattle.line_formats.specs.declared.shape.Part.{Part}
-use Rattle.line_formats.specs.declared.shape.Part.TheVariants as part
-use Rattle.line_formats.specs.declared.shape.Shape.{Shape}
+use Rattle.line_shapes.specs.Shapes.{field_in, members_of, text_of, with_member}
+use Rattle.line_shapes.specs.declared.shape.Kind.{Kind}
+use Rattle.line_shapes.specs.declared.shape.Kind.TheVariants as kinds
+use Rattle.line_shapes.specs.declared.shape.Part.{Part}
+use Rattle.line_shapes.specs.declared.shape.Part.TheVariants as part
+use Rattle.line_shapes.specs.declared.shape.Shape.{Shape}
 
 -- ---- cuts
 
@@ -64,14 +64,19 @@ field_joins (p ∷ next) text = upto_joins (text_of p) text
 abbrev nowhere : ℕ → Option NamedPlace
 nowhere address = None
 
-abbrev Stays : Option ℕ → List Part → Type 0
-Stays at parts = (text : List ℕ) → is_some (members_of parts text) ≡ true → named_parts nowhere (insn_text nowhere false at) (cuts_of parts text) ≡ text
+abbrev plain : Option ℕ → Writing
+plain at = writing nowhere false false at
 
-abbrev plain : Option ℕ → List ℕ → List ℕ
-plain at = insn_text nowhere false at
+abbrev Stays : Option ℕ → List Part → Type 0
+Stays at parts = (text : List ℕ) → is_some (members_of parts text) ≡ true → named_parts nowhere (plain at) (cuts_of parts text) ≡ text
 
 field_stays : (at : Option ℕ) (name : List ℕ) (k : Kind) (text : List ℕ) → field_text (plain at) name k text ≡ text
 field_stays at name kinds.Text text = go (bytes_eq name (codes "instruction"))
+  where
+    go : (b : Bool) → cond b text text ≡ text
+    go true = refl
+    go false = refl
+field_stays at name kinds.Word text = go (is_address name)
   where
     go : (b : Bool) → cond b text text ≡ text
     go true = refl
@@ -138,7 +143,7 @@ found_fits line (s ∷ shapes) = go (has_shape line s) refl (found_fits line sha
     go false e more = more
 
 -- Without names, a line goes as it is.
-pub lines_stay : (shapes : List Shape) (line : List ℕ) → named_line nowhere false shapes line ≡ line
+pub lines_stay : (shapes : List Shape) (line : List ℕ) → named_line nowhere false false shapes line ≡ line
 unfolding named_line
 lines_stay shapes line = go (find (has_shape line) shapes) (found_fits line shapes)
   where

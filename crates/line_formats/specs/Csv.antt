@@ -2,13 +2,13 @@
 use Rattle.std.specs.Prelude.{ℕ, ◌||◌, Bool, List, [], ◌∷◌, ◌++◌, Option, Some, None, bytes_eq, codes}
 use Rattle.std.specs.Prelude.{flat_map, if◌then◌else◌}
 use Rattle.std.specs.Option.{option_map_or}
-use Rattle.line_formats.specs.Cuts.{after, upto, words_of}
-use Rattle.line_formats.specs.Parts.{cuts_of, shape_of}
-use Rattle.line_formats.specs.declared.shape.Kind.{Kind}
-use Rattle.line_formats.specs.declared.shape.Kind.TheVariants as kinds
-use Rattle.line_formats.specs.declared.shape.Part.{Part}
-use Rattle.line_formats.specs.declared.shape.Part.TheVariants as part
-use Rattle.line_formats.specs.declared.shape.Shape.{Shape}
+use Rattle.line_shapes.specs.Cuts.{after, upto, words_of}
+use Rattle.line_shapes.specs.Parts.{cuts_of, shape_of}
+use Rattle.line_shapes.specs.declared.shape.Kind.{Kind}
+use Rattle.line_shapes.specs.declared.shape.Kind.TheVariants as kinds
+use Rattle.line_shapes.specs.declared.shape.Part.{Part}
+use Rattle.line_shapes.specs.declared.shape.Part.TheVariants as part
+use Rattle.line_shapes.specs.declared.shape.Shape.{Shape}
 
 -- the names of the columns, which go out with the line of kind `machine`, the first
 abbrev pub header_before : (kind : List ℕ) → List ℕ
@@ -49,6 +49,7 @@ rows_about subject cuts = flat_map (λ c. part_rows subject c.0 c.1) cuts
 -- whether a line that begins with a field of this name is about what the field names
 abbrev pub is_subject : (name : List ℕ) → Bool
 is_subject name = bytes_eq name (codes "stage") || bytes_eq name (codes "module") || bytes_eq name (codes "processor")
+    || bytes_eq name (codes "word")
 
 -- what a line is about that begins with this part, if the part says so
 abbrev pub subject_of : Part → (text : List ℕ) → Option Subject

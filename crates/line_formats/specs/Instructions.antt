@@ -5,8 +5,8 @@ use Rattle.std.specs.Int.{w32, to_be_bytes}
 use Rattle.std.specs.Option.{option_map, option_map_or}
 use Rattle.asm_lines.specs.Names.{register_of, use_name}
 use Rattle.hex.specs.Hex.{encode_lower}
-use Rattle.line_formats.specs.Cuts.{after, is_nil, upto, words_of}
-use Rattle.line_formats.specs.Numbers.{decimal_value}
+use Rattle.line_shapes.specs.Cuts.{after, is_nil, upto, words_of}
+use Rattle.line_shapes.specs.Numbers.{decimal_value}
 use Rattle.line_formats.specs.Places.{NamedPlace, place_between}
 
 -- ---- registers

@@ -1,12 +1,10 @@
-pub mod Cuts
-pub mod Fields
-pub mod Found
-pub mod Shapes
 pub mod Lines
-pub mod Parts
-pub mod Numbers
 pub mod Places
 pub mod Instructions
+pub mod Decimals
 pub mod Names
 pub mod Csv
+pub mod Subjects
 pub mod Formats
+-- Definitions of shapes, passed on to the crates above.
+pub use Rattle.line_shapes.specs as line_shapes

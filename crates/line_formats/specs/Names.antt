@@ -1,16 +1,17 @@
--- Lines with the names of their addresses.
+-- Lines with the names of their addresses, and with values in decimal.
 use Rattle.std.specs.Prelude.{◌≡◌, ℕ, ◌+◌, ◌*◌, ◌^◌, ◌||◌, nat_lt, Bool, true, false, List, [], ◌∷◌, ◌++◌, Option}
 use Rattle.std.specs.Prelude.{Some, None, bytes_eq, codes, flat_map, if◌then◌else◌, option_and_then}
 use Rattle.std.specs.Option.{option_map_or, option_or}
+use Rattle.line_formats.specs.Decimals.{decimal_text}
 use Rattle.line_formats.specs.Instructions.{instruction_text}
-use Rattle.line_formats.specs.Numbers.{decimal_value, word_value}
-use Rattle.line_formats.specs.Parts.{cuts_of, shape_of}
+use Rattle.line_shapes.specs.Numbers.{decimal_value, word_value}
+use Rattle.line_shapes.specs.Parts.{cuts_of, shape_of}
 use Rattle.line_formats.specs.Places.{NamedPlace, place_between}
-use Rattle.line_formats.specs.declared.shape.Kind.{Kind}
-use Rattle.line_formats.specs.declared.shape.Kind.TheVariants as kinds
-use Rattle.line_formats.specs.declared.shape.Part.{Part}
-use Rattle.line_formats.specs.declared.shape.Part.TheVariants as part
-use Rattle.line_formats.specs.declared.shape.Shape.{Shape}
+use Rattle.line_shapes.specs.declared.shape.Kind.{Kind}
+use Rattle.line_shapes.specs.declared.shape.Kind.TheVariants as kinds
+use Rattle.line_shapes.specs.declared.shape.Part.{Part}
+use Rattle.line_shapes.specs.declared.shape.Part.TheVariants as part
+use Rattle.line_shapes.specs.declared.shape.Shape.{Shape}
 
 -- ---- addresses
 
@@ -38,20 +39,28 @@ place_after place name kinds.Number text =
     else []
 place_after place name other text = []
 
--- the text of a field, with an instruction written in this way
-abbrev pub field_text : (insn : List ℕ → List ℕ) → (name : List ℕ) → Kind → (text : List ℕ) → List ℕ
-field_text insn name kinds.Text text = if bytes_eq name (codes "instruction") then insn text else text
-field_text insn name other text = text
+-- how fields are written: instructions, and values
+pub record Writing : Type 0 where
+  pub insn : List ℕ → List ℕ
+  pub value : List ℕ → List ℕ
+
+-- the text of a field
+abbrev pub field_text : Writing → (name : List ℕ) → Kind → (text : List ℕ) → List ℕ
+field_text w name kinds.Text text = if bytes_eq name (codes "instruction") then w.insn text else text
+field_text w name kinds.Word text = if is_address name then text else w.value text
+field_text w name kinds.Words text = w.value text
+field_text w name kinds.Function text = w.value text
+field_text w name other text = text
 
 -- a part with its field, and the place of its field
-abbrev pub named_part : (place : ℕ → Option NamedPlace) → (insn : List ℕ → List ℕ) → Part → (text : List ℕ) → List ℕ
-named_part place insn (part.Literal word) text = word.now
-named_part place insn (part.Field word name kind) text =
-    word.now ++ field_text insn name.now kind text ++ place_after place name.now kind text
+abbrev pub named_part : (place : ℕ → Option NamedPlace) → Writing → Part → (text : List ℕ) → List ℕ
+named_part place w (part.Literal word) text = word.now
+named_part place w (part.Field word name kind) text =
+    word.now ++ field_text w name.now kind text ++ place_after place name.now kind text
 
 -- a line that has these parts, with names
-abbrev pub named_parts : (place : ℕ → Option NamedPlace) → (insn : List ℕ → List ℕ) → List (Part × List ℕ) → List ℕ
-named_parts place insn cuts = flat_map (λ c. named_part place insn c.0 c.1) cuts
+abbrev pub named_parts : (place : ℕ → Option NamedPlace) → Writing → List (Part × List ℕ) → List ℕ
+named_parts place w cuts = flat_map (λ c. named_part place w c.0 c.1) cuts
 
 -- ---- the address of a line
 
@@ -73,16 +82,26 @@ abbrev pub insn_text : (place : ℕ → Option NamedPlace) → (wanted : Bool) �
 insn_text place false address text = text
 insn_text place true address text = instruction_text place address text
 
+-- how a value is written: in decimal, if that is wanted
+abbrev pub value_text : (wanted : Bool) → (text : List ℕ) → List ℕ
+value_text false text = text
+value_text true text = decimal_text text
+
+-- how the fields of the line with this address are written
+abbrev pub writing : (place : ℕ → Option NamedPlace) → (abi decimal : Bool) → (address : Option ℕ) → Writing
+writing place abi decimal address = record { insn = insn_text place abi address; value = value_text decimal }
+
 -- A line with names, by the first of these shapes that it has. A line that has none goes as it is.
-unfoldable pub named_line : (place : ℕ → Option NamedPlace) → (abi : Bool) → List Shape → (line : List ℕ) → List ℕ
-named_line place abi shapes line =
+unfoldable pub named_line : (place : ℕ → Option NamedPlace) → (abi decimal : Bool) → List Shape → (line : List ℕ) →
+    List ℕ
+named_line place abi decimal shapes line =
     option_map_or
-    (λ s. let cuts = cuts_of s.1.now line in named_parts place (insn_text place abi (line_address cuts)) cuts)
+    (λ s. let cuts = cuts_of s.1.now line in named_parts place (writing place abi decimal (line_address cuts)) cuts)
     (shape_of shapes line)
     line
 
 -- ---- a law
 
--- With no place for any address, and with instructions as they are, each line goes as it is.
+-- With no place for any address, and with instructions and values as they are, each line goes as it is.
 abbrev pub LinesStay : Type 0
-LinesStay = (shapes : List Shape) (line : List ℕ) → named_line (λ address. None) false shapes line ≡ line
+LinesStay = (shapes : List Shape) (line : List ℕ) → named_line (λ address. None) false false shapes line ≡ line

@@ -4,14 +4,12 @@ ghost use Rattle.std.specs.Prelude.{◌≡◌, ◌++◌, ◌∷◌, [], OnOk, op
 ghost use Rattle.std.specs.List.{flat_map};
 ghost use Rattle.line_formats.specs.Csv.{csv_text, field_rows, group_row, header_before, is_subject, line_rows};
 ghost use Rattle.line_formats.specs.Csv.{part_rows, row, row_beginning, rows_about, subject_of};
-ghost use Rattle.line_formats.specs.Cuts.{words_of};
-ghost use Rattle.line_formats.specs.Found.{about};
-ghost use Rattle.line_formats.specs.Parts.{cuts_of};
+ghost use Rattle.line_formats.specs.Subjects.{about};
+ghost use Rattle.line_shapes.specs.Cuts.{words_of};
+ghost use Rattle.line_shapes.specs.Parts.{cuts_of};
 
-use crate::cuts::{after, first_word, upto};
 use crate::format::LineFormat;
-use crate::parts::{first_cut, shape_of};
-use crate::shape::{Kind, Part, Shape};
+use line_shapes::{Kind, Part, Shape, after, first_cut, first_word, shape_of, upto};
 use std::alloc::{AllocError, Global};
 
 /// The format that prints a row for each number of a line, by these shapes: `SUBJECT,NUMBER,COUNT,VALUE`. The line of
@@ -108,7 +106,7 @@ fn subject_of<'a>(part: &Part, field: &'a str) -> Option<Subject<'a>>
 fn is_subject(name: &str) -> bool
     ensures { result ≡ is_subject name.now }
 {
-    name == "stage" || name == "module" || name == "processor"
+    name == "stage" || name == "module" || name == "processor" || name == "word"
 }
 
 /// Appends the rows of a text's parts.

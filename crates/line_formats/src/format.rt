@@ -5,9 +5,8 @@ ghost use Rattle.line_formats.specs.Formats.{with_line_feed};
 
 use crate::csv::Csv;
 use crate::names::Names;
-use crate::objects::object_text;
 use crate::places::Places;
-use crate::shape::Shape;
+use line_shapes::{Shape, object_text};
 use std::alloc::{AllocError, Global};
 
 /// A format of lines.
@@ -32,7 +31,7 @@ pub struct Json<'a>(pub &'a [Shape]);
 
 impl LineFormat for Json<'_> {
     ghost use Rattle.line_formats.specs.Formats.{with_line_feed};
-    ghost use Rattle.line_formats.specs.Shapes.{object_text};
+    ghost use Rattle.line_shapes.specs.Shapes.{object_text};
 
     ghost text = { λ json line. with_line_feed (object_text json.0.now line) };
 

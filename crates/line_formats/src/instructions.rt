@@ -2,16 +2,15 @@
 
 ghost use Rattle.std.specs.Prelude.{◌≡◌, ◌++◌, OnOk, option_map, string_bytes};
 ghost use Rattle.asm_lines.specs.Names.{use_name};
-ghost use Rattle.line_formats.specs.Cuts.{words_of};
 ghost use Rattle.line_formats.specs.Instructions.{first_of, in_brackets, instruction_text, is_jump, jump_text};
 ghost use Rattle.line_formats.specs.Instructions.{last_operand_text, last_word_text, operand_text, origin_of};
 ghost use Rattle.line_formats.specs.Instructions.{target_of, target_text, word_text, words_text};
 ghost use Rattle.line_formats.specs.Places.{place_in};
+ghost use Rattle.line_shapes.specs.Cuts.{words_of};
 
-use crate::cuts::{after, first_word, upto};
-use crate::numbers::decimal_value;
 use crate::places::{Places, push_place};
 use asm_lines::register_named;
+use line_shapes::{after, decimal_value, first_word, upto};
 use std::alloc::{AllocError, Global};
 
 /// Appends the text of an instruction at an address, if its address is known.

@@ -1,25 +1,24 @@
-//! Lines with the names of their addresses.
+//! Lines with the names of their addresses, and with values in decimal.
 
 ghost use Rattle.std.specs.Prelude.{◌≡◌, ◌++◌, OnOk, string_bytes};
 ghost use Rattle.line_formats.specs.Names.{address_of_number, address_of_word, field_text, insn_text, is_address};
 ghost use Rattle.line_formats.specs.Names.{line_address, named_line, named_part, named_parts, part_address};
-ghost use Rattle.line_formats.specs.Names.{place_after};
-ghost use Rattle.line_formats.specs.Parts.{cuts_of};
+ghost use Rattle.line_formats.specs.Names.{place_after, value_text, writing};
 ghost use Rattle.line_formats.specs.Places.{place_in};
+ghost use Rattle.line_shapes.specs.Parts.{cuts_of};
 
+use crate::decimals::push_decimals;
 use crate::format::LineFormat;
 use crate::instructions::push_instruction;
-use crate::numbers::{decimal_value, word_value};
-use crate::parts::{first_cut, shape_of};
 use crate::places::{Places, push_place};
-use crate::shape::{Kind, Part, Shape};
+use line_shapes::{Kind, Part, Shape, decimal_value, first_cut, shape_of, word_value};
 use std::alloc::{AllocError, Global};
 
 /// The address of shared word 0.
 const SHARED_START: u32 = 0x8000_0000;
 
 /// The format that prints each line as it is, and after each address and each number of a shared word the name of the
-/// place, by these shapes.
+/// place, by these shapes. Values can be in decimal.
 #[derive(Drop)]
 pub struct Names<'a, P> {
     /// The shapes of lines.
@@ -28,6 +27,8 @@ pub struct Names<'a, P> {
     pub places: Option<P>,
     /// Whether instructions have registers by the names of their use, and the addresses to which they jump.
     pub disassembly: bool,
+    /// Whether values of words are in decimal, in two's complement. Addresses and encodings stay in hex.
+    pub decimal: bool,
 }
 
 impl<P: Places> LineFormat for Names<'_, P> {
@@ -52,7 +53,8 @@ fn push_line<P: Places>(
     text: &mut String,
 ) -> Result<(), AllocError>
     ensures { OnOk result (string_bytes text.new ≡ string_bytes text.old
-        ++ named_line (place_in P.place names.now.places) names.now.disassembly names.now.shapes.now line.now) }
+        ++ named_line (place_in P.place names.now.places) names.now.disassembly names.now.decimal
+        names.now.shapes.now line.now) }
 {
     match shape_of(names.shapes, line) {
         Some(shape) => {
@@ -101,7 +103,8 @@ fn push_parts<P: Places>(
 ) -> Result<(), AllocError>
     ensures { OnOk result (string_bytes text.new ≡ string_bytes text.old
         ++ named_parts (place_in P.place names.now.places)
-        (insn_text (place_in P.place names.now.places) names.now.disassembly address) (cuts_of parts.now line.now)) }
+        (writing (place_in P.place names.now.places) names.now.disassembly names.now.decimal address)
+        (cuts_of parts.now line.now)) }
 {
     let Some((part, field, others, rest)) = first_cut(parts, line) else {
         return Ok(());
@@ -121,7 +124,8 @@ fn push_part<P: Places>(
 ) -> Result<(), AllocError>
     ensures { OnOk result (string_bytes text.new ≡ string_bytes text.old
         ++ named_part (place_in P.place names.now.places)
-        (insn_text (place_in P.place names.now.places) names.now.disassembly address) part.now field.now) }
+        (writing (place_in P.place names.now.places) names.now.disassembly names.now.decimal address) part.now
+        field.now) }
 {
     match part {
         Part::Literal(word) => text.push_str(word),
@@ -133,7 +137,7 @@ fn push_part<P: Places>(
     }
 }
 
-/// Appends a field: an instruction as it is wanted, and any other as it stands.
+/// Appends a field: an instruction or a value as it is wanted, and any other as it stands.
 fn push_field<P: Places>(
     alloc: Global,
     names: &Names<'_, P>,
@@ -144,8 +148,8 @@ fn push_field<P: Places>(
     text: &mut String,
 ) -> Result<(), AllocError>
     ensures { OnOk result (string_bytes text.new ≡ string_bytes text.old
-        ++ field_text (insn_text (place_in P.place names.now.places) names.now.disassembly address) name.now kind.now
-        field.now) }
+        ++ field_text (writing (place_in P.place names.now.places) names.now.disassembly names.now.decimal address)
+        name.now kind.now field.now) }
 {
     match kind {
         Kind::Text => {
@@ -155,7 +159,26 @@ fn push_field<P: Places>(
                 text.push_str(field)
             }
         }
+        Kind::Word => {
+            if is_address(name) {
+                text.push_str(field)
+            } else {
+                push_value(names.decimal, field, text)
+            }
+        }
+        Kind::Words | Kind::Function => push_value(names.decimal, field, text),
         _ => text.push_str(field),
+    }
+}
+
+/// Appends the text of a value, in decimal if that is wanted.
+fn push_value(decimal: bool, value: &str, text: &mut String) -> Result<(), AllocError>
+    ensures { OnOk result (string_bytes text.new ≡ string_bytes text.old ++ value_text decimal value.now) }
+{
+    if decimal {
+        push_decimals(value, text)
+    } else {
+        text.push_str(value)
     }
 }
 

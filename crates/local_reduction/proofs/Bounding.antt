@@ -19,7 +19,8 @@ use Rattle.local_reduction.proofs.Covering.{retiring_turn, stopping_turn, reachi
 
 -- ---- sums of the first numbers
 
-abbrev total : (ℕ → ℕ) → ℕ → ℕ
+-- the sum of the first numbers
+abbrev pub total : (ℕ → ℕ) → ℕ → ℕ
 total f zero = 0
 total f (suc n) = total f n + f n
 
@@ -38,8 +39,8 @@ total_has f (suc n) k l = by (λ less. total_has f n k less) (below n k l)
     by again (inl less) = let h = again less in omega (arith, h)
     by again (inr same) = let h : f k ≡ f n = ap f same in omega (arith, h)
 
--- the sum after one number is replaced
-total_put : (f : ℕ → ℕ) (k n : ℕ) (count : ℕ) → k < count → total (put f k n) count + f k ≡ total f count + n
+-- The sum after one number is replaced differs by the difference of the two.
+pub total_put : (f : ℕ → ℕ) (k n : ℕ) (count : ℕ) → k < count → total (put f k n) count + f k ≡ total f count + n
 total_put f k n zero l = absurd (omega (arith, l))
 total_put f k n (suc count) l = by (λ less. total_put f k n count less) (below count k l)
   where
@@ -58,7 +59,8 @@ total_put f k n (suc count) l = by (λ less. total_put f k n count less) (below 
 module _ (at : ℕ → Setting) (code : List ℕ) (kept : LocalState → LocalState) where
   -- ---- whether a processor may move
 
-  may? : (s : MacroState) (k : ℕ) → MayMove at code s k ⊎ (MayMove at code s k → ⊥)
+  -- Whether a processor may move can be decided.
+  pub may? : (s : MacroState) (k : ℕ) → MayMove at code s k ⊎ (MayMove at code s k → ⊥)
   may? s k = by_local_state (slice_get s.local_states k) refl
     where
       by_turn : (a : LocalState) → slice_get s.local_states k ≡ Some a → is_running a.processor.status ≡ true → (x : Turn) →

@@ -5,6 +5,7 @@ pub mod Covering
 pub mod Reaching
 pub mod Stopping
 pub mod Bounding
+pub mod Fairness
 pub mod Moving
 pub mod Numbers
 pub mod Returning

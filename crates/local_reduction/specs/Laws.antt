@@ -1,5 +1,5 @@
 -- The laws of closed sets.
-use Rattle.std.specs.Prelude.{◌≡◌, ℕ, suc, ◌≤◌, true, List, Some, length, slice_get, slice_index}
+use Rattle.std.specs.Prelude.{◌≡◌, ℕ, suc, ◌<◌, ◌≤◌, true, List, Some, length, slice_get, slice_index}
 use Rattle.flat_machine.specs.declared.setting.Setting.{Setting}
 use Rattle.flat_machine.specs.declared.event.Retired.{Retired}
 use Rattle.flat_machine.specs.State.{FlatState, Processor, is_running}
@@ -11,7 +11,7 @@ use Rattle.local_reduction.specs.LocalStates.{turns}
 use Rattle.local_reduction.specs.Closing.{IsForgetful, if_running, MacroState, gone, IsIn, IsMove, IsClosed}
 use Rattle.local_reduction.specs.Closing.{HaveNoSpinner}
 use Rattle.local_reduction.specs.Closing.{IsShort, IsWay, ReachesMacroState, IsKeptOf, AreAtReference, HasStopped}
-use Rattle.local_reduction.specs.Termination.{turns_taken, EveryScheduleEnds}
+use Rattle.local_reduction.specs.Termination.{turns_taken, AreFairlyRanked, EveryFairScheduleEnds, EveryScheduleEnds}
 use Rattle.local_reduction.specs.Exchanging.{AskNot, NeverAsks, IsBeside, Exchange, IsExchanged, IsExchangeOf}
 use Rattle.local_reduction.specs.Exchanging.{IsUniform}
 use Rattle.local_reduction.specs.Exchanging.{IsMoveOfAny, IsClosedUpTo, IsShortUpTo, IsWayUpTo}
@@ -85,6 +85,14 @@ ShortSchedulesEnd =
     (s : MacroState) (most : ℕ) →
     IsForgetful at code kept → ReachesMacroState at code kept m consoles s → IsShort at code kept most s →
     EveryScheduleEnds m
+
+-- If states have ranks that never rise, and that fall as soon as the helper of a state moves, every fair schedule ends.
+abbrev pub FairlyRankedSchedulesEnd : Type 0
+FairlyRankedSchedulesEnd =
+    (at : ℕ → Setting) (code : List ℕ) (kept : LocalState → LocalState) (state : ℕ → MacroState) (count : ℕ)
+    (rank helper : ℕ → ℕ) (m : FlatState) (consoles : ℕ → List ℕ) →
+    IsForgetful at code kept → 0 < count → ReachesMacroState at code kept m consoles (state 0) →
+    AreFairlyRanked at code kept state count rank helper → EveryFairScheduleEnds m
 
 -- The registers and the local memory of processors that have stopped can be forgotten.
 abbrev pub StoppedAreForgotten : Type 0

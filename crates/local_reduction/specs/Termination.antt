@@ -1,9 +1,11 @@
 -- Whether the schedules of the flat machine end. Schedules are orders of turns.
-use Rattle.std.specs.Prelude.{ℕ, ◌≤◌, List, length}
-use Rattle.flat_machine.specs.State.{FlatState}
-use Rattle.flat_machine.specs.Flat.{flat_run, flat_events}
-use Rattle.local_reduction.specs.LocalStates.{turns}
-use Rattle.local_reduction.specs.Closing.{HasStopped}
+use Rattle.std.specs.Prelude.{◌≡◌, ◌⊎◌, ℕ, zero, suc, ◌<◌, ◌≤◌, true, List, Some, length, slice_get}
+use Rattle.flat_machine.specs.declared.setting.Setting.{Setting}
+use Rattle.flat_machine.specs.declared.poke.Entry.TheVariants as entry
+use Rattle.flat_machine.specs.State.{FlatState, Processor, is_running}
+use Rattle.flat_machine.specs.Flat.{flat_run, flat_events, flat_step}
+use Rattle.local_reduction.specs.LocalStates.{LocalState, turns}
+use Rattle.local_reduction.specs.Closing.{HasSpinner, HasStopped, IsMove, MacroState, MayMove}
 
 -- ---- ends
 
@@ -36,3 +38,48 @@ EveryScheduleEnds m = (most : ℕ) × ((order : List ℕ) → turns_taken m orde
 -- Some schedule never ends: for each number, at least that many turns are taken in some order.
 abbrev pub SomeScheduleNeverEnds : FlatState → Type 0
 SomeScheduleNeverEnds m = (count : ℕ) → (order : List ℕ) × (count ≤ turns_taken m order)
+
+-- ---- fair schedules
+
+-- the flat machine after the first turns of an endless schedule, which names a processor for each turn
+abbrev pub after_turns : FlatState → (schedule : ℕ → ℕ) → (count : ℕ) → FlatState
+after_turns m schedule zero = m
+after_turns m schedule (suc n) = flat_step (after_turns m schedule n) (entry.Processor (schedule n))
+
+-- The processor runs after this many turns.
+abbrev pub RunsAfter : FlatState → (schedule : ℕ → ℕ) → (count processor : ℕ) → Type 0
+RunsAfter m schedule n k =
+    (p : Processor) × (slice_get (after_turns m schedule n).processors k ≡ Some p) × (is_running p.status ≡ true)
+
+-- An endless schedule is fair if each processor that runs after some turns takes one of the turns that follow.
+abbrev pub IsFair : FlatState → (schedule : ℕ → ℕ) → Type 0
+IsFair m schedule = (n k : ℕ) → RunsAfter m schedule n k → (i : ℕ) × (n ≤ i) × (schedule i ≡ k)
+
+-- Every fair schedule ends: after some of its turns all processors have stopped.
+abbrev pub EveryFairScheduleEnds : FlatState → Type 0
+EveryFairScheduleEnds m =
+    (schedule : ℕ → ℕ) → IsFair m schedule → (n : ℕ) × HasStopped (after_turns m schedule n)
+
+-- ---- ranks by which fair schedules end
+
+-- States are numbers below a count. Each has a rank, and a processor that is its helper.
+module _ (at : ℕ → Setting) (code : List ℕ) (kept : LocalState → LocalState) (state : ℕ → MacroState) (count : ℕ)
+    (rank helper : ℕ → ℕ) where
+  -- A move of processor k leads from state i to one of lesser rank or, unless k is the helper of i, to one of the same
+  -- rank with the same helper.
+  pub record IsLed (i k : ℕ) : Type 0 where
+    pub next : ℕ
+    pub within : next < count
+    pub move : IsMove at code kept (state i) k (state next)
+    pub lesser :
+        (rank next < rank i) ⊎ ((rank next ≡ rank i) × (helper next ≡ helper i) × (k ≡ helper i → ⊥))
+
+  -- No processor spins in state i, its helper can move if any processor can, and each move leads to such a state. So
+  -- the rank never rises, and falls as soon as the helper moves.
+  pub record IsFairlyRanked (i : ℕ) : Type 0 where
+    pub spins : HasSpinner at code (state i) → ⊥
+    pub moves : (k : ℕ) → MayMove at code (state i) k → MayMove at code (state i) (helper i)
+    pub leads : (k : ℕ) → MayMove at code (state i) k → IsLed i k
+
+  abbrev pub AreFairlyRanked : Type 0
+  AreFairlyRanked = (i : ℕ) → i < count → IsFairlyRanked i

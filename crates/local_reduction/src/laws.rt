@@ -1,7 +1,8 @@
 //! Laws of states between references. Each law is the contract of a function that does nothing.
 
 ghost use Rattle.local_reduction.specs.Laws.{ClosedSetsAreNotLeft, ClosedSetsContainAllFinalStates, MovesAreTurns};
-ghost use Rattle.local_reduction.specs.Laws.{MovesOfWhatIsKept, ShortSchedulesEnd, StoppedAreForgotten};
+ghost use Rattle.local_reduction.specs.Laws.{FairlyRankedSchedulesEnd, MovesOfWhatIsKept, ShortSchedulesEnd};
+ghost use Rattle.local_reduction.specs.Laws.{StoppedAreForgotten};
 ghost use Rattle.local_reduction.specs.Laws.{WhatComesBackNeverAsks, WhatComesBackSpins};
 
 pub use crate::exchanges::{
@@ -48,4 +49,10 @@ pub fn what_comes_back_spins()
 /// If the number of references that follow one another is bounded, every schedule ends.
 pub fn short_schedules_end()
     ensures ends { ShortSchedulesEnd }
+{}
+
+/// If states have ranks that never rise, and that fall as soon as the helper of a state moves, every fair schedule
+/// ends.
+pub fn fairly_ranked_schedules_end()
+    ensures ends { FairlyRankedSchedulesEnd }
 {}

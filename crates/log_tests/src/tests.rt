@@ -2,6 +2,7 @@
 
 mod arbiter;
 mod counts;
+mod latencies;
 mod log;
 mod replay;
 mod report;

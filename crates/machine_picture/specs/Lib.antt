@@ -1,5 +1,6 @@
-pub mod Groups
-pub mod Places
-pub mod Views
-pub mod Subjects
+pub mod Elements
+pub mod Layouts
+pub mod Pages
+pub mod WholePictures
+pub mod Summaries
 pub mod Drawings

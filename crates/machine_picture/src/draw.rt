@@ -2,7 +2,7 @@
 
 ghost use Rattle.std.specs.Prelude.{IfOk, string_bytes};
 
-use crate::view::MachineView;
+use machine_views::MachineView;
 use std::alloc::{AllocError, Global};
 
 /// A way to draw a machine. It sees the machine's view and nothing else.

@@ -1,49 +1,131 @@
-//! Where things are in a picture, in its own units.
+//! Where the cells are in a whole picture, in its own units.
 
-ghost use Rattle.std.specs.Prelude.{◌≡◌, ◌<◌, ◌≤◌, ◌^◌};
+ghost use Rattle.std.specs.Prelude.{◌≡◌, ◌+◌, ◌*◌, ◌<◌, ◌≤◌, ◌^◌};
+ghost use Rattle.std.specs.Option.{option_copied};
+ghost use Rattle.machine_views.specs.Cells.{cell_at};
+ghost use Rattle.machine_picture.specs.Layouts.{height_of, left_of, letters_in, letters_of, lines_of};
+ghost use Rattle.machine_picture.specs.Layouts.{middle_of, text_width, top_of, width_of, x_of};
 
-/// How wide the box of a switch is.
-pub const SWITCH_WIDTH: u32 = 150;
+use machine_views::{Cell, Cells, Kind, wires_of};
 
-/// How wide the box of a processor or of a module is.
-pub const END_WIDTH: u32 = 180;
-
-/// How high the row of a wire is.
-pub const ROW_HEIGHT: u32 = 48;
-
-/// How many wires a network of `k` stages has. More than 6 stages count as 6.
-pub fn wires_of(k: u8) -> u8
-    ensures exact { k ≤ 6 → result ≡ 2 ^ k }
-    ensures some { 0 < result }
-    ensures few { result ≤ 64 }
+/// The letters of the longest text of a cell.
+fn letters_in(cell: &Cell) -> usize
+    ensures { result ≡ letters_in cell.now }
 {
-    match k {
-        0 => 1,
-        1 => 2,
-        2 => 4,
-        3 => 8,
-        4 => 16,
-        5 => 32,
-        _ => 64,
+    let mut most = cell.title.letters();
+    for line in cell.lines.as_slice() {
+        most = most.max(line.text.letters());
+    }
+    most
+}
+
+/// The letters of the longest text of a cell, and 0 if there is none.
+#[tactic(auto, unfolding(crate::specs::Layouts::letters_of))]
+fn letters_of(cell: Option<&Cell>) -> usize
+    ensures { result ≡ letters_of (option_copied cell.entry) }
+{
+    match cell {
+        Some(cell) => letters_in(cell),
+        None => 0,
     }
 }
 
-/// The wire before a stage that goes into this row of its switches: the shuffle undone.
-pub fn wire_into(wires: u8, row: u8) -> u8 {
-    let half = if row % 2 == 1 { wires / 2 } else { 0 };
-    (row / 2).saturating_add(half)
+/// The number of lines of a cell, and 0 if there is none.
+#[tactic(auto, unfolding(crate::specs::Layouts::lines_of))]
+pub fn lines_of(cell: Option<&Cell>) -> usize
+    ensures { result ≡ lines_of (option_copied cell.entry) }
+{
+    match cell {
+        Some(cell) => cell.lines.as_slice().len(),
+        None => 0,
+    }
 }
 
-/// The left side of the boxes of a stage. For the stage after the last, that of the modules.
-pub fn left_of(stage: u8) -> u32
-    ensures { result ≤ 100000 }
+/// How wide the longest text of a column is.
+#[tactic(auto, unfolding(crate::specs::Layouts::text_width))]
+pub fn text_width(cells: &Cells, column: u8) -> u32
+    requires { cells.now.stages ≤ 6 }
+    ensures exact { result ≡ text_width cells.now column }
+    ensures few { result ≤ 700 }
 {
-    250 + 200 * u32::from(stage)
+    let mut most = 0;
+    for row in 0..wires_of(cells.stages) {
+        most = most.max(letters_of(cells.cell(column, row)));
+    }
+    7 * most.max(10).min(100) as u32
+}
+
+/// How wide the boxes of a column are.
+pub fn width_of(cells: &Cells, column: u8) -> u32
+    requires { cells.now.stages ≤ 6 }
+    ensures exact { result ≡ width_of cells.now column }
+    ensures few { result ≤ 712 }
+{
+    text_width(cells, column) + 12
+}
+
+/// The left side of the boxes of a column.
+#[tactic(auto, unfolding(crate::specs::Layouts::left_of))]
+pub fn left_of(cells: &Cells, column: u8) -> u32
+    requires { cells.now.stages ≤ 6 }
+    ensures exact { result ≡ left_of cells.now column }
+    ensures few { result ≤ 10 + 762 * column }
+    ensures some { 50 * column ≤ result }
+{
+    let mut left = 10;
+    for before in 0..column {
+        left += width_of(cells, before) + 50;
+    }
+    left
+}
+
+/// How high a row is.
+#[tactic(auto, unfolding(crate::specs::Layouts::height_of))]
+pub fn height_of(cells: &Cells, row: u8) -> u32
+    requires { cells.now.stages ≤ 6 }
+    ensures exact { result ≡ height_of cells.now row }
+    ensures some { 26 ≤ result }
+    ensures few { result ≤ 1426 }
+{
+    let mut most = 0;
+    for column in 0..cells.stages + 2 {
+        most = most.max(lines_of(cells.cell(column, row)));
+    }
+    14 * most.min(100) as u32 + 26
 }
 
 /// The upper side of a row.
-pub fn top_of(row: u8) -> u32
-    ensures { result ≤ 100000 }
+#[tactic(auto, unfolding(crate::specs::Layouts::top_of))]
+pub fn top_of(cells: &Cells, row: u8) -> u32
+    requires { cells.now.stages ≤ 6 }
+    ensures exact { result ≡ top_of cells.now row }
+    ensures few { result ≤ 50 + 1426 * row }
 {
-    40 + ROW_HEIGHT * u32::from(row)
+    let mut top = 50;
+    for above in 0..row {
+        top += height_of(cells, above);
+    }
+    top
+}
+
+/// The middle of a row.
+pub fn middle_of(cells: &Cells, row: u8) -> u32
+    requires { cells.now.stages ≤ 6 }
+    ensures { result ≡ middle_of cells.now row }
+{
+    top_of(cells, row) + height_of(cells, row) / 2
+}
+
+/// Where a line of a box begins, ends or has its middle, if its longest text is this wide.
+#[tactic(auto, unfolding(crate::specs::Layouts::x_of))]
+pub fn x_of(kind: Kind, left: u32, width: u32) -> u32
+    requires left { left ≤ 1000000 }
+    requires width { width ≤ 700 }
+    ensures { result ≡ x_of kind left width }
+{
+    match kind {
+        Kind::Request => left + 6 + width,
+        Kind::Record => left + 6 + width / 2,
+        Kind::Reply | Kind::Word => left + 6,
+    }
 }

@@ -11,7 +11,8 @@ use Rattle.observed_results.specs.Parts.{AreFirsts, HasPart, IsPartAdded, texts_
 
 -- ---- the texts
 
-fold_push : {A B : Type 0} (f : B → A → B) (b : B) (xs : List A) (x : A) → fold f b (xs ++ x ∷ []) ≡ f (fold f b xs) x
+-- A fold over one more element.
+pub fold_push : {A B : Type 0} (f : B → A → B) (b : B) (xs : List A) (x : A) → fold f b (xs ++ x ∷ []) ≡ f (fold f b xs) x
 fold_push f b [] x = refl
 fold_push f b (y ∷ ys) x = fold_push f (f b y) ys x
 
@@ -34,7 +35,8 @@ text_at (x ∷ keys) (suc k) key there = text_at keys k key there
 
 module _ (keys : List (String Global)) (key : String Global) (is : String Global → Bool)
     (same : (k : String Global) → is k ≡ bytes_eq (string_bytes key) (string_bytes k)) where
-  found_in : (ks : List (String Global)) → list_any is ks ≡ list_any (bytes_eq (string_bytes key)) (texts_of ks)
+  -- A set of texts has the key exactly if its texts have the bytes of the key.
+  pub found_in : (ks : List (String Global)) → list_any is ks ≡ list_any (bytes_eq (string_bytes key)) (texts_of ks)
   found_in [] = refl
   found_in (k ∷ ks) = λ j. same k j || found_in ks j
 

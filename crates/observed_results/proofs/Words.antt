@@ -3,8 +3,8 @@ use Rattle.std.proofs.Common.{◌≡◌, ℕ, ◌+◌, ◌<◌, ◌≤◌, zero,
 use Rattle.std.proofs.Common.{append_assoc, refl, sym, ap, ◌∙◌, arith}
 use Rattle.std.specs.Prelude.{slice_index, slice_index_or}
 use Rattle.std.proofs.lemmas.List.{append-nil, drop_more}
-use Rattle.exploration.specs.state_search.declared.sparse_words.NonzeroWord.{NonzeroWord}
-use Rattle.exploration.specs.state_search.SparseWords.{nonzero_words, stored, stored_from}
+use Rattle.exploration.specs.state_store.declared.sparse_words.NonzeroWord.{NonzeroWord}
+use Rattle.exploration.specs.state_store.SparseWords.{nonzero_words, stored, stored_from}
 use Rattle.observed_results.specs.Lists.{observes}
 use Rattle.observed_results.specs.Lines.{lines_by, observed_line}
 

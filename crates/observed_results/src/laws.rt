@@ -1,8 +1,9 @@
-//! What observed parts say of results, as the contract of a function that does nothing.
+//! What observed parts say of results, as contracts of functions that do nothing.
 
-ghost use Rattle.std.specs.Prelude.{◌≡◌, ℕ, Bool, Contains, List, Some, slice_get};
+ghost use Rattle.std.specs.Prelude.{◌≡◌, ◌↔◌, ℕ, Bool, Contains, List, Some, length, slice_get};
 ghost use Rattle.exploration.specs.local_reduction.Results.{FinalResult};
 ghost use Rattle.observed_results.specs.Lines.{observed_of, observed_parts};
+ghost use Rattle.observed_results.specs.Outcomes.{IsMatched, missing_in};
 
 /// Each observed part is that of one of the results, the part of each result is there, and no part is there twice.
 pub fn observed_parts_are_those_of_results()
@@ -14,4 +15,11 @@ pub fn observed_parts_are_those_of_results()
     ensures once { (results : List FinalResult) (marks : List Bool) (i j : ℕ) (text : List ℕ) →
         slice_get (observed_parts marks results) i ≡ Some text → slice_get (observed_parts marks results) j ≡ Some text
         → i ≡ j }
+{}
+
+/// No part is missing exactly if each result has the outcome of one of the others.
+pub fn no_part_is_missing_if_each_result_is_matched()
+    ensures matched { (marks : List Bool) (others results : List FinalResult) →
+        (length (observed_parts marks (missing_in marks others results)) ≡ 0)
+        ↔ ((r : FinalResult) → Contains results r → IsMatched marks others r) }
 {}

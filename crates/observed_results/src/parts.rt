@@ -1,7 +1,8 @@
 //! The different observed parts of results.
 
 ghost use Rattle.std.specs.Prelude.{◌≡◌, ◌+◌, ◌++◌, ◌<◌, ◌^◌, Bool, List, [], IfOk, IfSome, OnOk, length, option_map};
-ghost use Rattle.std.specs.Prelude.{slice_index_or, string_bytes};
+ghost use Rattle.std.specs.Prelude.{bytes_eq, slice_index_or, string_bytes};
+ghost use Rattle.std.specs.List.{list_any};
 ghost use Rattle.exploration.specs.local_reduction.Results.{FinalResult as ResultState};
 ghost use Rattle.observed_results.specs.Lines.{heading, lines_by, observed_line, observed_of, parts_lines, with_text};
 ghost use Rattle.observed_results.specs.Parts.{AreParts, HasPart, IsPartAdded, count_of};
@@ -34,7 +35,7 @@ impl Model for Parts {
 
 impl Parts {
     /// No parts.
-    fn new(alloc: Global) -> Self
+    pub(crate) fn new(alloc: Global) -> Self
         ensures { result ≡ record { texts = []; places = [] } }
     {
         Parts {
@@ -48,6 +49,17 @@ impl Parts {
         ensures { result ≡ length self.now.texts }
     {
         self.texts.len()
+    }
+
+    /// Whether the part at a place of other parts is one of these.
+    pub(crate) fn has_part_of(&self, others: &Parts, place: usize) -> bool
+        requires { place < length others.now.texts }
+        ensures { result ≡ list_any (bytes_eq (slice_index_or others.now.texts place [])) self.now.texts }
+    {
+        let Some(part) = others.texts.get_index(place) else {
+            unreachable!()
+        };
+        self.texts.contains(part)
     }
 
     /// The number of the first result that has the part of this number, both counted from 1, or 0 for 0. None if there
@@ -90,7 +102,7 @@ pub fn parts_of(
 }
 
 /// Adds the part of the result at a place, unless it was there before.
-fn add_part(parts: &mut Parts, text: String, place: usize) -> Result<(), AllocError>
+pub(crate) fn add_part(parts: &mut Parts, text: String, place: usize) -> Result<(), AllocError>
     ensures texts { OnOk result (parts.new.texts ≡ with_text parts.old.texts (string_bytes text)) }
     ensures firsts { OnOk result (IsPartAdded parts.old.texts (string_bytes text) parts.old.places place
         parts.new.places) }
@@ -105,7 +117,11 @@ fn add_part(parts: &mut Parts, text: String, place: usize) -> Result<(), AllocEr
 }
 
 /// The observed part of a result.
-fn part_of(alloc: Global, last: &FinalResult, words: &ObservedWords) -> Result<String, AllocError>
+pub(crate) fn part_of(
+    alloc: Global,
+    last: &FinalResult,
+    words: &ObservedWords,
+) -> Result<String, AllocError>
     ensures { IfOk result (λ text. string_bytes text ≡ observed_of words.now last.now) }
 {
     let mut text = String::new(alloc);
@@ -115,7 +131,7 @@ fn part_of(alloc: Global, last: &FinalResult, words: &ObservedWords) -> Result<S
 }
 
 /// Appends a line for each observed word that is not zero.
-fn push_observed(
+pub(crate) fn push_observed(
     alloc: Global,
     text: &mut String,
     last: &FinalResult,
@@ -171,7 +187,7 @@ pub fn parts_text(
 }
 
 /// Appends the lines of the part at a place.
-fn push_part(text: &mut String, parts: &Parts, place: usize) -> Result<(), AllocError>
+pub(crate) fn push_part(text: &mut String, parts: &Parts, place: usize) -> Result<(), AllocError>
     requires there { place < length parts.now.texts }
     requires room { place + 1 < 2 ^ 64 }
     ensures { OnOk result (string_bytes text.new ≡ string_bytes text.old

@@ -8,9 +8,9 @@ use Rattle.machine_log.specs.Logs.{Log}
 use Rattle.command_io.specs.declared.fault.Fault.{Fault}
 use Rattle.command_io.specs.declared.fault.Fault.TheVariants as fault
 use Rattle.command_io.specs.Links.{Output}
-use Rattle.trace_commands.specs.Causes.{LogReportFails, RunFails}
-use Rattle.trace_commands.specs.TraceReports.{AskedRun, TraceOutput}
-use Rattle.trace_commands.proofs.Lemmas.{no_run, run_printed}
+use Rattle.run_reports.specs.Causes.{LogReportFails, RunFails}
+use Rattle.run_reports.specs.RunReports.{AskedRun, TraceOutput}
+use Rattle.run_reports.proofs.Lemmas.{no_run, run_printed}
 use Rattle.run_command.specs.UnfinishedRuns.{AskedRuns, EndsInFault, IsSilentBut, PrintsUnfinished, RunsEndIn, UnfinishedLogEnds}
 use Rattle.run_command.specs.UnfinishedRuns.{is_reported}
 use Rattle.schedules.specs.declared.sweeping.SweepEnd.{SweepEnd}

@@ -30,7 +30,7 @@ use Rattle.processor_threads.specs.Endings.{EndsWithStop, IsOfMemory, WereMade}
 use Rattle.processor_threads.specs.declared.fault.RunFault.{RunFault}
 use Rattle.command_io.specs.Events.{shown_by, shown_from, with_event}
 use Rattle.command_io.specs.Tallies.{ShownBy, nothing_shown, with_byte}
-use Rattle.trace_commands.specs.CountedReplays.{AreConsoles, events_in}
+use Rattle.run_reports.specs.CountedReplays.{AreConsoles, events_in}
 use Rattle.processor_threads.specs.Faults.{is_of_host}
 use Rattle.run_command.specs.ThreadRuns.{EndInStop, HasEnded, IsOfThreads}
 

@@ -17,9 +17,9 @@ use Rattle.machine_steps.proofs.Lemmas.{replay_begins}
 use Rattle.machine_log.specs.Logs.{Log, HasTaken, entered}
 use Rattle.machine_log.proofs.Lemmas.{entered_moving}
 use Rattle.command_io.specs.Tallies.{TallyState, nothing_shown}
-use Rattle.trace_commands.specs.CountedReplays.{HasRoom, IsTallied}
-use Rattle.trace_commands.specs.InMemory.{IsReplayInMemory}
-use Rattle.trace_commands.proofs.Lemmas.{all_replayed, was_made}
+use Rattle.run_reports.specs.CountedReplays.{HasRoom, IsTallied}
+use Rattle.run_reports.specs.InMemory.{IsReplayInMemory}
+use Rattle.run_reports.proofs.Lemmas.{all_replayed, was_made}
 use Rattle.run_command.specs.CountedMachines.{CountedModel, HasNoted, IsCountedLog}
 
 -- ---- the tally

@@ -11,7 +11,7 @@ use Rattle.machine_steps.specs.Runs.{IsOpening}
 use Rattle.machine_log.specs.Logs.{Log}
 use Rattle.command_io.specs.declared.fault.Fault.{Fault}
 use Rattle.command_io.specs.declared.fault.Fault.TheVariants as fault
-use Rattle.trace_commands.proofs.Lemmas.{is_spelled}
+use Rattle.run_reports.proofs.Lemmas.{is_spelled}
 use Rattle.command_io.specs.Links.{Input}
 use Rattle.run_command.specs.Faults.{IsOfRun}
 use Rattle.run_command.specs.ThreadRuns.{HasBegun, HasEnded, IsDrainedAfter, IsNotThreaded, IsThreaded, IsThreadsLog, IsUnfinished, ThreadedRun}

@@ -9,7 +9,7 @@ use Rattle.schedules.specs.Sweeps.{IsWholeRun, most_of}
 use Rattle.schedules.specs.declared.sweeping.SweepEnd.{SweepEnd}
 use Rattle.schedules.specs.declared.sweeping.SweepEnd.TheVariants.{Over}
 use Rattle.elf_image.specs.Files.{IsImageOf}
-use Rattle.trace_commands.specs.TraceReports.{IsReportOf, IsReportedRun}
+use Rattle.run_reports.specs.RunReports.{IsReportOf, IsReportedRun}
 use Rattle.command_io.specs.Links.{known_input}
 use Rattle.run_command.specs.SweepRuns.{IsRunWithin, SweepRun, by_sweep, most_unlogged, sweep_run, without_log}
 

@@ -13,9 +13,9 @@ use Rattle.schedules.specs.declared.sweeping.SweepEnd.{SweepEnd}
 use Rattle.schedules.specs.declared.sweeping.SweepEnd.TheVariants.{Budget}
 use Rattle.command_io.specs.declared.fault.Fault.{Fault}
 use Rattle.command_io.specs.declared.fault.Fault.TheVariants as fault
-use Rattle.trace_commands.specs.Causes.{RunFails}
-use Rattle.trace_commands.specs.TraceReports.{AskedRun, TraceOutput}
-use Rattle.trace_commands.proofs.Lemmas.{is_spelled}
+use Rattle.run_reports.specs.Causes.{RunFails}
+use Rattle.run_reports.specs.RunReports.{AskedRun, TraceOutput}
+use Rattle.run_reports.proofs.Lemmas.{is_spelled}
 use Rattle.command_io.specs.Links.{Input, Output}
 use Rattle.run_command.specs.SweepRuns.{FailsBefore, IsNotReported, IsRunOf, RunFailsWithin, RunItselfFails, SweepRun, sweep_run}
 

@@ -15,8 +15,8 @@ use Rattle.command_io.specs.declared.fault.Fault.{Fault}
 use Rattle.command_io.specs.declared.fault.Fault.TheVariants as fault
 use Rattle.command_io.specs.Links.{Input, Output}
 use Rattle.command_io.specs.Tallies.{TallyState}
-use Rattle.trace_commands.specs.InMemory.{IsReplayInMemory}
-use Rattle.trace_commands.specs.TraceReports.{AskedRun, IsReportOf, IsRunReport, IsSomeRunReport}
+use Rattle.run_reports.specs.InMemory.{IsReplayInMemory}
+use Rattle.run_reports.specs.RunReports.{AskedRun, IsReportOf, IsRunReport, IsSomeRunReport}
 use Rattle.run_command.specs.CountedMachines.{CountedModel, IsCountedLog, IsDrainedLog}
 use Rattle.command_io.specs.Printing.{PrintsPrefix}
 use Rattle.run_command.specs.SweepRuns.{FailsBefore, IsCountedRun, IsNotCounted, IsRunWithin, IsSomeReport, IsSweptTo, RunFailsWithin, SweepRun}

@@ -4,7 +4,7 @@ use Rattle.machine_steps.specs.Draining.{drain_steps}
 use Rattle.machine_steps.specs.Machines.{MachineLists, IsIdle}
 use Rattle.machine_log.specs.Logs.{Log}
 use Rattle.command_io.specs.Tallies.{TallyState}
-use Rattle.trace_commands.specs.InMemory.{IsReplayInMemory}
+use Rattle.run_reports.specs.InMemory.{IsReplayInMemory}
 
 -- The machine's opening, the machine now, how many steps it has taken, and what its processors have shown in them,
 -- unless memory ran out.

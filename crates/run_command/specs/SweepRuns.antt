@@ -16,8 +16,8 @@ use Rattle.command_io.specs.declared.fault.Fault.{Fault}
 use Rattle.command_io.specs.declared.fault.Fault.TheVariants as fault
 use Rattle.command_io.specs.Links.{Input}
 use Rattle.command_io.specs.Tallies.{TallyState}
-use Rattle.trace_commands.specs.CountedReplays.{IsReplayCounted}
-use Rattle.trace_commands.specs.TraceReports.{AskedRun, IsReportedRun, TraceOutput}
+use Rattle.run_reports.specs.CountedReplays.{IsReplayCounted}
+use Rattle.run_reports.specs.RunReports.{AskedRun, IsReportedRun, TraceOutput}
 use Rattle.run_command.specs.UnfinishedRuns.{AskedRuns, is_reported}
 
 -- A run by the sweep, as it is asked for: the machine's size, the number of steps that it may take, and the image's

@@ -16,8 +16,8 @@ use Rattle.machine_steps.specs.steps.Kinds.{all_within, no_poke}
 use Rattle.command_io.specs.declared.fault.Fault.{Fault}
 use Rattle.command_io.specs.declared.fault.Fault.TheVariants as fault
 use Rattle.command_io.specs.Links.{Input}
-use Rattle.trace_commands.specs.CountedReplays.{AreConsoles, events_in}
-use Rattle.trace_commands.specs.TraceReports.{AskedRun}
+use Rattle.run_reports.specs.CountedReplays.{AreConsoles, events_in}
+use Rattle.run_reports.specs.RunReports.{AskedRun}
 use Rattle.run_command.specs.UnfinishedRuns.{AskedRuns}
 
 -- The last event is a stop.

@@ -7,8 +7,8 @@ use Rattle.command_io.specs.declared.fault.Fault.{Fault}
 use Rattle.command_io.specs.declared.fault.Fault.TheVariants as fault
 use Rattle.command_io.specs.Links.{IsOfLink, Output}
 use Rattle.machine_log.specs.Logs.{Log}
-use Rattle.trace_commands.specs.Causes.{LogReportFails, RunFails}
-use Rattle.trace_commands.specs.TraceReports.{AskedRun, PrintsLog, PrintsRun, TraceOutput}
+use Rattle.run_reports.specs.Causes.{LogReportFails, RunFails}
+use Rattle.run_reports.specs.RunReports.{AskedRun, PrintsLog, PrintsRun, TraceOutput}
 
 -- The two kinds of runs that a command can meet: one that is over, and an unfinished one, which its budget has ended.
 -- `both` says whether the command reports an unfinished run, too.

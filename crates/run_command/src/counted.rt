@@ -6,12 +6,12 @@ ghost use Rattle.run_command.specs.CountedMachines.{IsCountedLog, IsDrainedLog};
 
 use command_io::Tally;
 use machine_steps::{Machine, laws};
+use run_reports::{drain_tallied, step_tallied};
 use schedules::StepTaker;
 use std::alloc::Global;
 use std::marker::Model;
 use std::snapshot::Snapshot;
 use steps::{Outcome, Step};
-use trace_commands::{drain_tallied, step_tallied};
 
 /// A machine that keeps no log of its steps. It counts them, and what its processors show in them.
 #[derive(Drop)]

@@ -3,7 +3,7 @@
 ghost use Rattle.std.specs.Prelude.{◌≡◌, ℕ, List};
 ghost use Rattle.flat_machine.specs.declared.config.Config.{Config};
 ghost use Rattle.machine_steps.specs.steps.declared.step.Step.{Step};
-ghost use Rattle.trace_commands.specs.TraceReports.{IsReportedRun};
+ghost use Rattle.run_reports.specs.RunReports.{IsReportedRun};
 ghost use Rattle.command_io.specs.Links.{known_input};
 ghost use Rattle.run_command.specs.SweepRuns.{by_sweep, sweep_run, without_log};
 
@@ -18,7 +18,7 @@ pub fn runs_have_one_report()
 {
     elf_image::laws::input_means_one_layout();
     schedules::laws::runs_have_one_log();
-    trace_commands::laws::steps_have_one_report();
+    run_reports::laws::steps_have_one_report();
 }
 
 /// A run by the sweep that keeps no log has the same steps, the same report and the same exit status as one that keeps
@@ -32,5 +32,5 @@ pub fn unlogged_runs_have_the_same_report()
 {
     elf_image::laws::input_means_one_layout();
     schedules::laws::runs_have_one_log();
-    trace_commands::laws::steps_have_one_report();
+    run_reports::laws::steps_have_one_report();
 }

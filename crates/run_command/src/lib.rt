@@ -4,7 +4,7 @@
 //! on its own thread (`processor_threads`), until all have stopped. [`unlogged_run_command`] runs a program by the
 //! sweep and keeps no log of it, so it may take more steps; it reports the machine that took them.
 //!
-//! The others report the log of the run as `ultra replay` does (`trace_commands`). For a run on threads, the log has
+//! The others report the log of the run as `ultra replay` does (`run_reports`). For a run on threads, the log has
 //! the steps in the order in which the threads took them, and the console bytes are those that the threads sent.
 //!
 //! A run that its budget ends is reported only if that is asked for. Then the fault of the budget is reported, too.

@@ -3,7 +3,7 @@
 ghost use Rattle.std.specs.Prelude.{◌≡◌, ◌≤◌, ◌↔◌, ◌⊎◌, true, false, IfOk, IfErr, IsErrOf, OnOk};
 ghost use Rattle.schedules.specs.Sweeps.{IsSwept, most_of};
 ghost use Rattle.schedules.specs.trace_file.Traces.{HaveRecords};
-ghost use Rattle.trace_commands.specs.TraceReports.{IsWorking, PrintsRun, trace_output};
+ghost use Rattle.run_reports.specs.RunReports.{IsWorking, PrintsRun, trace_output};
 ghost use Rattle.command_io.specs.FaultTexts.{IsReported};
 ghost use Rattle.command_io.specs.Links.{input, output};
 ghost use Rattle.command_io.specs.Printing.{ReportsCause};
@@ -18,10 +18,10 @@ use elf_image::ImageError;
 use flat_machine::Config;
 use link::{LinkRead, LinkWrite};
 use machine_log::{Logged, laws};
+use run_reports::print_run;
 use schedules::{SweepEnd, follow_sweep};
 use std::alloc::Global;
 use std::io::Write;
-use trace_commands::print_run;
 
 /// Reads an image, runs it by the sweep on a machine of this size, and prints the report. The sweep ends if a fault
 /// stops a processor, if no processor runs, or if the log has as many steps as the budget; then the machine takes steps

@@ -1,7 +1,7 @@
 //! `ultra run` on threads: from the bytes of an image to the report of its run.
 
 ghost use Rattle.std.specs.Prelude.{◌≡◌, ◌≤◌, ◌↔◌, ◌⊎◌, true, false, IfOk, IfErr, IsErrOf};
-ghost use Rattle.trace_commands.specs.TraceReports.{IsWorking, PrintsRun, trace_output};
+ghost use Rattle.run_reports.specs.RunReports.{IsWorking, PrintsRun, trace_output};
 ghost use Rattle.command_io.specs.FaultTexts.{IsReported};
 ghost use Rattle.command_io.specs.Links.{input, output};
 ghost use Rattle.command_io.specs.Printing.{ReportsCause};
@@ -15,11 +15,11 @@ use elf_image::ImageError;
 use flat_machine::Config;
 use link::{LinkRead, LinkWrite};
 use processor_threads::Gate;
+use run_reports::print_run;
 use std::alloc::Global;
 use std::io::Write;
 use std::sync::Wait;
 use std::thread::Threads;
-use trace_commands::print_run;
 
 /// Reads an image, runs it on a machine of this size with each processor on its own thread, and prints the report. The
 /// run ends when all processors have stopped. Each thread has `budget` rounds: in each round it takes a turn of its

@@ -1,16 +1,16 @@
 //! The report of a run that its budget has ended.
 
 ghost use Rattle.std.specs.Prelude.{◌≡◌, ◌↔◌, ◌⊎◌, true, false};
-ghost use Rattle.trace_commands.specs.TraceReports.{CanBeReported, IsWorking, trace_output};
+ghost use Rattle.run_reports.specs.RunReports.{CanBeReported, IsWorking, trace_output};
 ghost use Rattle.command_io.specs.Links.{output};
 ghost use Rattle.run_command.specs.UnfinishedRuns.{UnfinishedLogEnds, is_reported};
 
 use command_io::Fault;
 use link::LinkWrite;
 use machine_log::Logged;
+use run_reports::print_run;
 use schedules::SweepEnd;
 use std::alloc::Global;
-use trace_commands::print_run;
 
 /// Writes the trace of the log of an unfinished run, if one is asked for, and then prints the log's report. Returns the
 /// fault to report: [`Fault::Budget`] if all is printed, otherwise what [`print_run`] fails with.

@@ -1,7 +1,7 @@
 //! `ultra run --sweep --no-log`: from the bytes of an image to the report of its run, without a log.
 
 ghost use Rattle.std.specs.Prelude.{◌≡◌, ◌≤◌, ◌↔◌, ◌⊎◌, true, false, IfOk, IfErr, IsErrOf, string_bytes};
-ghost use Rattle.trace_commands.specs.TraceReports.{PrintsRun};
+ghost use Rattle.run_reports.specs.RunReports.{PrintsRun};
 ghost use Rattle.command_io.specs.FaultTexts.{IsReported};
 ghost use Rattle.command_io.specs.Links.{input, output};
 ghost use Rattle.command_io.specs.Printing.{ReportsCause};
@@ -17,10 +17,10 @@ use elf_image::ImageError;
 use flat_machine::Config;
 use link::{LinkRead, LinkWrite};
 use machine_steps::{Machine, laws};
+use run_reports::report_with_status;
 use schedules::{SweepEnd, follow};
 use std::alloc::Global;
 use std::io::Write;
-use trace_commands::report_with_status;
 
 /// The most steps that a run without a log takes before its drain. A tally counts fewer than 2^32.
 const MAX_UNLOGGED: u32 = 4_000_000_000;

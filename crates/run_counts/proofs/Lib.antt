@@ -1,3 +1,4 @@
 pub mod Going
 pub mod Order
 pub mod Sizes
+pub mod LatencySteps

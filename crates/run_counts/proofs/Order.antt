@@ -124,7 +124,8 @@ unfolding begun_from
 begun_more r [] x = refl
 begun_more r (y ∷ ys) x = begun_more (begun_at r y) ys x
 
-one_more : (r : Begun) (s : Step) → (begun_at r s).count ≤ r.count + 1
+-- A step begins one round at most.
+pub one_more : (r : Begun) (s : Step) → (begun_at r s).count ≤ r.count + 1
 one_more r s = by (is_asked s) (goes_on r.last s)
   where
     by : (b c : Bool) → (if b then record { count = if c then r.count else r.count + 1; last = Some s } else r).count ≤ r.count + 1

@@ -3,7 +3,7 @@ use Rattle.std.specs.Prelude.{ℕ, ◌+◌, ◌*◌, Option, Some, None, nat_lt,
 use Rattle.steps.specs.declared.step.Step.{Step}
 use Rattle.steps.specs.declared.step.Step.TheVariants as step
 use Rattle.steps.specs.declared.step.Outcome.{Outcome}
-use Rattle.steps.specs.declared.step.Outcome.TheVariants.{Retired, Moved, Combined, Served, Answered}
+use Rattle.steps.specs.declared.step.Outcome.TheVariants.{Retired, Issued, Moved, Combined, Served, Answered}
 
 -- the kind of a step: a turn, a move of a request, a service, a move of a reply, or a write from outside
 abbrev pub kind : Step → Option ℕ
@@ -37,6 +37,11 @@ return _ = None
 abbrev pub retired : Step → Outcome → Option ℕ
 retired s (Retired r) = turn s
 retired s _ = None
+
+-- the processor whose request was sent
+abbrev pub issued : Step → Outcome → Option ℕ
+issued s Issued = turn s
+issued s _ = None
 
 -- the stage through which a request moved without being combined
 abbrev pub moved : Step → Outcome → Option ℕ

@@ -4,3 +4,5 @@ pub mod Counts
 pub mod Longest
 pub mod Rounds
 pub mod Lines
+pub mod Latencies
+pub mod LatencyLines

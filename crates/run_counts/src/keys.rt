@@ -71,6 +71,16 @@ pub(crate) fn processor_of_retirement(step: &Step, outcome: &Outcome) -> Option<
     }
 }
 
+/// The processor whose request was sent.
+pub(crate) fn processor_of_request(step: &Step, outcome: &Outcome) -> Option<u16>
+    ensures { result ≡ keys.issued step.now outcome.now }
+{
+    match *outcome {
+        Outcome::Issued => turn(step),
+        _ => None,
+    }
+}
+
 /// The stage through which a request moved without being combined.
 pub(crate) fn stage_of_move(step: &Step, outcome: &Outcome) -> Option<u16>
     ensures { result ≡ keys.moved step.now outcome.now }

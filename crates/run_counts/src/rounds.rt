@@ -1,6 +1,6 @@
 //! The rounds of a schedule.
 
-ghost use Rattle.std.specs.Prelude.{◌≡◌, ◌+◌, ◌<◌, ◌^◌};
+ghost use Rattle.std.specs.Prelude.{◌≡◌, ◌≤◌, ◌+◌, ◌<◌, ◌^◌};
 ghost use Rattle.run_counts.specs.Rounds.{IsFewest, before_down, before_serve, before_turn, before_up, begun_at};
 ghost use Rattle.run_counts.specs.Rounds.{comes_before};
 ghost use Rattle.run_counts.specs.Rounds.{goes_on};
@@ -9,10 +9,11 @@ use steps::Step;
 
 /// The rounds of the sweep that the steps so far began.
 #[derive(Clone, Copy, Debug, PartialEq, Eq, Drop)]
-struct Begun {
-    count: usize,
+pub struct Begun {
+    /// How many they are.
+    pub count: usize,
     /// The last step that a round asks for.
-    last: Option<Step>,
+    pub last: Option<Step>,
 }
 
 /// The fewest rounds of the sweep that take these steps in their order. A round takes turns, then moves of requests
@@ -26,15 +27,17 @@ pub fn rounds_of(steps: &[Step]) -> usize
         last: None,
     };
     for step in steps {
-        begun = after(begun, step);
+        begun = rounds_after(begun, step);
     }
     begun.count
 }
 
-/// The rounds begun after one more step.
-fn after(begun: Begun, step: &Step) -> Begun
+/// The rounds that the steps so far and one more began. The last of them is the round of that step, unless it is a
+/// write from outside.
+pub fn rounds_after(begun: Begun, step: &Step) -> Begun
     requires { begun.count + 1 < 2 ^ 64 }
-    ensures { result ≡ begun_at begun step.now }
+    ensures exact { result ≡ begun_at begun step.now }
+    ensures few { result.count ≤ begun.count + 1 }
 {
     if step.is_poke() {
         return begun;

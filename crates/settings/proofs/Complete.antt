@@ -15,7 +15,8 @@ use Rattle.command_forms.specs.Commands.{Bounds, asm_command, budget, check_comm
 use Rattle.command_forms.specs.Commands.{dis_command, explain_command, explore_command, hunt_command, order_command}
 use Rattle.command_forms.specs.Commands.{port, processor, queue, records, picture_command, replay_command, run_command, runs}
 use Rattle.command_forms.specs.Commands.{shared_word, shared_words, stages, start, states, stats_command, step, steps}
-use Rattle.command_forms.specs.Commands.{first_line, last_line, story_command, ultra_command, witness, words_command}
+use Rattle.command_forms.specs.Commands.{first_line, last_line, steps_command, story_command, trace_command, ultra_command}
+use Rattle.command_forms.specs.Commands.{witness, words_command}
 use Rattle.command_forms.proofs.Lemmas.{commands}
 use Rattle.settings.specs.Given.{HasAsm, HasDebug, HasDis, HasExplore, HasHunt, HasLines, HasPath, HasPicture}
 use Rattle.settings.specs.Given.{HasReplay, HasRun, HasSizes, IsComplete, IsOneOf, IsWhole, command_names}
@@ -74,8 +75,10 @@ Has name rows =
     (Where (bytes_eq name (codes "story")) (HasLines rows)
     (Where (bytes_eq name (codes "stats")) (HasReplay rows)
     (Where (bytes_eq name (codes "picture")) (HasPicture rows)
+    (Where (bytes_eq name (codes "trace")) (HasPath (codes "TRACE") rows)
+    (Where (bytes_eq name (codes "steps")) (HasAsm rows)
     (Where (bytes_eq name (codes "debug")) (HasDebug rows)
-    ⊤))))))))))))
+    ⊤))))))))))))))
 
 is_one_of : (name : Text) (names : List Text) → list_any (λ x. bytes_eq name x) names ≡ true → IsOneOf name names
 is_one_of name [] e = absurd (true≢false (sym e))
@@ -101,6 +104,8 @@ whole name rows known has = record {
   story = λ is. subst (λ n. Has n rows) is has;
   stats = λ is. subst (λ n. Has n rows) is has;
   picture = λ is. subst (λ n. Has n rows) is has;
+  trace = λ is. subst (λ n. Has n rows) is has;
+  steps = λ is. subst (λ n. Has n rows) is has;
   debug = λ is. subst (λ n. Has n rows) is has;
 }
 
@@ -124,6 +129,20 @@ asm_provided words e = whole (codes "asm") _ refl (
   required_there (built_leaf asm_command.top) (codes "FILE") words refl
       (λ rows h. (both_required (is_given (codes "FILE") rows) (is_given (codes "OUT") rows) h).0) e,
   required_there (built_leaf asm_command.top) (codes "OUT") words refl
+      (λ rows h. (both_required (is_given (codes "FILE") rows) (is_given (codes "OUT") rows) h).1) e,
+)
+
+trace_provided : IsProvided (built_leaf trace_command.top)
+unfolding commands
+trace_provided words e = whole (codes "trace") _ refl
+    (required_there (built_leaf trace_command.top) (codes "TRACE") words refl (λ rows. required (is_given (codes "TRACE") rows)) e)
+
+steps_provided : IsProvided (built_leaf steps_command.top)
+unfolding commands
+steps_provided words e = whole (codes "steps") _ refl (
+  required_there (built_leaf steps_command.top) (codes "FILE") words refl
+      (λ rows h. (both_required (is_given (codes "FILE") rows) (is_given (codes "OUT") rows) h).0) e,
+  required_there (built_leaf steps_command.top) (codes "OUT") words refl
       (λ rows h. (both_required (is_given (codes "FILE") rows) (is_given (codes "OUT") rows) h).1) e,
 )
 
@@ -283,9 +302,11 @@ enters : (stop : Option (Text × List Text)) → StopsAtNoHelp stop → entered_
 unfolding built_ultra commands
 enters None unhelped e has = absurd (true≢false (sym has))
 enters (Some p) unhelped e has =
-    let provided : AreProvidedFrom p.0 14 = ((λ is. absurd (helped (bytes_eq (codes "help") p.0) (no_help p.0 unhelped) is)), tt) in
-    let provided : AreProvidedFrom p.0 13 = ((λ is. explain_provided), provided) in
-    let provided : AreProvidedFrom p.0 12 = ((λ is. debug_provided), provided) in
+    let provided : AreProvidedFrom p.0 16 = ((λ is. absurd (helped (bytes_eq (codes "help") p.0) (no_help p.0 unhelped) is)), tt) in
+    let provided : AreProvidedFrom p.0 15 = ((λ is. explain_provided), provided) in
+    let provided : AreProvidedFrom p.0 14 = ((λ is. debug_provided), provided) in
+    let provided : AreProvidedFrom p.0 13 = ((λ is. steps_provided), provided) in
+    let provided : AreProvidedFrom p.0 12 = ((λ is. trace_provided), provided) in
     let provided : AreProvidedFrom p.0 11 = ((λ is. picture_provided), provided) in
     let provided : AreProvidedFrom p.0 10 = ((λ is. stats_provided), provided) in
     let provided : AreProvidedFrom p.0 9 = ((λ is. story_provided), provided) in

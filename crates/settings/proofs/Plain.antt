@@ -1,5 +1,5 @@
 -- The command lines without options.
-use Rattle.std.proofs.Common.{◌≡◌, ◌∙◌, ◌==◌, Bool, true, false, true≢false, refl, sym, ap, subst, inl, inr, arith}
+use Rattle.std.proofs.Common.{◌≡◌, ◌∙◌, ◌==◌, ◌↔◌, Bool, true, false, true≢false, refl, sym, ap, subst, inl, inr, arith}
 use Rattle.std.proofs.Common.{List, [], ◌∷◌, map, Option, None, Some, Result, Ok, Err, IfOk, MatchResult, codes}
 use Rattle.std.proofs.Common.{option_map}
 use Rattle.std.specs.Borrow.{Bor}
@@ -18,10 +18,11 @@ use Rattle.settings.specs.declared.choice.Settings.{Settings}
 use Rattle.settings.specs.declared.choice.Settings.TheVariants as asked
 use Rattle.clap.proofs.OnLiterals.{clap_on_literals}
 use Rattle.settings.specs.declared.choice.Explain.{Explain}
+use Rattle.settings.specs.declared.choice.LineStyle.{LineStyle}
 use Rattle.settings.specs.declared.choice.Replay.{Replay}
 use Rattle.settings.specs.Lines.{Gives, IsAsked, IsChosen, GivesExplain, name_of}
 use Rattle.command_forms.specs.Commands.{ultra_command}
-use Rattle.settings.specs.Plain.{HasFile, HasFiles, HasOthers, HasTrace, IsNoOption, IsPlain, texts_of}
+use Rattle.settings.specs.Plain.{HasFile, HasFiles, HasOthers, HasTrace, IsAsItIs, IsNoOption, IsPlain, texts_of}
 use Rattle.command_forms.proofs.Lemmas.{commands}
 
 no_hyphen : (file : Text) → IsNoOption file → strip_byte 45 file ≡ None
@@ -109,6 +110,13 @@ unset : (b : Bool) → (b ≡ true → Some (codes "false") ≡ Some (codes "tru
 unset false f = refl
 unset true f = let bad : Some (codes "false") ≡ Some (codes "true") = f refl in cc
 
+-- No names, no decimal values and no JSON are asked for.
+as_it_is : (y : LineStyle)
+    → (None ≡ option_map (λ t. t.now) y.symbols) × ((y.decimal ≡ true) ↔ (Some (codes "false") ≡ Some (codes "true")))
+    × ((y.json ≡ true) ↔ (Some (codes "false") ≡ Some (codes "true")))
+    → IsAsItIs y
+as_it_is y said = (no_text y.symbols said.0, unset y.decimal said.1.0, unset y.json said.2.0)
+
 -- ---- the commands with one file
 
 data OnFile : Type 0 where
@@ -118,6 +126,7 @@ data OnFile : Type 0 where
   OfRun : OnFile
   OfHunt : OnFile
   OfExplore : OnFile
+  OfTrace : OnFile
   OfDebug : OnFile
 
 abbrev name_on_file : OnFile → Text
@@ -127,20 +136,27 @@ name_on_file OfDis = codes "dis"
 name_on_file OfRun = codes "run"
 name_on_file OfHunt = codes "hunt"
 name_on_file OfExplore = codes "explore"
+name_on_file OfTrace = codes "trace"
 name_on_file OfDebug = codes "debug"
 
 abbrev flags_on_file : OnFile → List Text
 flags_on_file OfWords = []
-flags_on_file OfCheck = codes "json" ∷ []
+flags_on_file OfCheck = codes "course" ∷ codes "json" ∷ []
 flags_on_file OfDis = codes "comments" ∷ codes "abi" ∷ []
-flags_on_file OfRun = codes "sweep" ∷ codes "no-log" ∷ codes "unfinished" ∷ codes "quiet" ∷ codes "json" ∷ []
-flags_on_file OfHunt = codes "overwrite" ∷ codes "expect-one" ∷ codes "quiet" ∷ codes "json" ∷ []
-flags_on_file OfExplore = codes "each" ∷ codes "every" ∷ codes "quiet" ∷ codes "json" ∷ []
+flags_on_file OfRun = codes "sweep" ∷ codes "no-log" ∷ codes "unfinished" ∷ codes "quiet" ∷ codes "decimal" ∷ codes "json" ∷ []
+flags_on_file OfHunt = codes "overwrite" ∷ codes "expect-one" ∷ codes "quiet" ∷ codes "decimal" ∷ codes "json" ∷ []
+flags_on_file OfExplore = codes "each" ∷ codes "fair" ∷ codes "every" ∷ codes "quiet" ∷ codes "decimal" ∷ codes "json" ∷ []
+flags_on_file OfTrace = []
 flags_on_file OfDebug = codes "stdio" ∷ []
+
+-- what the help calls the file
+abbrev id_on_file : OnFile → Text
+id_on_file OfTrace = codes "TRACE"
+id_on_file c = codes "FILE"
 
 -- the file, and no flag
 file_rows : OnFile → (file : Text) → List Row
-file_rows c file = row (codes "FILE") file CommandLine ∷ unset_flags (flags_on_file c)
+file_rows c file = row (id_on_file c) file CommandLine ∷ unset_flags (flags_on_file c)
 
 file_met : (c : OnFile) (program file : Text) → IsNoOption file → Meets (program ∷ name_on_file c ∷ file ∷ []) (name_on_file c) (file_rows c file)
 unfolding row unset_flags file_rows clap_on_literals commands
@@ -150,65 +166,69 @@ file_met OfDis program file h = rw (no_hyphens file h, no_hyphen file h, no_hyph
 file_met OfRun program file h = rw (no_hyphens file h, no_hyphen file h, no_hyphen file h) (refl, refl)
 file_met OfHunt program file h = rw (no_hyphens file h, no_hyphen file h, no_hyphen file h) (refl, refl)
 file_met OfExplore program file h = rw (no_hyphens file h, no_hyphen file h, no_hyphen file h) (refl, refl)
+file_met OfTrace program file h = rw (no_hyphens file h, no_hyphen file h, no_hyphen file h) (refl, refl)
 file_met OfDebug program file h = rw (no_hyphens file h, no_hyphen file h, no_hyphen file h) (refl, refl)
 
 file_are : (c : OnFile) (file : Text) (words : List Text) → HasFile (name_on_file c) file words → (s : Settings)
     → (name_of s ≡ name_on_file c) × Gives (file_rows c file) s → IsPlain s words
 unfolding row unset_flags file_rows
 file_are OfWords file words named (asked.Words w) said = file_read file w.file.now words named said.1
-file_are OfCheck file words named (asked.Check c) said = (file_read file c.file.now words named said.1.0, unset c.json said.1.1.0)
+file_are OfCheck file words named (asked.Check c) said = (file_read file c.file.now words named said.1.0, unset c.course said.1.1.0, unset c.json said.1.2.0)
 file_are OfDis file words named (asked.Dis d) said =
     let shared = said.1.4 in
     (file_read file d.file.now words named said.1.0, unset d.comments said.1.1.0, no_text d.symbols said.1.2, unset d.abi said.1.3.0, shared.0)
 file_are OfRun file words named (asked.Run r) said =
-    let sizes = said.1.8 in
-    let budget = said.1.9 in
-    let start = said.1.10 in (
+    let sizes = said.1.7 in
+    let budget = said.1.8 in
+    let start = said.1.9 in (
       file_read file r.file.now words named said.1.0,
       no_text r.trace said.1.1,
       unset r.sweep said.1.2.0,
       unset r.no_log said.1.3.0,
       unset r.unfinished said.1.4.0,
       unset r.quiet said.1.5.0,
-      no_text r.symbols said.1.6,
-      unset r.json said.1.7.0,
+      as_it_is r.style said.1.6,
       (sizes.0.0, sizes.1.0, sizes.2.0, sizes.3.0, sizes.4.0),
       budget.0,
       start.0,
     )
 file_are OfHunt file words named (asked.Hunt h) said =
-    let sizes = said.1.8 in
-    let budget = said.1.9 in
-    let runs = said.1.10 in
-    let start = said.1.11 in (
+    let sizes = said.1.7 in
+    let budget = said.1.8 in
+    let runs = said.1.9 in
+    let start = said.1.10 in (
       file_read file h.file.now words named said.1.0,
       no_text h.trace said.1.1,
       no_text h.observe said.1.2,
       unset h.overwrite said.1.3.0,
       unset h.expect_one said.1.4.0,
       unset h.quiet said.1.5.0,
-      no_text h.symbols said.1.6,
-      unset h.json said.1.7.0,
+      as_it_is h.style said.1.6,
       (sizes.0.0, sizes.1.0, sizes.2.0, sizes.3.0, sizes.4.0),
       budget.0,
       runs.0,
       start.0,
     )
 file_are OfExplore file words named (asked.Explore x) said =
-    let sizes = said.1.8 in
-    let states = said.1.9 in (
+    let sizes = said.1.9 in
+    let states = said.1.10 in (
       file_read file x.file.now words named said.1.0,
       no_text x.trace said.1.1,
       no_text x.observe said.1.2,
-      unset x.each said.1.3.0,
-      unset x.every said.1.4.0,
-      unset x.quiet said.1.5.0,
-      no_text x.symbols said.1.6,
-      unset x.json said.1.7.0,
+      no_text x.against said.1.3,
+      unset x.each said.1.4.0,
+      unset x.fair said.1.5.0,
+      unset x.every said.1.6.0,
+      unset x.quiet said.1.7.0,
+      as_it_is x.style said.1.8,
       (sizes.0.0, sizes.1.0, sizes.2.0, sizes.3.0, sizes.4.0),
       states.0,
-      said.1.10,
+      said.1.11,
+      no_text x.never said.1.12,
+      no_text x.always said.1.13,
+      no_text x.finally said.1.14,
     )
+file_are OfTrace file words named (asked.Trace t) said = file_read file t.trace.now words named said.1
 file_are OfDebug file words named (asked.Debug d) said =
     let sizes = said.1.3 in
     let budget = said.1.4 in
@@ -227,10 +247,11 @@ file_given : (c : OnFile) (file : Text) (words : List Text) → HasFile (name_on
 file_given c file words named =
     give _ words (name_on_file c) (file_rows c file) (rw named.1 (file_met c named.0 file named.2)) (file_are c file words named)
 
--- ---- the commands with two files: `asm FILE OUT`, and those with a trace and an image
+-- ---- the commands with two files: `asm FILE OUT`, `steps FILE OUT`, and those with a trace and an image
 
 data OnFiles : Type 0 where
   OfAsm : OnFiles
+  OfSteps : OnFiles
   OfReplay : OnFiles
   OfOrder : OnFiles
   OfStory : OnFiles
@@ -239,6 +260,7 @@ data OnFiles : Type 0 where
 
 abbrev name_on_files : OnFiles → Text
 name_on_files OfAsm = codes "asm"
+name_on_files OfSteps = codes "steps"
 name_on_files OfReplay = codes "replay"
 name_on_files OfOrder = codes "order"
 name_on_files OfStory = codes "story"
@@ -246,22 +268,26 @@ name_on_files OfStats = codes "stats"
 name_on_files OfPicture = codes "picture"
 
 abbrev flags_on_files : OnFiles → List Text
-flags_on_files OfAsm = []
-flags_on_files OfReplay = codes "json" ∷ []
-flags_on_files OfOrder = codes "abi" ∷ codes "json" ∷ []
-flags_on_files OfStory = codes "json" ∷ []
-flags_on_files OfStats = codes "csv" ∷ codes "json" ∷ []
+flags_on_files OfAsm = codes "course" ∷ []
+flags_on_files OfReplay = codes "decimal" ∷ codes "json" ∷ []
+flags_on_files OfOrder = codes "abi" ∷ codes "decimal" ∷ codes "json" ∷ []
+flags_on_files OfStory = codes "rounds" ∷ codes "decimal" ∷ codes "json" ∷ []
+flags_on_files OfStats = codes "latency" ∷ codes "csv" ∷ codes "json" ∷ []
 flags_on_files OfPicture = []
+flags_on_files OfSteps = []
 
 -- both files, and no flag
 files_rows : OnFiles → (one other : Text) → List Row
-files_rows OfAsm one other = row (codes "FILE") one CommandLine ∷ row (codes "OUT") other CommandLine ∷ []
+files_rows OfAsm one other = row (codes "FILE") one CommandLine ∷ row (codes "OUT") other CommandLine ∷ unset_flags (flags_on_files OfAsm)
+files_rows OfSteps one other = row (codes "FILE") one CommandLine ∷ row (codes "OUT") other CommandLine ∷ []
 files_rows c one other = row (codes "TRACE") one CommandLine ∷ row (codes "FILE") other CommandLine ∷ unset_flags (flags_on_files c)
 
 files_met : (c : OnFiles) (program one other : Text) → IsNoOption one → IsNoOption other
     → Meets (program ∷ name_on_files c ∷ one ∷ other ∷ []) (name_on_files c) (files_rows c one other)
 unfolding row unset_flags files_rows clap_on_literals commands
 files_met OfAsm program one other h k =
+    rw (no_hyphens one h, no_hyphen one h, no_hyphen one h, no_hyphens other k, no_hyphen other k, no_hyphen other k) (refl, refl)
+files_met OfSteps program one other h k =
     rw (no_hyphens one h, no_hyphen one h, no_hyphen one h, no_hyphens other k, no_hyphen other k, no_hyphen other k) (refl, refl)
 files_met OfReplay program one other h k =
     rw (no_hyphens one h, no_hyphen one h, no_hyphen one h, no_hyphens other k, no_hyphen other k, no_hyphen other k) (refl, refl)
@@ -282,30 +308,33 @@ trace_read one other r words named e f shared = (files_read one r.trace.now othe
 files_are : (c : OnFiles) (one other : Text) (words : List Text) → HasFiles (name_on_files c) one other words → (s : Settings)
     → (name_of s ≡ name_on_files c) × Gives (files_rows c one other) s → IsPlain s words
 unfolding row unset_flags files_rows
-files_are OfAsm one other words named (asked.Asm a) said = files_read one a.file.now other a.out.now words named said.1.0 said.1.1
+files_are OfAsm one other words named (asked.Asm a) said =
+    (files_read one a.file.now other a.out.now words named said.1.0 said.1.1, unset a.course said.1.2.0, no_text a.symbols said.1.3)
+files_are OfSteps one other words named (asked.Steps s) said = files_read one s.file.now other s.out.now words named said.1.0 said.1.1
 files_are OfReplay one other words named (asked.Replay r) said =
     let files = said.1.0 in
     let shared = files.2 in
-    (trace_read one other r.replay words named files.0 files.1 shared.0, no_text r.symbols said.1.1, unset r.json said.1.2.0)
+    (trace_read one other r.replay words named files.0 files.1 shared.0, as_it_is r.style said.1.1)
 files_are OfOrder one other words named (asked.Order o) said =
     let lines = said.1.0 in
     let files = lines.0 in
     let shared = files.2 in (
       trace_read one other o.lines.replay words named files.0 files.1 shared.0,
-      (lines.1, lines.2, lines.3, lines.4, no_text o.lines.symbols lines.5, unset o.lines.json lines.6.0),
+      (lines.1, lines.2, lines.3, lines.4, as_it_is o.lines.style lines.5),
       unset o.abi said.1.1.0,
     )
-files_are OfStory one other words named (asked.Story l) said =
-    let lines = said.1 in
+files_are OfStory one other words named (asked.Story s) said =
+    let lines = said.1.0 in
     let files = lines.0 in
     let shared = files.2 in (
-      trace_read one other l.replay words named files.0 files.1 shared.0,
-      (lines.1, lines.2, lines.3, lines.4, no_text l.symbols lines.5, unset l.json lines.6.0),
+      trace_read one other s.lines.replay words named files.0 files.1 shared.0,
+      (lines.1, lines.2, lines.3, lines.4, as_it_is s.lines.style lines.5),
+      unset s.rounds said.1.1.0,
     )
 files_are OfStats one other words named (asked.Stats n) said =
     let files = said.1.0 in
     let shared = files.2 in
-    (trace_read one other n.replay words named files.0 files.1 shared.0, unset n.csv said.1.1.0, unset n.json said.1.2.0)
+    (trace_read one other n.replay words named files.0 files.1 shared.0, unset n.latency said.1.1.0, unset n.csv said.1.2.0, unset n.json said.1.3.0)
 files_are OfPicture one other words named (asked.Picture p) said =
     let files = said.1.0 in
     let shared = files.2 in
@@ -370,15 +399,17 @@ explain_given others words named = give _ words (codes "explain") (explain_rows 
 pub plain_given : (s : Settings) (words : List Text) → IsPlain s words → GivePlain words
 plain_given (asked.Words w) words said = file_given OfWords w.file.now words said
 plain_given (asked.Check c) words said = file_given OfCheck c.file.now words said.0
-plain_given (asked.Asm a) words said = files_given OfAsm a.file.now a.out.now words said
+plain_given (asked.Asm a) words said = files_given OfAsm a.file.now a.out.now words said.0
 plain_given (asked.Dis d) words said = file_given OfDis d.file.now words said.0
 plain_given (asked.Run r) words said = file_given OfRun r.file.now words said.0
 plain_given (asked.Hunt h) words said = file_given OfHunt h.file.now words said.0
 plain_given (asked.Explore x) words said = file_given OfExplore x.file.now words said.0
 plain_given (asked.Replay r) words said = files_given OfReplay r.replay.trace.now r.replay.file.now words said.0.0
 plain_given (asked.Order o) words said = files_given OfOrder o.lines.replay.trace.now o.lines.replay.file.now words said.0.0
-plain_given (asked.Story l) words said = files_given OfStory l.replay.trace.now l.replay.file.now words said.0.0
+plain_given (asked.Story s) words said = files_given OfStory s.lines.replay.trace.now s.lines.replay.file.now words said.0.0
 plain_given (asked.Stats c) words said = files_given OfStats c.replay.trace.now c.replay.file.now words said.0.0
 plain_given (asked.Picture p) words said = files_given OfPicture p.replay.trace.now p.replay.file.now words said.0.0
+plain_given (asked.Trace t) words said = file_given OfTrace t.trace.now words said
+plain_given (asked.Steps s) words said = files_given OfSteps s.file.now s.out.now words said
 plain_given (asked.Debug d) words said = file_given OfDebug d.file.now words said.0
 plain_given (asked.Explain e) words said = explain_given (texts_of e.words.items) words said

@@ -14,6 +14,7 @@ HasNumber o rows =
     (one_of o.name rows ≡ option_map without_minus (first_of o.name rows))
     × IfSome (first_of o.name rows) (IsSignedIn (pos o.low) (pos o.high))
 
+-- a text and OUT, as of `asm` and `steps`
 abbrev pub HasAsm : List Row → Type 0
 HasAsm rows = HasPath (codes "FILE") rows × HasPath (codes "OUT") rows
 
@@ -53,8 +54,8 @@ HasHunt rows =
 abbrev pub command_names : List Text
 command_names =
     codes "words" ∷ codes "check" ∷ codes "asm" ∷ codes "dis" ∷ codes "run" ∷ codes "hunt" ∷ codes "explore"
-    ∷ codes "replay" ∷ codes "order" ∷ codes "story" ∷ codes "stats" ∷ codes "picture" ∷ codes "debug"
-    ∷ codes "explain" ∷ []
+    ∷ codes "replay" ∷ codes "order" ∷ codes "story" ∷ codes "stats" ∷ codes "picture" ∷ codes "trace"
+    ∷ codes "steps" ∷ codes "debug" ∷ codes "explain" ∷ []
 
 abbrev pub IsOneOf : Text → List Text → Type 0
 IsOneOf name [] = ⊥
@@ -75,6 +76,8 @@ pub record IsWhole (name : Text) (rows : List Row) : Type 0 where
   pub story : name ≡ codes "story" → HasLines rows
   pub stats : name ≡ codes "stats" → HasReplay rows
   pub picture : name ≡ codes "picture" → HasPicture rows
+  pub trace : name ≡ codes "trace" → HasPath (codes "TRACE") rows
+  pub steps : name ≡ codes "steps" → HasAsm rows
   pub debug : name ≡ codes "debug" → HasDebug rows
 
 -- There is a subcommand with everything that it requires.

@@ -16,10 +16,14 @@ use Rattle.settings.specs.declared.choice.Hunt.{Hunt}
 use Rattle.settings.specs.declared.choice.Explore.{Explore}
 use Rattle.settings.specs.declared.choice.Replay.{Replay}
 use Rattle.settings.specs.declared.choice.Report.{Report}
+use Rattle.settings.specs.declared.choice.LineStyle.{LineStyle}
 use Rattle.settings.specs.declared.choice.Lines.{Lines}
 use Rattle.settings.specs.declared.choice.Order.{Order}
+use Rattle.settings.specs.declared.choice.Story.{Story}
 use Rattle.settings.specs.declared.choice.Counts.{Counts}
 use Rattle.settings.specs.declared.choice.Picture.{Picture}
+use Rattle.settings.specs.declared.choice.Trace.{Trace}
+use Rattle.settings.specs.declared.choice.Schedule.{Schedule}
 use Rattle.settings.specs.declared.choice.Session.{Session}
 use Rattle.settings.specs.declared.choice.Explain.{Explain}
 use Rattle.settings.specs.declared.choice.Sizes.{Sizes}
@@ -55,14 +59,21 @@ AreSizes rows s = IsNumber stages rows s.k × IsNumber queue rows s.c × IsNumbe
     × IsNumber combinations rows s.r
     × IsNumber shared_words rows s.words
 
+-- How lines are printed is what the options say.
+abbrev pub GivesStyle : List Row → LineStyle → Type 0
+GivesStyle rows y = IsOption (codes "symbols") rows y.symbols × IsFlag (codes "decimal") rows y.decimal
+    × IsFlag (codes "json") rows y.json
+
 abbrev pub GivesWords : List Row → Words → Type 0
 GivesWords rows w = IsPath (codes "FILE") rows w.file.now
 
 abbrev pub GivesCheck : List Row → Check → Type 0
-GivesCheck rows c = IsPath (codes "FILE") rows c.file.now × IsFlag (codes "json") rows c.json
+GivesCheck rows c = IsPath (codes "FILE") rows c.file.now × IsFlag (codes "course") rows c.course
+    × IsFlag (codes "json") rows c.json
 
 abbrev pub GivesAsm : List Row → Asm → Type 0
 GivesAsm rows a = IsPath (codes "FILE") rows a.file.now × IsPath (codes "OUT") rows a.out.now
+    × IsFlag (codes "course") rows a.course × IsOption (codes "symbols") rows a.symbols
 
 abbrev pub GivesDis : List Row → Dis → Type 0
 GivesDis rows d = IsPath (codes "FILE") rows d.file.now × IsFlag (codes "comments") rows d.comments
@@ -72,47 +83,55 @@ abbrev pub GivesRun : List Row → Run → Type 0
 GivesRun rows r = IsPath (codes "FILE") rows r.file.now
     × IsOption (codes "trace") rows r.trace × IsFlag (codes "sweep") rows r.sweep
     × IsFlag (codes "no-log") rows r.no_log × IsFlag (codes "unfinished") rows r.unfinished
-    × IsFlag (codes "quiet") rows r.quiet × IsOption (codes "symbols") rows r.symbols
-    × IsFlag (codes "json") rows r.json × AreSizes rows r.sizes
+    × IsFlag (codes "quiet") rows r.quiet × GivesStyle rows r.style × AreSizes rows r.sizes
     × IsNumber budget rows r.budget × IsNumber start rows r.start
 
 abbrev pub GivesHunt : List Row → Hunt → Type 0
 GivesHunt rows h = IsPath (codes "FILE") rows h.file.now
     × IsOption (codes "trace") rows h.trace × IsOption (codes "observe") rows h.observe
     × IsFlag (codes "overwrite") rows h.overwrite × IsFlag (codes "expect-one") rows h.expect_one
-    × IsFlag (codes "quiet") rows h.quiet × IsOption (codes "symbols") rows h.symbols
-    × IsFlag (codes "json") rows h.json × AreSizes rows h.sizes
+    × IsFlag (codes "quiet") rows h.quiet × GivesStyle rows h.style × AreSizes rows h.sizes
     × IsNumber steps rows h.budget × IsNumber runs rows h.runs × IsNumber start rows h.start
 
 abbrev pub GivesExplore : List Row → Explore → Type 0
 GivesExplore rows x = IsPath (codes "FILE") rows x.file.now
     × IsOption (codes "trace") rows x.trace × IsOption (codes "observe") rows x.observe
-    × IsFlag (codes "each") rows x.each × IsFlag (codes "every") rows x.every
-    × IsFlag (codes "quiet") rows x.quiet × IsOption (codes "symbols") rows x.symbols
-    × IsFlag (codes "json") rows x.json × AreSizes rows x.sizes
+    × IsOption (codes "against") rows x.against
+    × IsFlag (codes "each") rows x.each × IsFlag (codes "fair") rows x.fair × IsFlag (codes "every") rows x.every
+    × IsFlag (codes "quiet") rows x.quiet × GivesStyle rows x.style × AreSizes rows x.sizes
     × IsNumber states rows x.states × IsChoice witness rows x.witness
+    × IsOption (codes "never") rows x.never × IsOption (codes "always") rows x.always
+    × IsOption (codes "finally") rows x.finally
 
 abbrev pub GivesReplay : List Row → Replay → Type 0
 GivesReplay rows r = IsPath (codes "TRACE") rows r.trace.now × IsPath (codes "FILE") rows r.file.now
     × IsNumber shared_words rows r.words
 
 abbrev pub GivesReport : List Row → Report → Type 0
-GivesReport rows r = GivesReplay rows r.replay × IsOption (codes "symbols") rows r.symbols
-    × IsFlag (codes "json") rows r.json
+GivesReport rows r = GivesReplay rows r.replay × GivesStyle rows r.style
 
 abbrev pub GivesLines : List Row → Lines → Type 0
 GivesLines rows l = GivesReplay rows l.replay × IsChoice processor rows l.processor × IsChoice shared_word rows l.word
-    × IsChoice first_line rows l.from × IsChoice last_line rows l.to × IsOption (codes "symbols") rows l.symbols
-    × IsFlag (codes "json") rows l.json
+    × IsChoice first_line rows l.from × IsChoice last_line rows l.to × GivesStyle rows l.style
 
 abbrev pub GivesOrder : List Row → Order → Type 0
 GivesOrder rows o = GivesLines rows o.lines × IsFlag (codes "abi") rows o.abi
 
+abbrev pub GivesStory : List Row → Story → Type 0
+GivesStory rows s = GivesLines rows s.lines × IsFlag (codes "rounds") rows s.rounds
+
 abbrev pub GivesCounts : List Row → Counts → Type 0
-GivesCounts rows c = GivesReplay rows c.replay × IsFlag (codes "csv") rows c.csv × IsFlag (codes "json") rows c.json
+GivesCounts rows c = GivesReplay rows c.replay × IsFlag (codes "latency") rows c.latency
+    × IsFlag (codes "csv") rows c.csv × IsFlag (codes "json") rows c.json
 
 abbrev pub GivesPicture : List Row → Picture → Type 0
 GivesPicture rows p = GivesReplay rows p.replay × IsChoice step rows p.step
+
+abbrev pub GivesTrace : List Row → Trace → Type 0
+GivesTrace rows t = IsPath (codes "TRACE") rows t.trace.now
+
+abbrev pub GivesSchedule : List Row → Schedule → Type 0
+GivesSchedule rows s = IsPath (codes "FILE") rows s.file.now × IsPath (codes "OUT") rows s.out.now
 
 abbrev pub GivesSession : List Row → Session → Type 0
 GivesSession rows d = IsPath (codes "FILE") rows d.file.now
@@ -133,9 +152,11 @@ name_of (asked.Hunt h) = codes "hunt"
 name_of (asked.Explore x) = codes "explore"
 name_of (asked.Replay r) = codes "replay"
 name_of (asked.Order o) = codes "order"
-name_of (asked.Story l) = codes "story"
+name_of (asked.Story s) = codes "story"
 name_of (asked.Stats c) = codes "stats"
 name_of (asked.Picture p) = codes "picture"
+name_of (asked.Trace t) = codes "trace"
+name_of (asked.Steps s) = codes "steps"
 name_of (asked.Debug d) = codes "debug"
 name_of (asked.Explain e) = codes "explain"
 
@@ -150,9 +171,11 @@ Gives rows (asked.Hunt h) = GivesHunt rows h
 Gives rows (asked.Explore x) = GivesExplore rows x
 Gives rows (asked.Replay r) = GivesReport rows r
 Gives rows (asked.Order o) = GivesOrder rows o
-Gives rows (asked.Story l) = GivesLines rows l
+Gives rows (asked.Story s) = GivesStory rows s
 Gives rows (asked.Stats c) = GivesCounts rows c
 Gives rows (asked.Picture p) = GivesPicture rows p
+Gives rows (asked.Trace t) = GivesTrace rows t
+Gives rows (asked.Steps s) = GivesSchedule rows s
 Gives rows (asked.Debug d) = GivesSession rows d
 Gives rows (asked.Explain e) = GivesExplain rows e
 

@@ -5,6 +5,7 @@ use Rattle.std.specs.Borrow.{Bor}
 use Rattle.clap.specs.Words.{Text}
 use Rattle.settings.specs.declared.choice.Settings.{Settings}
 use Rattle.settings.specs.declared.choice.Settings.TheVariants as asked
+use Rattle.settings.specs.declared.choice.LineStyle.{LineStyle}
 use Rattle.settings.specs.declared.choice.Lines.{Lines}
 use Rattle.settings.specs.declared.choice.Replay.{Replay}
 use Rattle.settings.specs.declared.choice.Sizes.{Sizes}
@@ -39,34 +40,43 @@ HasOthers command others words = (program : Text) × (words ≡ program ∷ comm
 abbrev pub AreUsual : Sizes → Type 0
 AreUsual s = (s.k ≡ 2) × (s.c ≡ 4) × (s.b ≡ 4) × (s.r ≡ 1) × (s.words ≡ 1024)
 
+-- Lines are printed as they are.
+abbrev pub IsAsItIs : LineStyle → Type 0
+IsAsItIs y = (y.symbols ≡ None) × (y.decimal ≡ false) × (y.json ≡ false)
+
 -- No line is left out, and lines are printed as they are.
 abbrev pub TakesAll : Lines → Type 0
-TakesAll l = (l.processor ≡ None) × (l.word ≡ None) × (l.from ≡ None) × (l.to ≡ None) × (l.symbols ≡ None)
-    × (l.json ≡ false)
+TakesAll l = (l.processor ≡ None) × (l.word ≡ None) × (l.from ≡ None) × (l.to ≡ None) × IsAsItIs l.style
 
 -- The words are just the command of these settings with its files, or `explain` with at most four words. So no flag is
 -- set, no trace is written, no names are printed, no choice is made, and each number is its default.
 abbrev pub IsPlain : Settings → List Text → Type 0
 IsPlain (asked.Words w) words = HasFile (codes "words") w.file.now words
-IsPlain (asked.Check c) words = HasFile (codes "check") c.file.now words × (c.json ≡ false)
-IsPlain (asked.Asm a) words = HasFiles (codes "asm") a.file.now a.out.now words
+IsPlain (asked.Check c) words = HasFile (codes "check") c.file.now words × (c.course ≡ false) × (c.json ≡ false)
+IsPlain (asked.Asm a) words = HasFiles (codes "asm") a.file.now a.out.now words × (a.course ≡ false)
+    × (a.symbols ≡ None)
 IsPlain (asked.Dis d) words = HasFile (codes "dis") d.file.now words × (d.comments ≡ false) × (d.symbols ≡ None)
     × (d.abi ≡ false) × (d.words ≡ 1024)
 IsPlain (asked.Run r) words = HasFile (codes "run") r.file.now words
     × (r.trace ≡ None) × (r.sweep ≡ false) × (r.no_log ≡ false) × (r.unfinished ≡ false) × (r.quiet ≡ false)
-    × (r.symbols ≡ None) × (r.json ≡ false) × AreUsual r.sizes × (r.budget ≡ 10000000) × (r.start ≡ 1)
+    × IsAsItIs r.style × AreUsual r.sizes × (r.budget ≡ 10000000) × (r.start ≡ 1)
 IsPlain (asked.Hunt h) words = HasFile (codes "hunt") h.file.now words
     × (h.trace ≡ None) × (h.observe ≡ None) × (h.overwrite ≡ false) × (h.expect_one ≡ false) × (h.quiet ≡ false)
-    × (h.symbols ≡ None) × (h.json ≡ false) × AreUsual h.sizes × (h.budget ≡ 100000) × (h.runs ≡ 1000)
+    × IsAsItIs h.style × AreUsual h.sizes × (h.budget ≡ 100000) × (h.runs ≡ 1000)
     × (h.start ≡ 1)
 IsPlain (asked.Explore x) words = HasFile (codes "explore") x.file.now words
-    × (x.trace ≡ None) × (x.observe ≡ None) × (x.each ≡ false) × (x.every ≡ false) × (x.quiet ≡ false)
-    × (x.symbols ≡ None) × (x.json ≡ false) × AreUsual x.sizes × (x.states ≡ 1000000) × (x.witness ≡ None)
-IsPlain (asked.Replay r) words = HasTrace (codes "replay") r.replay words × (r.symbols ≡ None) × (r.json ≡ false)
+    × (x.trace ≡ None) × (x.observe ≡ None) × (x.against ≡ None) × (x.each ≡ false) × (x.fair ≡ false)
+    × (x.every ≡ false) × (x.quiet ≡ false)
+    × IsAsItIs x.style × AreUsual x.sizes × (x.states ≡ 1000000) × (x.witness ≡ None)
+    × (x.never ≡ None) × (x.always ≡ None) × (x.finally ≡ None)
+IsPlain (asked.Replay r) words = HasTrace (codes "replay") r.replay words × IsAsItIs r.style
 IsPlain (asked.Order o) words = HasTrace (codes "order") o.lines.replay words × TakesAll o.lines × (o.abi ≡ false)
-IsPlain (asked.Story l) words = HasTrace (codes "story") l.replay words × TakesAll l
-IsPlain (asked.Stats c) words = HasTrace (codes "stats") c.replay words × (c.csv ≡ false) × (c.json ≡ false)
+IsPlain (asked.Story s) words = HasTrace (codes "story") s.lines.replay words × TakesAll s.lines × (s.rounds ≡ false)
+IsPlain (asked.Stats c) words = HasTrace (codes "stats") c.replay words × (c.latency ≡ false) × (c.csv ≡ false)
+    × (c.json ≡ false)
 IsPlain (asked.Picture p) words = HasTrace (codes "picture") p.replay words × (p.step ≡ None)
+IsPlain (asked.Trace t) words = HasFile (codes "trace") t.trace.now words
+IsPlain (asked.Steps s) words = HasFiles (codes "steps") s.file.now s.out.now words
 IsPlain (asked.Debug d) words = HasFile (codes "debug") d.file.now words
     × (d.trace ≡ None) × (d.stdio ≡ false) × AreUsual d.sizes × (d.budget ≡ 100000) × (d.port ≡ 3333)
 IsPlain (asked.Explain e) words = HasOthers (codes "explain") (texts_of e.words.items) words

@@ -12,9 +12,11 @@ pub enum Settings<'a> {
     Explore(Explore<'a>),
     Replay(Report<'a>),
     Order(Order<'a>),
-    Story(Lines<'a>),
+    Story(Story<'a>),
     Stats(Counts<'a>),
     Picture(Picture<'a>),
+    Trace(Trace<'a>),
+    Steps(Schedule<'a>),
     Debug(Session<'a>),
     Explain(Explain<'a>),
 }
@@ -34,6 +36,17 @@ pub struct Sizes {
     pub words: u32,
 }
 
+/// How the lines of a report, of results or of a trace's steps are printed.
+#[derive(Debug, PartialEq, Eq, Drop)]
+pub struct LineStyle<'a> {
+    /// The file with the names that are printed beside addresses and words, if given.
+    pub symbols: Option<&'a str>,
+    /// Whether values are printed in decimal.
+    pub decimal: bool,
+    /// Whether lines are printed as JSON.
+    pub json: bool,
+}
+
 /// `words FILE`.
 #[derive(Debug, PartialEq, Eq, Drop)]
 pub struct Words<'a> {
@@ -45,6 +58,8 @@ pub struct Words<'a> {
 pub struct Check<'a> {
     /// The text.
     pub file: &'a str,
+    /// Whether it is a course text.
+    pub course: bool,
     /// Whether lines are printed as JSON.
     pub json: bool,
 }
@@ -56,6 +71,10 @@ pub struct Asm<'a> {
     pub file: &'a str,
     /// Where the image is written.
     pub out: &'a str,
+    /// Whether the text is a course text.
+    pub course: bool,
+    /// Where the addresses of labels are written, if anywhere.
+    pub symbols: Option<&'a str>,
 }
 
 /// `dis FILE`.
@@ -88,10 +107,8 @@ pub struct Run<'a> {
     pub unfinished: bool,
     /// Whether to leave out reports of the run's progress.
     pub quiet: bool,
-    /// The file with the names that are printed beside addresses and words, if given.
-    pub symbols: Option<&'a str>,
-    /// Whether lines are printed as JSON.
-    pub json: bool,
+    /// How lines are printed.
+    pub style: LineStyle<'a>,
     /// The sizes of the machine.
     pub sizes: Sizes,
     /// How long the run may take, from 1: in rounds of each thread, or in steps of the sweep.
@@ -116,10 +133,8 @@ pub struct Replay<'a> {
 pub struct Report<'a> {
     /// The trace and its machine.
     pub replay: Replay<'a>,
-    /// The file with the names that are printed beside addresses and words, if given.
-    pub symbols: Option<&'a str>,
-    /// Whether lines are printed as JSON.
-    pub json: bool,
+    /// How lines are printed.
+    pub style: LineStyle<'a>,
 }
 
 /// `stats TRACE FILE`.
@@ -127,6 +142,8 @@ pub struct Report<'a> {
 pub struct Counts<'a> {
     /// The trace and its machine.
     pub replay: Replay<'a>,
+    /// Whether latencies are printed, too.
+    pub latency: bool,
     /// Whether counts are printed as CSV.
     pub csv: bool,
     /// Whether lines are printed as JSON.
@@ -149,7 +166,16 @@ pub struct Order<'a> {
     pub abi: bool,
 }
 
-/// `story TRACE FILE`, or the lines of `order TRACE FILE`.
+/// `story TRACE FILE`.
+#[derive(Debug, PartialEq, Eq, Drop)]
+pub struct Story<'a> {
+    /// The lines that it prints.
+    pub lines: Lines<'a>,
+    /// Whether the rounds of the sweep are marked.
+    pub rounds: bool,
+}
+
+/// The lines of `order TRACE FILE` or `story TRACE FILE`.
 #[derive(Debug, PartialEq, Eq, Drop)]
 pub struct Lines<'a> {
     /// The trace and its machine.
@@ -162,10 +188,8 @@ pub struct Lines<'a> {
     pub from: Option<u32>,
     /// The number of the last line that is printed; None for the last there is.
     pub to: Option<u32>,
-    /// The file with the names that are printed beside addresses and words, if given.
-    pub symbols: Option<&'a str>,
-    /// Whether lines are printed as JSON.
-    pub json: bool,
+    /// How lines are printed.
+    pub style: LineStyle<'a>,
 }
 
 /// `picture TRACE FILE`, and the step after which the machine is drawn.
@@ -175,6 +199,22 @@ pub struct Picture<'a> {
     pub replay: Replay<'a>,
     /// How many steps the machine takes before it is drawn; None for all.
     pub step: Option<u32>,
+}
+
+/// `trace TRACE`.
+#[derive(Debug, PartialEq, Eq, Drop)]
+pub struct Trace<'a> {
+    /// The trace.
+    pub trace: &'a str,
+}
+
+/// `steps FILE OUT`.
+#[derive(Debug, PartialEq, Eq, Drop)]
+pub struct Schedule<'a> {
+    /// The text.
+    pub file: &'a str,
+    /// Where the trace is written.
+    pub out: &'a str,
 }
 
 /// `debug FILE`.
@@ -203,16 +243,18 @@ pub struct Explore<'a> {
     pub trace: Option<&'a str>,
     /// The list of the words by which results are observed, if given. It may be no list.
     pub observe: Option<&'a str>,
+    /// The image of the specification with whose results those of the image are compared, if any.
+    pub against: Option<&'a str>,
     /// Whether to list every result. If not, one result stands for all that exchanges of alike processors make of it.
     pub each: bool,
+    /// Whether to tell if every fair schedule ends. Processors are not exchanged then.
+    pub fair: bool,
     /// Whether to explore every `k` from 0 to 6, and print a line for each. If not, only `sizes.k` is explored.
     pub every: bool,
     /// Whether to leave out reports of the search's progress.
     pub quiet: bool,
-    /// The file with the names that are printed beside addresses and words, if given.
-    pub symbols: Option<&'a str>,
-    /// Whether lines are printed as JSON.
-    pub json: bool,
+    /// How lines are printed.
+    pub style: LineStyle<'a>,
     /// The sizes of the machine.
     pub sizes: Sizes,
     /// The number of states at which the search gives up, from 1.
@@ -220,6 +262,12 @@ pub struct Explore<'a> {
     /// If a witness is asked for, the number of the result in which it ends, or 0 for a state from which no end can be
     /// reached.
     pub witness: Option<u32>,
+    /// The condition that no state is to satisfy, if given. It may be no condition; neither may the next two.
+    pub never: Option<&'a str>,
+    /// The condition that each state is to satisfy, if given.
+    pub always: Option<&'a str>,
+    /// The condition that each state in which no processor runs is to satisfy, if given.
+    pub finally: Option<&'a str>,
 }
 
 /// `hunt FILE`.
@@ -237,10 +285,8 @@ pub struct Hunt<'a> {
     pub expect_one: bool,
     /// Whether to leave out reports of the hunt's progress.
     pub quiet: bool,
-    /// The file with the names that are printed beside addresses and words, if given.
-    pub symbols: Option<&'a str>,
-    /// Whether lines are printed as JSON.
-    pub json: bool,
+    /// How lines are printed.
+    pub style: LineStyle<'a>,
     /// The sizes of the machine.
     pub sizes: Sizes,
     /// How many steps a run may take, from 1 to 4,000,000.

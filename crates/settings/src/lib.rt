@@ -7,6 +7,6 @@ mod reads;
 
 pub use asked::{settings, status_of};
 pub use choice::{
-    Asm, Check, Counts, Dis, Explain, Explore, Hunt, Lines, Order, Picture, Replay, Report, Run,
-    Session, Settings, Sizes, Words,
+    Asm, Check, Counts, Dis, Explain, Explore, Hunt, LineStyle, Lines, Order, Picture, Replay,
+    Report, Run, Schedule, Session, Settings, Sizes, Story, Trace, Words,
 };

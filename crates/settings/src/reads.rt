@@ -3,16 +3,17 @@ ghost use Rattle.std.specs.Prelude.{◌≡◌, ◌≤◌, ◌<◌, ◌^◌, code
 ghost use Rattle.clap.specs.Words.{all_of, found_of, rows_of, subcommand_rows_of};
 ghost use Rattle.settings.specs.Lines.{AreSizes, GivesAsm, GivesCheck, GivesCounts, GivesDis, GivesExplain};
 ghost use Rattle.settings.specs.Lines.{GivesExplore, GivesHunt, GivesLines, GivesOrder, GivesPicture, GivesReplay};
-ghost use Rattle.settings.specs.Lines.{GivesReport, GivesRun, GivesSession, GivesWords, IsChoice, IsChosen, IsFlag};
-ghost use Rattle.settings.specs.Lines.{IsNumber, IsOption, IsPath};
+ghost use Rattle.settings.specs.Lines.{GivesReport, GivesRun, GivesSchedule, GivesSession, GivesStory, GivesStyle};
+ghost use Rattle.settings.specs.Lines.{GivesTrace, GivesWords, IsChoice, IsChosen, IsFlag, IsNumber, IsOption};
+ghost use Rattle.settings.specs.Lines.{IsPath};
 ghost use Rattle.settings.specs.Plain.{texts_of};
 ghost use Rattle.settings.specs.Given.{HasAsm, HasDebug, HasDis, HasExplore, HasHunt, HasLines, HasNumber};
 ghost use Rattle.settings.specs.Given.{HasPath, HasPicture, HasReplay, HasRun, HasSizes, IsComplete};
 ghost use Rattle.command_forms.specs.Forms.{bounded, bounds_as, ranged, ranged_as};
 
 use crate::choice::{
-    Asm, Check, Counts, Dis, Explain, Explore, Hunt, Lines, Order, Picture, Replay, Report, Run,
-    Session, Settings, Sizes, Words,
+    Asm, Check, Counts, Dis, Explain, Explore, Hunt, LineStyle, Lines, Order, Picture, Replay,
+    Report, Run, Schedule, Session, Settings, Sizes, Story, Trace, Words,
 };
 use clap::ArgMatches;
 use command_forms::{
@@ -138,6 +139,7 @@ fn check<'a>(matches: &ArgMatches<'a>) -> Check<'a>
 {
     Check {
         file: path(matches, "FILE"),
+        course: flag(matches, "course"),
         json: flag(matches, "json"),
     }
 }
@@ -149,6 +151,8 @@ fn asm<'a>(matches: &ArgMatches<'a>) -> Asm<'a>
     Asm {
         file: path(matches, "FILE"),
         out: path(matches, "OUT"),
+        course: flag(matches, "course"),
+        symbols: option(matches, "symbols"),
     }
 }
 
@@ -179,6 +183,17 @@ fn sizes(matches: &ArgMatches<'_>) -> Sizes
     }
 }
 
+/// How lines are printed.
+fn style<'a>(matches: &ArgMatches<'a>) -> LineStyle<'a>
+    ensures { GivesStyle (rows_of (found_of matches.now)) result }
+{
+    LineStyle {
+        symbols: option(matches, "symbols"),
+        decimal: flag(matches, "decimal"),
+        json: flag(matches, "json"),
+    }
+}
+
 fn run<'a>(matches: &ArgMatches<'a>) -> Run<'a>
     requires { HasRun (rows_of (found_of matches.now)) }
     ensures { GivesRun (rows_of (found_of matches.now)) result }
@@ -190,8 +205,7 @@ fn run<'a>(matches: &ArgMatches<'a>) -> Run<'a>
         no_log: flag(matches, "no-log"),
         unfinished: flag(matches, "unfinished"),
         quiet: flag(matches, "quiet"),
-        symbols: option(matches, "symbols"),
-        json: flag(matches, "json"),
+        style: style(matches),
         sizes: sizes(matches),
         budget: number(matches, BUDGET),
         start: number(matches, START),
@@ -215,8 +229,7 @@ fn report<'a>(matches: &ArgMatches<'a>) -> Report<'a>
 {
     Report {
         replay: replay(matches),
-        symbols: option(matches, "symbols"),
-        json: flag(matches, "json"),
+        style: style(matches),
     }
 }
 
@@ -226,6 +239,7 @@ fn counts<'a>(matches: &ArgMatches<'a>) -> Counts<'a>
 {
     Counts {
         replay: replay(matches),
+        latency: flag(matches, "latency"),
         csv: flag(matches, "csv"),
         json: flag(matches, "json"),
     }
@@ -273,8 +287,7 @@ fn lines<'a>(matches: &ArgMatches<'a>) -> Lines<'a>
         word: choice(matches, SHARED_WORD),
         from: choice(matches, FIRST_LINE),
         to: choice(matches, LAST_LINE),
-        symbols: option(matches, "symbols"),
-        json: flag(matches, "json"),
+        style: style(matches),
     }
 }
 
@@ -288,6 +301,16 @@ fn order<'a>(matches: &ArgMatches<'a>) -> Order<'a>
     }
 }
 
+fn story<'a>(matches: &ArgMatches<'a>) -> Story<'a>
+    requires { HasLines (rows_of (found_of matches.now)) }
+    ensures { GivesStory (rows_of (found_of matches.now)) result }
+{
+    Story {
+        lines: lines(matches),
+        rounds: flag(matches, "rounds"),
+    }
+}
+
 fn picture<'a>(matches: &ArgMatches<'a>) -> Picture<'a>
     requires { HasPicture (rows_of (found_of matches.now)) }
     ensures { GivesPicture (rows_of (found_of matches.now)) result }
@@ -295,6 +318,25 @@ fn picture<'a>(matches: &ArgMatches<'a>) -> Picture<'a>
     Picture {
         replay: replay(matches),
         step: choice(matches, STEP),
+    }
+}
+
+fn trace<'a>(matches: &ArgMatches<'a>) -> Trace<'a>
+    requires { HasPath (codes "TRACE") (rows_of (found_of matches.now)) }
+    ensures { GivesTrace (rows_of (found_of matches.now)) result }
+{
+    Trace {
+        trace: path(matches, "TRACE"),
+    }
+}
+
+fn schedule<'a>(matches: &ArgMatches<'a>) -> Schedule<'a>
+    requires { HasAsm (rows_of (found_of matches.now)) }
+    ensures { GivesSchedule (rows_of (found_of matches.now)) result }
+{
+    Schedule {
+        file: path(matches, "FILE"),
+        out: path(matches, "OUT"),
     }
 }
 
@@ -320,14 +362,18 @@ fn explore<'a>(matches: &ArgMatches<'a>) -> Explore<'a>
         file: path(matches, "FILE"),
         trace: option(matches, "trace"),
         observe: option(matches, "observe"),
+        against: option(matches, "against"),
         each: flag(matches, "each"),
+        fair: flag(matches, "fair"),
         every: flag(matches, "every"),
         quiet: flag(matches, "quiet"),
-        symbols: option(matches, "symbols"),
-        json: flag(matches, "json"),
+        style: style(matches),
         sizes: sizes(matches),
         states: number(matches, STATES),
         witness: choice(matches, WITNESS),
+        never: option(matches, "never"),
+        always: option(matches, "always"),
+        finally: option(matches, "finally"),
     }
 }
 
@@ -342,8 +388,7 @@ fn hunt<'a>(matches: &ArgMatches<'a>) -> Hunt<'a>
         overwrite: flag(matches, "overwrite"),
         expect_one: flag(matches, "expect-one"),
         quiet: flag(matches, "quiet"),
-        symbols: option(matches, "symbols"),
-        json: flag(matches, "json"),
+        style: style(matches),
         sizes: sizes(matches),
         budget: number(matches, RUN_STEPS),
         runs: number(matches, RUNS),
@@ -370,9 +415,11 @@ pub(crate) fn subcommand_settings<'a>(
         "explore" => Ok(Settings::Explore(explore(inner))),
         "replay" => Ok(Settings::Replay(report(inner))),
         "order" => Ok(Settings::Order(order(inner))),
-        "story" => Ok(Settings::Story(lines(inner))),
+        "story" => Ok(Settings::Story(story(inner))),
         "stats" => Ok(Settings::Stats(counts(inner))),
         "picture" => Ok(Settings::Picture(picture(inner))),
+        "trace" => Ok(Settings::Trace(trace(inner))),
+        "steps" => Ok(Settings::Steps(schedule(inner))),
         "debug" => Ok(Settings::Debug(session(inner))),
         "explain" => Ok(Settings::Explain(explain(alloc, inner)?)),
         _ => unreachable!(),

@@ -39,7 +39,13 @@ Words(Words { file: "a.hex" })
 $ ultra words -- --a
 Words(Words { file: "--a" })
 $ ultra asm a.s a.elf
-Asm(Asm { file: "a.s", out: "a.elf" })
+Asm(Asm { file: "a.s", out: "a.elf", course: false, symbols: None })
+$ ultra asm --course a.s a.elf
+Asm(Asm { file: "a.s", out: "a.elf", course: true, symbols: None })
+$ ultra asm --symbols a.map a.s a.elf
+Asm(Asm { file: "a.s", out: "a.elf", course: false, symbols: Some("a.map") })
+$ ultra asm a.s a.elf --symbols=a.map --course
+Asm(Asm { file: "a.s", out: "a.elf", course: true, symbols: Some("a.map") })
 $ ultra dis a.elf
 Dis(Dis { file: "a.elf", comments: false, symbols: None, abi: false, words: 1024 })
 $ ultra dis a.elf --words 1
@@ -60,6 +66,10 @@ $ ultra dis --abi --symbols a.elf a.elf
 Dis(Dis { file: "a.elf", comments: false, symbols: Some("a.elf"), abi: true, words: 1024 })
 $ ultra dis --words 0001024 -- a.elf
 Dis(Dis { file: "a.elf", comments: false, symbols: None, abi: false, words: 1024 })
+$ ultra trace a.trace
+Trace(Trace { trace: "a.trace" })
+$ ultra steps - a.trace
+Steps(Schedule { file: "-", out: "a.trace" })
 "#;
 
 /// Wrong command lines with their errors, and parts of the help.
@@ -67,7 +77,7 @@ const REFUSED: &str = "\
 $ ultra
 MissingSubcommand
 error: 'ultra' requires a subcommand but one was not provided
-  [subcommands: words, check, asm, dis, run, hunt, explore, replay, order, story, stats, picture, debug, explain, help]
+  [subcommands: words, check, asm, dis, run, hunt, explore, replay, order, story, stats, picture, trace, steps, debug, explain, help]
 
 Usage: ultra <COMMAND>
 $ ultra frob
@@ -96,6 +106,9 @@ Usage: ultra <COMMAND>
 $ ultra help frob
 InvalidSubcommand
 error: unrecognized subcommand 'frob'
+$ ultra asm --help
+DisplayHelp
+--symbols <MAP>  Write the addresses of the labels to MAP, as `nm` prints them, for --symbols of other commands
 $ ultra asm --help
 DisplayHelp
 Exit status: 0 done, 2 a mistake of the text or a refused command line,\

@@ -3,3 +3,4 @@ pub mod Ranking
 pub mod Scheduling
 pub mod Resulting
 pub mod Shortest
+pub mod Between

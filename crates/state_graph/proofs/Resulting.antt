@@ -34,7 +34,7 @@ same_list (x ∷ xs) (y ∷ ys) e =
 
 module _ (kept : LocalState → LocalState) (keeps : KeepsResults kept) where
   -- The result of a flat machine is that of what is kept of it.
-  result_kept : (n : FlatState) (events : List (ℕ × Event)) (v : MacroState) →
+  pub result_kept : (n : FlatState) (events : List (ℕ × Event)) (v : MacroState) →
       IsKeptOf kept n (consoles_after (λ j. []) events) v → result_of n events ≡ result_at v
   result_kept n events v h =
       let local_state : ℕ → LocalState = λ k.
@@ -51,7 +51,7 @@ module _ (kept : LocalState → LocalState) (keeps : KeepsResults kept) where
       λ i. record { processors = processors i; words = sym h.shared i }
 
 -- The result of an exchanged state is the exchanged result.
-result_exchanged : (place : ℕ → ℕ) (s v : MacroState) → IsExchanged place s v →
+pub result_exchanged : (place : ℕ → ℕ) (s v : MacroState) → IsExchanged place s v →
     IsResultExchanged place (result_at s) (result_at v)
 result_exchanged place s v e = record {
   words = e.shared;

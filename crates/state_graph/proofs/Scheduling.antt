@@ -423,3 +423,17 @@ module _ (at : ℕ → Setting) (code : List ℕ) (kept : LocalState → LocalSt
       (as_it_is classes (state 0)) reaches stops in
       let row = picked_is (λ i. false) count z.0 z.2 in
       (row.0, z.1, row.1, subst (λ s. IsExchangeOf classes s z.1) (sym row.3) z.3, z.4)
+
+  -- If no processor spins in a found state, each state that turns lead to is an exchange of a found one.
+  pub none_left : SetsClosedUpToAreNotLeft → ((i : ℕ) → i < count → HasSpinner at code (state i) → ⊥) → (order : List ℕ) →
+      (i : ℕ) × (v : MacroState) × (i < count) × IsExchangeOf classes (state i) v
+      × ReachesMacroState at code kept (flat_run m (turns order)) (consoles_after consoles (flat_events m (turns order))) v
+  none_left stays none order =
+      let z = stays at code kept classes (picked (λ i. false) count) m consoles (state 0) (state 0) order forget
+      (closed (λ i. false) (λ i t l out x. refl))
+      (λ s inside spins.
+      let row = picked_is (λ i. false) count s inside in
+      none row.0 row.1 (subst (HasSpinner at code) (sym row.3) spins))
+      (picked_has (λ i. false) count 0 h.filled refl) (as_it_is classes (state 0)) reaches in
+      let row = picked_is (λ i. false) count z.0 z.2 in
+      (row.0, z.1, row.1, subst (λ s. IsExchangeOf classes s z.1) (sym row.3) z.3, z.4)

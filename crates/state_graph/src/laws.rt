@@ -1,6 +1,7 @@
 //! Laws of the states that a search has found. Each law is the contract of a function that does nothing.
 
-ghost use Rattle.state_graph.specs.Laws.{AllStoodForAreResults, EachResultIsStoodFor, SuccessorsDecideTermination};
+ghost use Rattle.state_graph.specs.Laws.{AllStoodForAreResults, EachFoundStateIsReached, EachResultIsStoodFor};
+ghost use Rattle.state_graph.specs.Laws.{EachSpinnerIsReached, EachStateIsStoodFor, SuccessorsDecideTermination};
 
 use local_reduction::laws;
 
@@ -26,4 +27,21 @@ pub fn all_stood_for_are_results()
     ensures sound { AllStoodForAreResults }
 {
     laws::each_exchange_is_reached();
+}
+
+/// If no processor spins, each state between references that the flat machine reaches shows what a found state shows,
+/// up to an exchange.
+pub fn each_state_is_stood_for()
+    ensures complete { EachStateIsStoodFor }
+{
+    laws::sets_closed_up_to_are_not_left();
+}
+
+/// The flat machine reaches what each found state shows, up to an exchange; and a processor that spins, if one does in
+/// a found state.
+pub fn each_found_state_is_reached()
+    ensures reached { EachFoundStateIsReached }
+    ensures spins { EachSpinnerIsReached }
+{
+    laws::moves_up_to_are_turns();
 }

@@ -89,7 +89,7 @@ fn has_ranked(successors: &[u32], ranks: &[u32]) -> bool
 }
 
 /// The rank of the state at a place.
-fn rank_of(ranks: &[u32], place: u32) -> u32
+pub fn rank_of(ranks: &[u32], place: u32) -> u32
     ensures is { result ≡ rank_at ranks.now place }
     ensures small { result ≤ no_rank }
 {

@@ -2,8 +2,8 @@
 use Rattle.std.proofs.Common.{◌≡◌, ◌⊎◌, inl, inr, ℕ, ◌+◌, ◌<◌, false, List, [], ◌∷◌, ◌++◌, length, refl, sym, ap, subst, ◌∙◌, arith, length-append}
 use Rattle.std.specs.Prelude.{slice_index}
 use Rattle.std.proofs.lemmas.List.{get_or_append_left}
-use Rattle.state_search.specs.declared.state_tables.Extent.{Extent}
-use Rattle.state_search.specs.Search.{AreClasses}
+use Rattle.state_store.specs.declared.state_tables.Extent.{Extent}
+use Rattle.state_store.specs.Moves.{AreClasses}
 use Rattle.state_search.proofs.Lemmas.{found_at, there, up_to}
 
 -- The first `done` processors have a class: that of a processor with the same number, or one of their own.

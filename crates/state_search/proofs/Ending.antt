@@ -1,14 +1,15 @@
 -- A search that has noted the successors of all its rows has found all states.
 use Rattle.std.proofs.Common.{◌⊎◌, inl, inr, ℕ, ◌<◌, ◌≤◌, List, [], length, sym, subst}
 use Rattle.std.specs.Prelude.{slice_index, slice_index_or, Contains}
-use Rattle.local_reduction.specs.Closing.{MacroState}
-use Rattle.local_reduction.specs.Forgetting.{kept_by}
+use Rattle.state_store.specs.local_reduction.Closing.{MacroState}
+use Rattle.state_store.specs.local_reduction.Forgetting.{kept_by}
 use Rattle.state_graph.specs.Ranks.{no_rank, successors_at}
-use Rattle.state_search.specs.declared.state_tables.Extent.{Extent}
-use Rattle.local_reduction.specs.Exchanging.{IsWayUpTo}
-use Rattle.state_search.specs.StateTables.{TableLists, placed_at, setting_at}
+use Rattle.state_store.specs.declared.state_tables.Extent.{Extent}
+use Rattle.state_store.specs.local_reduction.Exchanging.{IsWayUpTo}
+use Rattle.state_store.specs.StateTables.{TableLists, placed_at, setting_at}
 use Rattle.state_graph.specs.Search.{AreReached}
-use Rattle.state_search.specs.Search.{AreManyRows, Searched, CanMove, Spinning, Moves, state_at}
+use Rattle.state_search.specs.Search.{AreManyRows, Searched, Moves, state_at}
+use Rattle.state_store.specs.Moves.{CanMove, Spinning}
 use Rattle.state_search.specs.Ends.{AreDifferentStates, AreFound, AreMany}
 use Rattle.state_search.proofs.Lemmas.{listed_is}
 

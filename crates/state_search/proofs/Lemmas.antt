@@ -1,23 +1,25 @@
 -- The lemmas that crates above may cite.
 use Rattle.std.proofs.Common.{ℕ, List, [], ◌∷◌, ◌++◌, refl, sym, subst}
-use Rattle.flat_machine.specs.declared.setting.Setting.{Setting}
-use Rattle.local_reduction.specs.LocalStates.{LocalState}
-use Rattle.local_reduction.specs.Closing.{MacroState}
-use Rattle.local_reduction.specs.Exchanging.{IsMoveUpTo, IsWayUpTo}
-use Rattle.state_search.specs.declared.refusal.MoveRefusal.{MoveRefusal}
-use Rattle.state_search.specs.declared.refusal.MoveRefusal.TheVariants as move
+use Rattle.state_store.specs.local_reduction.flat_machine.declared.setting.Setting.{Setting}
+use Rattle.state_store.specs.local_reduction.LocalStates.{LocalState}
+use Rattle.state_store.specs.local_reduction.Closing.{MacroState}
+use Rattle.state_store.specs.local_reduction.Exchanging.{IsMoveUpTo, IsWayUpTo}
+use Rattle.state_store.specs.declared.refusal.MoveRefusal.{MoveRefusal}
+use Rattle.state_store.specs.declared.refusal.MoveRefusal.TheVariants as move
 use Rattle.state_search.specs.declared.refusal.Refusal.{Refusal}
 use Rattle.state_search.specs.declared.refusal.Refusal.TheVariants as search
 use Rattle.state_search.specs.Refusals.{refused_by_move, IsGivenUpFor}
 -- Exchanges, and results that stand for others.
-pub use Rattle.local_reduction.proofs.Lemmas.{none, both, trade, trade_all, stands_for_on, stands_for_back}
+pub use Rattle.state_store.proofs.Lemmas.local_reduction.{none, both, trade, trade_all, stands_for_on, stands_for_back}
 -- Places of lists, and lists of a function's values at each place.
-pub use Rattle.state_search.proofs.Listed.{up_to, there, found_at, past, any_default, mapped_at}
-pub use Rattle.state_search.proofs.Listed.{listed, listed_at, listed_there, listed_is, listed_same, listed_set}
+pub use Rattle.state_store.proofs.Lemmas.{up_to, there, found_at, past, any_default, mapped_at}
+pub use Rattle.state_store.proofs.Lemmas.{listed, listed_at, listed_there, listed_is, listed_same, listed_set}
 -- Exchanges of the processors of rows, and of the states that they mean.
 pub use Rattle.state_search.proofs.Trading.{as_it_was, then_exchanged}
 pub use Rattle.state_search.proofs.RowExchanges.{ordered_means, row_ordered}
-pub use Rattle.state_search.proofs.Differing.{rows_same}
+pub use Rattle.state_store.proofs.Lemmas.{rows_same}
+-- Tables that grow, and what rows of the old tables mean in the grown ones.
+pub use Rattle.state_store.proofs.Lemmas.{kept_all, kept_on, means_kept, row_kept}
 
 -- a way with one move after it
 module _ (at : ℕ → Setting) (code : List ℕ) (kept : LocalState → LocalState) (classes : List ℕ) where

@@ -1,18 +1,19 @@
 -- Exchanging the processors of a row exchanges those of its state.
 use Rattle.std.proofs.Common.{◌≡◌, ◌⊎◌, inl, inr, ℕ, ◌<◌, ◌≤◌, Bool, true, false, cond, List, Some, None, length, refl, sym, ap, subst, ◌∙◌, arith}
 use Rattle.std.specs.Prelude.{slice_get, slice_index}
-use Rattle.local_reduction.specs.Closing.{MacroState}
+use Rattle.state_store.specs.local_reduction.Closing.{MacroState}
 use Rattle.std.proofs.lemmas.Bool.{cases_lt}
 use Rattle.std.proofs.lemmas.Option.{slice_get_past}
 use Rattle.std.proofs.lemmas.List.FromFn.{length-map-range_with_len}
-use Rattle.local_reduction.specs.Exchanging.{AreAlike, IsExchanged}
-use Rattle.local_reduction.proofs.Lemmas.{found_there, found_within}
+use Rattle.state_store.specs.local_reduction.Exchanging.{AreAlike, IsExchanged}
+use Rattle.state_store.proofs.Lemmas.local_reduction.{found_there, found_within}
 use Rattle.state_search.specs.Rows.{IsRowExchanged}
-use Rattle.local_reduction.specs.Forgetting.{kept_by}
-use Rattle.state_search.specs.declared.state_tables.Extent.{Extent}
-use Rattle.state_search.specs.StateTables.{TableLists, placed_at, words_at, setting_at, own_setting, means, IsRow}
-use Rattle.state_search.specs.Search.{AreClasses, IsNext, IsNextUpTo}
-use Rattle.state_search.proofs.Listed.{listed_there}
+use Rattle.state_store.specs.local_reduction.Forgetting.{kept_by}
+use Rattle.state_store.specs.declared.state_tables.Extent.{Extent}
+use Rattle.state_store.specs.StateTables.{TableLists, placed_at, words_at, setting_at, own_setting, means, IsRow}
+use Rattle.state_search.specs.Search.{IsNextUpTo}
+use Rattle.state_store.specs.Moves.{AreClasses, IsNext}
+use Rattle.state_store.proofs.Lemmas.{listed_there}
 
 -- A processor of the same class as one of the list is itself in the list.
 within : (classes : List ℕ) (j k : ℕ) → AreAlike classes j k → k < length classes → j < length classes

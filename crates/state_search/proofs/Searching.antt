@@ -7,19 +7,20 @@ use Rattle.std.proofs.lemmas.Bool.{cases_lt}
 use Rattle.std.proofs.lemmas.List.{get_or_append_left}
 use Rattle.std.proofs.lemmas.List.Elements.{Contains-append_left, Contains-push, Contains-push_cases}
 use Rattle.indexmap.specs.IndexSet.{insert_key}
-use Rattle.local_reduction.specs.Closing.{MacroState}
-use Rattle.local_reduction.specs.Exchanging.{AreAlike}
-use Rattle.local_reduction.specs.LocalStates.{IsReference}
-use Rattle.local_reduction.proofs.Lemmas.{reference_same}
-use Rattle.local_reduction.specs.Forgetting.{kept_by}
+use Rattle.state_store.specs.local_reduction.Closing.{MacroState}
+use Rattle.state_store.specs.local_reduction.Exchanging.{AreAlike}
+use Rattle.state_store.specs.local_reduction.LocalStates.{IsReference}
+use Rattle.state_store.proofs.Lemmas.local_reduction.{reference_same}
+use Rattle.state_store.specs.local_reduction.Forgetting.{kept_by}
 use Rattle.state_graph.specs.Ranks.{successors_at}
-use Rattle.state_search.specs.declared.state_tables.Extent.{Extent}
-use Rattle.state_search.specs.StateTables.{TableLists, HasGrown, placed_at, setting_at, means, IsRow}
-use Rattle.state_search.specs.Search.{state_at, AreAllFound, IsPlaced, CanMove, Spinning, Moves, IsReached, IsNextUpTo}
+use Rattle.state_store.specs.declared.state_tables.Extent.{Extent}
+use Rattle.state_store.specs.StateTables.{TableLists, HasGrown, placed_at, setting_at, means, IsRow}
+use Rattle.state_search.specs.Search.{state_at, AreAllFound, IsPlaced, Moves, IsReached, IsNextUpTo}
+use Rattle.state_store.specs.Moves.{CanMove, Spinning}
 use Rattle.state_search.specs.Search.{IsSuccessor, HasSuccessor, Searched, Expanded}
 use Rattle.state_search.proofs.Lemmas.{found_at, listed_there, way_on, up_to}
-use Rattle.state_search.proofs.Differing.{one_place}
-use Rattle.state_search.proofs.Growing.{row_kept, means_kept}
+use Rattle.state_store.proofs.Lemmas.{one_place}
+use Rattle.state_store.proofs.Lemmas.{row_kept, means_kept}
 
 -- ---- a list with a row inserted
 

@@ -3,8 +3,8 @@ use Rattle.std.proofs.Common.{◌≡◌, ◌≢◌, ◌⊎◌, inl, inr, ℕ, ze
 use Rattle.std.specs.Prelude.{slice_get, slice_index, slice_set}
 use Rattle.std.proofs.lemmas.Bool.{cases_eq}
 use Rattle.std.proofs.lemmas.List.{length-set, get_or-set_same, get_or-set_other}
-use Rattle.local_reduction.specs.Exchanging.{AreAlike}
-use Rattle.local_reduction.proofs.Lemmas.{found_there, found_within, none, both, trade, trade_all}
+use Rattle.state_store.specs.local_reduction.Exchanging.{AreAlike}
+use Rattle.state_store.proofs.Lemmas.local_reduction.{found_there, found_within, none, both, trade, trade_all}
 use Rattle.state_search.specs.Rows.{IsRowExchanged, traded_row}
 
 -- Row exchanges are reflexive.

@@ -1,11 +1,11 @@
 -- How the rows that a search finds relate to the first state.
 use Rattle.std.specs.Prelude.{◌≡◌, ℕ, ◌<◌, ◌≤◌, List, [], length, slice_index_or}
-use Rattle.local_reduction.specs.Closing.{MacroState}
+use Rattle.state_store.specs.local_reduction.Closing.{MacroState}
 use Rattle.state_graph.specs.Paths.{IsBreadthFirst}
 use Rattle.state_graph.specs.Search.{AreSuccessors, AreReached}
-use Rattle.local_reduction.specs.Forgetting.{kept_by}
-use Rattle.state_search.specs.declared.state_tables.Extent.{Extent}
-use Rattle.state_search.specs.StateTables.{TableLists, setting_at, IsRow}
+use Rattle.state_store.specs.local_reduction.Forgetting.{kept_by}
+use Rattle.state_store.specs.declared.state_tables.Extent.{Extent}
+use Rattle.state_store.specs.StateTables.{TableLists, setting_at, IsRow}
 use Rattle.state_search.specs.Search.{state_at}
 
 abbrev pub AreRows : Extent → TableLists → List (List ℕ) → Type 0

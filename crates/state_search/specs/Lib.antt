@@ -1,13 +1,7 @@
-pub mod Placed
-pub mod Saved
-pub mod SparseWords
-pub mod SparseWordLaws
-pub mod Keys
-pub mod KeyLaws
-pub mod StateTables
-pub mod TransitionCache
 pub mod Rows
 pub mod Search
 pub mod Ends
 pub mod Refusals
-pub mod Opening
+pub mod Targets
+-- Definitions of lower crates, passed on to those above.
+pub use Rattle.state_store.specs as state_store

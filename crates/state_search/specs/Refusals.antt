@@ -1,6 +1,6 @@
 -- Why a search gives up.
-use Rattle.state_search.specs.declared.refusal.MoveRefusal.{MoveRefusal}
-use Rattle.state_search.specs.declared.refusal.MoveRefusal.TheVariants as move
+use Rattle.state_store.specs.declared.refusal.MoveRefusal.{MoveRefusal}
+use Rattle.state_store.specs.declared.refusal.MoveRefusal.TheVariants as move
 use Rattle.state_search.specs.declared.refusal.Refusal.{Refusal}
 use Rattle.state_search.specs.declared.refusal.Refusal.TheVariants as search
 

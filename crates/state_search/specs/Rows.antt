@@ -1,6 +1,6 @@
 -- Exchanges of the processors in rows of numbers, one for each processor.
 use Rattle.std.specs.Prelude.{◌≡◌, ℕ, ◌<◌, ◌≤◌, List, length, slice_index, slice_set}
-use Rattle.local_reduction.specs.Exchanging.{Exchange}
+use Rattle.state_store.specs.local_reduction.Exchanging.{Exchange}
 
 -- An exchange of processors within their classes leads from the old row to the new one: each place has the number of
 -- the place whose processor it takes. The entries after the processors stay the same.

@@ -1,13 +1,14 @@
 -- The progress of a search.
-use Rattle.std.specs.Prelude.{◌≡◌, ◌⊎◌, ℕ, ◌<◌, ◌≤◌, Bool, false, List, [], ◌∷◌, Option, Some, None, Contains, length}
+use Rattle.std.specs.Prelude.{◌≡◌, ◌⊎◌, ℕ, ◌<◌, ◌≤◌, Bool, List, [], ◌∷◌, Option, Some, None, Contains, length}
 use Rattle.std.specs.Prelude.{slice_index, slice_index_or}
-use Rattle.local_reduction.specs.Closing.{MacroState, MayMove, HasSpinner}
-use Rattle.local_reduction.specs.Exchanging.{AreAlike, IsMoveOfAny, IsMoveUpTo, IsWayUpTo}
-use Rattle.local_reduction.specs.Forgetting.{kept_by}
+use Rattle.state_store.specs.local_reduction.Closing.{MacroState}
+use Rattle.state_store.specs.local_reduction.Exchanging.{AreAlike, IsMoveUpTo, IsWayUpTo}
+use Rattle.state_store.specs.local_reduction.Forgetting.{kept_by}
 use Rattle.state_graph.specs.Paths.{IsBreadthFirst}
 use Rattle.state_graph.specs.Ranks.{successors_at}
-use Rattle.state_search.specs.declared.state_tables.Extent.{Extent}
-use Rattle.state_search.specs.StateTables.{TableLists, setting_at, means, IsRow}
+use Rattle.state_store.specs.declared.state_tables.Extent.{Extent}
+use Rattle.state_store.specs.Moves.{CanMove, Spinning}
+use Rattle.state_store.specs.StateTables.{TableLists, setting_at, means, IsRow}
 
 -- the state of the row at a place
 abbrev pub state_at : Extent → TableLists → (rows : List (List ℕ)) → ℕ → MacroState
@@ -27,11 +28,6 @@ pub record IsPlaced (old : List (List ℕ)) (row : List ℕ) (new : List (List �
 
 -- ---- classes
 
--- Every processor has a class. If processors are not exchanged, each has a class of its own.
-pub record AreClasses (e : Extent) (classes : List ℕ) : Type 0 where
-  pub all : length classes ≡ e.processors
-  pub own : e.exchanged ≡ false → (j k : ℕ) → k < e.processors → AreAlike classes j k → j ≡ k
-
 -- Processors of one class have equal numbers in the row.
 abbrev pub AreClassesOf : Extent → (classes row : List ℕ) → Type 0
 AreClassesOf e classes row =
@@ -46,14 +42,6 @@ pub record IsLike (row classes : List ℕ) (p q : ℕ) : Type 0 where
 
 -- ---- moves
 
--- The processor runs, and its next turn is a reference.
-abbrev pub CanMove : Extent → (code : List ℕ) → MacroState → (processor : ℕ) → Type 0
-CanMove e code s k = MayMove (setting_at e) code s k
-
--- Some processor runs, and its next turn is not a reference: it spins.
-abbrev pub Spinning : Extent → (code : List ℕ) → MacroState → Type 0
-Spinning e code s = HasSpinner (setting_at e) code s
-
 module _ (e : Extent) (code : List ℕ) (classes : List ℕ) where
   -- A move of a processor, or of one like it, leads from a state to an exchange of another.
   abbrev pub Moves : (live : List (List Bool)) → MacroState → (processor : ℕ) → MacroState → Type 0
@@ -63,13 +51,7 @@ module _ (e : Extent) (code : List ℕ) (classes : List ℕ) where
   abbrev pub IsReached : (live : List (List Bool)) → MacroState → MacroState → Type 0
   IsReached live s t = (way : List (ℕ × MacroState)) × IsWayUpTo (setting_at e) code (kept_by live) classes s way t
 
-  -- A lookup of a processor's move gives the row to which it leads, or None if there is no move.
-  abbrev pub IsNext : TableLists → MacroState → (processor : ℕ) → Option (List ℕ) → Type 0
-  IsNext t s k None = CanMove e code s k → ⊥
-  IsNext t s k (Some row) =
-      IsRow e t row × IsMoveOfAny (setting_at e) code (kept_by t.live) classes s k (means e t row)
-
-  -- The same holds up to exchanges.
+  -- A lookup of a processor's move gives a row to which it leads up to exchanges, or None if there is no move.
   abbrev pub IsNextUpTo : TableLists → MacroState → (processor : ℕ) → Option (List ℕ) → Type 0
   IsNextUpTo t s k None = CanMove e code s k → ⊥
   IsNextUpTo t s k (Some row) = IsRow e t row × Moves t.live s k (means e t row)

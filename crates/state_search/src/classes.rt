@@ -1,9 +1,10 @@
 //! The classes of processors that can be exchanged.
 
 ghost use Rattle.std.specs.Prelude.{◌≡◌, ◌<◌, ◌≤◌, false, slice_index, IfOk};
-ghost use Rattle.state_search.specs.Search.{AreClasses, AreClassesOf};
+ghost use Rattle.state_search.specs.Search.{AreClassesOf};
+ghost use Rattle.state_store.specs.Moves.{AreClasses};
 
-use crate::state_tables::{Extent, StateVector};
+use state_store::{Extent, StateVector};
 use std::alloc::{AllocError, Global};
 
 /// The class of each processor, named by the first processor in it. If processors are exchanged, those with equal

@@ -2,24 +2,24 @@
 
 ghost use Rattle.std.specs.Prelude.{◌≡◌, ◌+◌, ◌<◌, ◌≤◌, [], ◌∷◌, ◌++◌, List, ℕ, length, slice_index_or, IfErr, IfOk};
 ghost use Rattle.std.specs.Prelude.{IfSome, OnOk};
-ghost use Rattle.local_reduction.specs.Closing.{MacroState};
-ghost use Rattle.local_reduction.specs.Live.{HasAllLive};
+ghost use Rattle.state_store.specs.local_reduction.Closing.{MacroState};
+ghost use Rattle.state_store.specs.local_reduction.Live.{HasAllLive};
 ghost use Rattle.state_graph.specs.Ranks.{no_rank};
 ghost use Rattle.state_search.specs.Ends.{AreFound, AreMany};
-ghost use Rattle.state_search.specs.TransitionCache.{KnowsLists, KnowsLocalStates};
+ghost use Rattle.state_store.specs.TransitionCache.{KnowsLists, KnowsLocalStates};
 ghost use Rattle.state_search.specs.Refusals.{IsGivenUpFor};
 ghost use Rattle.state_search.specs.Rows.{IsRowExchanged};
-ghost use Rattle.state_search.specs.Search.{AreAllFound, AreClasses, AreManyRows, Expanded, IsLike, IsPlaced, Searched};
-ghost use Rattle.state_search.specs.StateTables.{HasGrown, IsRow, means};
+ghost use Rattle.state_search.specs.Search.{AreAllFound, AreManyRows, Expanded, IsLike, IsPlaced, Searched};
+ghost use Rattle.state_store.specs.Moves.{AreClasses};
+ghost use Rattle.state_store.specs.StateTables.{HasGrown, IsRow, means};
 
 use crate::observer::SearchObserver;
 use crate::ordering::canonical;
-use crate::refusal::{MoveRefusal, Refusal};
-use crate::state_tables::{Extent, StateTables, StateVector};
-use crate::transition_cache::TransitionCaches;
+use crate::refusal::Refusal;
 use indexmap::IndexSet;
 use local_memory::Code;
 use state_graph::Successors;
+use state_store::{Extent, MoveRefusal, StateTables, StateVector, TransitionCaches};
 use std::alloc::Global;
 
 /// All rows that a search found, in the order of their discovery, and the successors of each.

@@ -3,7 +3,7 @@
 ghost use Rattle.std.specs.Prelude.{◌≡◌, ◌<◌, ◌≤◌, length, slice_index};
 ghost use Rattle.state_search.specs.Rows.{IsRowExchanged, traded_row};
 
-use crate::state_tables::StateVector;
+use state_store::StateVector;
 
 /// Exchanges the processors of a row within their classes. If only the number of `processor` is out of order, the
 /// numbers of each class increase afterwards. The holders at the places, if any, are exchanged with them.

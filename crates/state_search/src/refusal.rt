@@ -3,6 +3,8 @@
 ghost use Rattle.std.specs.Prelude.{◌≡◌};
 ghost use Rattle.state_search.specs.Refusals.{refused_by_move};
 
+use state_store::MoveRefusal;
+
 /// Why a search gives up.
 #[derive(Clone, Copy, Debug, PartialEq, Eq, Drop)]
 pub enum Refusal {
@@ -13,17 +15,6 @@ pub enum Refusal {
     /// A processor runs for 1,000,000 instructions without a reference, and is not found to spin.
     Alone,
     /// A processor asks for its own number after a reference, while processors are exchanged.
-    Asks,
-}
-
-/// Why the search cannot make a move.
-#[derive(Clone, Copy, Debug, PartialEq, Eq, Drop)]
-pub enum MoveRefusal {
-    /// Out of memory.
-    Memory,
-    /// The processor runs for 1,000,000 instructions without a reference, and is not found to spin.
-    Alone,
-    /// The processor asks for its own number after a reference, while processors are exchanged.
     Asks,
 }
 

@@ -1,18 +1,16 @@
 //! The movers on a path of rows.
 
 ghost use Rattle.std.specs.Prelude.{◌<◌, ◌≤◌, OnOk};
-ghost use Rattle.local_reduction.specs.Live.{HasAllLive};
+ghost use Rattle.state_store.specs.local_reduction.Live.{HasAllLive};
 ghost use Rattle.state_search.specs.Ends.{AreRows};
-ghost use Rattle.state_search.specs.TransitionCache.{KnowsLists, KnowsLocalStates};
-ghost use Rattle.state_search.specs.Search.{AreClasses};
-ghost use Rattle.state_search.specs.StateTables.{HasGrown, IsRow};
+ghost use Rattle.state_store.specs.TransitionCache.{KnowsLists, KnowsLocalStates};
+ghost use Rattle.state_store.specs.Moves.{AreClasses};
+ghost use Rattle.state_store.specs.StateTables.{HasGrown, IsRow};
 
 use crate::ordering::canonical;
-use crate::refusal::MoveRefusal;
-use crate::state_tables::{Extent, StateTables, StateVector};
-use crate::transition_cache::TransitionCaches;
 use indexmap::IndexSet;
 use local_memory::Code;
+use state_store::{Extent, MoveRefusal, StateTables, StateVector, TransitionCaches};
 use std::alloc::{AllocError, Global};
 
 /// The movers on a path of rows.

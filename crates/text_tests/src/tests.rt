@@ -2,6 +2,7 @@
 
 mod asm;
 mod assembling;
+mod course_texts;
 mod dis;
 mod disassembling;
 mod door;
@@ -10,6 +11,7 @@ mod fault_texts;
 mod formats;
 mod lines;
 mod printing;
+mod symbol_maps;
 
 use assembler::{AsmError, assemble};
 use std::alloc::Global;

@@ -16,7 +16,7 @@ use Rattle.machine_steps.specs.Runs.{IsOpening, flat_state, passed}
 use Rattle.machine_steps.specs.Standing.{HasFaulted, IsFaulted, processor_of}
 use Rattle.trace_lines.specs.declared.choice.Choice.{Choice}
 use Rattle.trace_lines.specs.OrderLines.{lines_of}
-use Rattle.trace_commands.specs.Reports.{HasFlatFaulted, IsExitOf, flat_processor}
+use Rattle.run_reports.specs.Reports.{HasFlatFaulted, IsExitOf, flat_processor}
 use Rattle.trace_commands.specs.Explained.{IsDrainedWithSteps}
 use Rattle.trace_commands.specs.Orders.{AreOrderLines, order_of}
 

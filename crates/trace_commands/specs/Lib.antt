@@ -1,6 +1,3 @@
-pub mod CountedReplays
-pub mod InMemory
-pub mod Reports
 pub mod TraceReports
 pub mod Explained
 pub mod Causes
@@ -9,5 +6,8 @@ pub mod Orders
 pub mod Stories
 pub mod Longest
 pub mod Stats
+pub mod Latencies
 pub mod Pictures
 pub mod Choices
+-- Definitions of reports, passed on to the crates above.
+pub use Rattle.run_reports.specs as run_reports

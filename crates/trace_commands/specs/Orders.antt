@@ -11,7 +11,7 @@ use Rattle.machine_steps.specs.Runs.{passed}
 use Rattle.trace_lines.specs.declared.choice.Choice.{Choice}
 use Rattle.trace_lines.specs.OrderLines.{lines_of}
 use Rattle.trace_commands.specs.Explained.{IsDrainedWithSteps, IsExplainedRun}
-use Rattle.trace_commands.specs.Reports.{HasFlatFaulted}
+use Rattle.run_reports.specs.Reports.{HasFlatFaulted}
 
 -- the serial order of an explained run
 abbrev pub order_of : {c : Config} {image : ImageContents} {steps : List Step} → IsExplainedRun c image steps →

@@ -4,11 +4,11 @@ use Rattle.flat_machine.specs.declared.config.Config.{Config}
 use Rattle.elf_image.specs.Images.{ImageContents}
 use Rattle.steps.specs.declared.step.Step.{Step}
 use Rattle.machine_picture.specs.Drawings.{Draws}
-use Rattle.machine_picture.specs.Views.{view_of}
+use Rattle.machine_views.specs.Views.{view_of}
 use Rattle.machine_steps.specs.Machines.{MachineLists}
 use Rattle.machine_steps.specs.Runs.{IsOpening, IsRun}
 use Rattle.trace_commands.specs.TraceReports.{ReportRelation}
-use Rattle.trace_commands.specs.Reports.{IsExitOf}
+use Rattle.run_reports.specs.Reports.{IsExitOf}
 use Rattle.trace_commands.specs.Explained.{IsDrainedWithSteps}
 
 -- the first N of the steps, or all of them

@@ -13,7 +13,7 @@ use Rattle.run_counts.specs.Lines.{lines_of}
 use Rattle.run_counts.specs.Rounds.{IsFewest}
 use Rattle.run_counts.specs.declared.longest.Longest.{Longest}
 use Rattle.trace_commands.specs.Longest.{AreLongest}
-use Rattle.trace_commands.specs.Reports.{IsExitOf}
+use Rattle.run_reports.specs.Reports.{IsExitOf}
 use Rattle.trace_commands.specs.Explained.{IsDrainedWithSteps}
 
 -- `machine k K c C b B r R`

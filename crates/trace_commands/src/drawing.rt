@@ -1,11 +1,12 @@
 //! A machine that takes steps, and its picture.
 
 ghost use Rattle.std.specs.Prelude.{IfOk, OnOk, length, string_bytes};
-ghost use Rattle.machine_picture.specs.Views.{view_of};
+ghost use Rattle.machine_views.specs.Views.{view_of};
 ghost use Rattle.machine_steps.specs.Runs.{IsRun};
 
-use machine_picture::{Draw, view_of};
+use machine_picture::Draw;
 use machine_steps::Machine;
+use machine_views::view_of;
 use std::alloc::{AllocError, Global};
 use steps::Step;
 

@@ -10,11 +10,11 @@ ghost use Rattle.trace_commands.specs.Orders.{AreOrderLines};
 
 use crate::draining::drained_steps;
 use crate::lines::order_text;
-use crate::states::exit_status;
 use crate::trace_report::TraceReport;
 use command_io::{Fault, machine_of_copy};
 use elf_image::Image;
 use flat_machine::{Config, Entry};
+use run_reports::exit_status;
 use std::alloc::Global;
 use steps::Step;
 use trace_lines::Choice;

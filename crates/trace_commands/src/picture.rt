@@ -5,12 +5,12 @@ ghost use Rattle.trace_commands.specs.Pictures.{first_of};
 
 use crate::draining::drained_steps;
 use crate::drawing::picture_text;
-use crate::states::exit_status;
 use crate::trace_report::TraceReport;
 use command_io::{Fault, machine_of_copy};
 use elf_image::Image;
 use flat_machine::Config;
 use machine_picture::Draw;
+use run_reports::exit_status;
 use std::alloc::Global;
 use steps::Step;
 

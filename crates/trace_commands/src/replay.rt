@@ -7,14 +7,13 @@ ghost use Rattle.command_io.specs.Printing.{ReportsCause};
 ghost use Rattle.trace_commands.specs.Causes.{TraceCommandFails};
 ghost use Rattle.trace_commands.specs.TraceReports.{IsDrainedReport, PrintsTraceReport, trace_input};
 
-use crate::reporting::report_with_status;
-use crate::taking::{drain_counted, replay_counted};
 use crate::trace_report::{TraceReport, trace_command};
 use command_io::{Fault, machine_of_copy};
 use elf_image::Image;
 use flat_machine::Config;
 use link::{LinkRead, LinkWrite};
 use machine_steps::laws;
+use run_reports::{drain_counted, replay_counted, report_with_status};
 use std::alloc::Global;
 use std::io;
 use std::io::Write;

@@ -18,9 +18,13 @@ pub(crate) fn below_size(alloc: Global, config: Config, lines: &str) -> Result<S
     Ok(text)
 }
 
-/// Appends the line of a machine's size.
+/// Appends the line of a machine's size, `machine k K c C b B r R`.
+///
+/// # Errors
+///
+/// [`AllocError`] if there is no memory for it.
 #[tactic(auto, unfolding(crate::specs::Stats::size_line))]
-fn push_size(text: &mut String, config: Config) -> Result<(), AllocError>
+pub fn push_size(text: &mut String, config: Config) -> Result<(), AllocError>
     ensures { OnOk result (string_bytes text.new ≡ string_bytes text.old ++ size_line config) }
 {
     let Config { k, c, b, r, .. } = config;

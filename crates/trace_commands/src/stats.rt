@@ -3,12 +3,12 @@
 use crate::counting::count_steps;
 use crate::draining::drained_steps;
 use crate::size_line::below_size;
-use crate::states::exit_status;
 use crate::trace_report::TraceReport;
 use command_io::{Fault, machine_of_copy};
 use elf_image::Image;
 use flat_machine::Config;
 use run_counts::{counts_text, rounds_of};
+use run_reports::exit_status;
 use std::alloc::Global;
 use steps::Step;
 

@@ -10,7 +10,7 @@ text_more : (t : StoryState) (run : List StoryStep) → (with_lines t run).text 
 text_more t [] = sym (append-nil t.text)
 text_more t (a ∷ rest) =
     text_more (with_line t a) rest
-    ∙ append_assoc t.text (chosen_line t.choice t.known a) (lines_from t.choice (known_after t.choice t.known a.step a.outcome) rest)
+    ∙ append_assoc t.text (chosen_line t.choice t.known a) (lines_from t.choice (known_after t.choice t.known a) rest)
 
 number_more : (t : StoryState) (run : List StoryStep) → (with_lines t run).known.number ≡ t.known.number + length run
 number_more t [] = omega arith

@@ -1,8 +1,10 @@
+pub mod Functions
 pub mod References
 pub mod OrderTexts
 pub mod Choices
 pub mod OrderLines
 pub mod Laws
 pub mod StoryTexts
+pub mod ValueTexts
 pub mod Concerns
 pub mod StoryLines

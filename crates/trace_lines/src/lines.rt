@@ -8,13 +8,16 @@ ghost use Rattle.trace_lines.specs.StoryTexts.{depth_after, depth_text, group_te
 ghost use Rattle.trace_lines.specs.StoryTexts.{stage_of, step_text};
 
 use crate::texts::{push_event, push_owner, push_written};
+use crate::value_texts::push_values;
+use crate::values::Values;
 use flat_machine::Event;
 use messages::Seconds;
 use std::alloc::{AllocError, Global};
 use std::fmt::Write;
 use steps::{Groups, Outcome, Step};
 
-/// Appends the line of a step: its number, the step and what it did. The groups are those before the step.
+/// Appends the line of a step: its number, the step, what it did, and the values that it tells. The groups are those
+/// before the step.
 ///
 /// # Errors
 ///
@@ -27,19 +30,25 @@ pub fn push_line(
     number: usize,
     step: &Step,
     outcome: &Outcome,
+    values: &Values,
 ) -> Result<(), AllocError>
     ensures { OnOk result (string_bytes text.new ≡ string_bytes text.old
-        ++ line_of groups.now number step.now outcome.now) }
+        ++ line_of groups.now number step.now outcome.now values.now) }
 {
     write!(text, "{number} ")?;
     push_step(alloc, text, step)?;
     text.push_str(": ")?;
     push_outcome(alloc, text, groups, step, outcome)?;
+    push_values(alloc, text, values)?;
     text.push('\n')
 }
 
-/// Appends the step.
-fn push_step(alloc: Global, text: &mut String, step: &Step) -> Result<(), AllocError>
+/// Appends the step, as `turn 3` or `up 0 2`.
+///
+/// # Errors
+///
+/// [`AllocError`] if there is no memory for it.
+pub fn push_step(alloc: Global, text: &mut String, step: &Step) -> Result<(), AllocError>
     ensures { OnOk result (string_bytes text.new ≡ string_bytes text.old ++ step_text step.now) }
 {
     match *step {

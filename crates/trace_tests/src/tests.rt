@@ -6,11 +6,14 @@ mod counts;
 mod devices;
 mod ends;
 mod explanations;
+mod functions;
+mod latencies;
 mod order_lines;
 mod orders;
 mod pictures;
 mod stories;
 mod story_lines;
+mod texts;
 mod views;
 
 use link::{LinkWrite, Meter};
@@ -19,7 +22,7 @@ use std::fmt::Debug;
 use std::io::{self, Read, Write};
 use std::process::Abort;
 use test_support::metered;
-use trace_commands::{Order, Stats, Story, lines_command, trace_command};
+use trace_commands::{LatencyStats, Order, Stats, Story, lines_command, trace_command};
 use trace_lines::Choice;
 
 /// Fails the test if the two differ, and prints both and their case ([`assert_same!`]).
@@ -42,11 +45,20 @@ enum Asked {
     Order(Choice),
     /// The chosen lines of its story.
     Story(Choice),
+    /// The same, with the rounds of the sweep.
+    Rounds(Choice),
     Stats,
+    LatencyStats,
 }
 
 /// Each kind of report, with all lines.
-const WHOLE: [Asked; 3] = [Asked::Order(ALL), Asked::Story(ALL), Asked::Stats];
+const WHOLE: [Asked; 5] = [
+    Asked::Order(ALL),
+    Asked::Story(ALL),
+    Asked::Rounds(ALL),
+    Asked::Stats,
+    Asked::LatencyStats,
+];
 
 /// Carries out the command for a report.
 fn ask<T: Read + Drop, R: Read + Drop, W: LinkWrite, E: Write>(
@@ -67,11 +79,15 @@ fn ask<T: Read + Drop, R: Read + Drop, W: LinkWrite, E: Write>(
             let order = Order { choice };
             lines_command(alloc, trace, file, shared_words, choice, &order, out, err)
         }
-        Asked::Story(choice) => {
-            let story = Story { choice };
+        Asked::Story(choice) | Asked::Rounds(choice) => {
+            let rounds = matches!(asked, Asked::Rounds(_));
+            let story = Story { choice, rounds };
             lines_command(alloc, trace, file, shared_words, choice, &story, out, err)
         }
         Asked::Stats => trace_command(alloc, trace, file, shared_words, &Stats, out, err),
+        Asked::LatencyStats => {
+            trace_command(alloc, trace, file, shared_words, &LatencyStats, out, err)
+        }
     }
 }
 

@@ -1,7 +1,7 @@
 //! Files of this machine, and standard input.
 
 ghost use Rattle.std.specs.Prelude.{◌≡◌, false, IfOk};
-ghost use Rattle.trace_commands.specs.TraceReports.{IsWorking};
+ghost use Rattle.trace_commands.specs.run_reports.RunReports.{IsWorking};
 
 use crate::refusal::Refusal;
 use crate::reports::{Explained, Reason};
@@ -126,6 +126,18 @@ pub(crate) fn look_for_folder<'a, R: Files>(rt: &R, path: &'a str) -> Result<(),
 /// Whether an error says that a folder is not there.
 fn is_missing(kind: ErrorKind) -> bool {
     kind == ErrorKind::NotFound || kind == ErrorKind::NotADirectory
+}
+
+/// Creates a file, or empties it. A write that fails leaves its error in `reason`.
+pub(crate) fn create<'a, 'r, R: Files>(
+    rt: &R,
+    path: &'a str,
+    reason: &'r Reason,
+) -> Result<Explained<'r, R::File>, Refusal<'a>> {
+    match fs::create(rt, path) {
+        Ok(device) => Ok(Explained { device, reason }),
+        Err(error) => Err(Refusal::Closed(path, error)),
+    }
 }
 
 /// A writer to OUT, which the first write opens. A write that fails leaves its error in `reason`.

@@ -2,58 +2,124 @@
 #![tactic(auto)]
 
 ghost use Rattle.std.specs.Prelude.{◌≡◌, false};
-ghost use Rattle.trace_commands.specs.TraceReports.{IsWorking};
+ghost use Rattle.trace_commands.specs.run_reports.RunReports.{IsWorking};
 
+mod assembling;
 mod files;
 mod loopback_port;
 mod output;
+mod properties;
 mod refusal;
 mod reports;
 mod standard_streams;
 mod symbols;
 mod traces;
 
-use crate::files::{
-    STANDARD, look_for_folder, open, open_beside, open_beside_trace, open_image, read_once,
-    trace_to, writer_to,
-};
+use crate::assembling::asm_file;
+use crate::files::STANDARD;
+use crate::files::look_for_folder;
+use crate::files::open;
+use crate::files::open_beside;
+use crate::files::open_beside_trace;
+use crate::files::open_image;
+use crate::files::read_once;
+use crate::files::trace_to;
+use crate::files::writer_to;
 use crate::loopback_port::LoopbackPort;
-use crate::output::{Output, format_of};
-use crate::refusal::{Refusal, refuse};
-use crate::reports::{Explained, Place, Reason, Reports, place_of, report_place};
+use crate::output::Output;
+use crate::output::format_of;
+use crate::properties::judge_file;
+use crate::properties::property_of;
+use crate::refusal::Refusal;
+use crate::refusal::refuse;
+use crate::reports::Explained;
+use crate::reports::Place;
+use crate::reports::Reason;
+use crate::reports::Reports;
+use crate::reports::place_of;
+use crate::reports::report_place;
+use crate::reports::text_or_place;
 use crate::standard_streams::StandardStreams;
 use crate::symbols::symbol_bytes;
 use crate::traces::TraceFiles;
-use asm_commands::{asm_command, check_command, dis_command};
+use asm_commands::check_command;
+use asm_commands::course_check_command;
+use asm_commands::dis_command;
 use clap::Error;
-use command_io::{DONE, Fault, LINK_FAILED, SPENT, report_fault};
-use debug_session::{Connect, debug_command};
-use explain_command::{all_topics, explain_command};
-use explore_command::{
-    Asked, NoProgress, SearchObserver, SearchProgress, explore_command, explore_every_size,
-};
+use command_io::DONE;
+use command_io::Fault;
+use command_io::LINK_FAILED;
+use command_io::REFUSED;
+use command_io::SPENT;
+use command_io::report_fault;
+use debug_session::Connect;
+use debug_session::debug_command;
+use explain_command::all_topics;
+use explain_command::explain_command;
+use explore_command::Asked;
+use explore_command::NoProgress;
+use explore_command::SearchObserver;
+use explore_command::SearchProgress;
+use explore_command::explore_command;
+use explore_command::explore_every_size;
 use flat_machine::Config;
-use hunt_command::{Hunt as Hunted, HuntProgress, NoHuntProgress, hunt_command};
-use link::{Link, LinkRead, LinkWrite, Meter};
+use hunt_command::Hunt as Hunted;
+use hunt_command::HuntProgress;
+use hunt_command::NoHuntProgress;
+use hunt_command::hunt_command;
+use link::Link;
+use link::LinkRead;
+use link::LinkWrite;
+use link::Meter;
 use machine_picture::Svg;
 use observed_results::ObservedWords;
-use processor_threads::{Gate, Open};
-use run_command::{Progress, run_command, threaded_run_command, unlogged_run_command};
-use settings::{Explore, Hunt, Lines, Replay, Run, Session, Settings, Sizes, settings, status_of};
-use std::alloc::{AllocError, Global};
+use processor_threads::Gate;
+use processor_threads::Open;
+use refinement_command::refinement_command;
+use run_command::Progress;
+use run_command::run_command;
+use run_command::threaded_run_command;
+use run_command::unlogged_run_command;
+use settings::Explore;
+use settings::Hunt;
+use settings::Lines;
+use settings::Replay;
+use settings::Run;
+use settings::Schedule;
+use settings::Session;
+use settings::Settings;
+use settings::Sizes;
+use settings::settings;
+use settings::status_of;
+use std::alloc::AllocError;
+use std::alloc::Global;
 use std::env;
-use std::io::{self, ErrorKind, Input, IsTerminal, Read, Write};
+use std::io::ErrorKind;
+use std::io::Input;
+use std::io::IsTerminal;
+use std::io::Read;
+use std::io::Write;
+use std::io::{self};
 use std::net::Net;
 use std::process::ExitCode;
-use std::rt::{Env, Files};
+use std::rt::Env;
+use std::rt::Files;
 use std::sync::Wait;
 use std::thread::Threads;
 use std::time::Clock;
 use symbol_table::SymbolTable;
-use trace_commands::{
-    Order, Picture, Report, Stats, Story, TraceReport, lines_command, trace_command,
-};
+use trace_commands::LatencyStats;
+use trace_commands::Order;
+use trace_commands::Picture;
+use trace_commands::Report;
+use trace_commands::Stats;
+use trace_commands::Story;
+use trace_commands::TraceReport;
+use trace_commands::lines_command;
+use trace_commands::trace_command;
 use trace_lines::Choice;
+use trace_text::steps_command;
+use trace_text::text_command;
 use words_command::words_command;
 
 fn main(rt: HostRuntime) -> ExitCode {
@@ -152,6 +218,7 @@ fn execute_and_report<
     let place = match letter {
         None => None,
         Some(_) if out.failed() => Some(Place::StandardOutput),
+        Some(b'I') if status == REFUSED => place_of(settings, b'I').map(text_or_place),
         Some(letter) => place_of(settings, letter),
     };
     if let Some(place) = place {
@@ -189,17 +256,12 @@ fn execute<
         }
         Settings::Check(check) => {
             let mut file = Meter::new(open(rt, check.file, reason)?);
+            if check.course {
+                return Ok(course_check_command(alloc, &mut file, out, err));
+            }
             Ok(check_command(alloc, &mut file, out, err))
         }
-        Settings::Asm(asm) => {
-            if asm.out == STANDARD {
-                let mut file = Meter::new(open(rt, asm.file, reason)?);
-                return Ok(asm_command(alloc, &mut file, out, err));
-            }
-            let mut file = Meter::new(open_beside(rt, asm.file, Some(asm.out), reason)?);
-            let mut image = writer_to(rt, asm.out, reason);
-            Ok(asm_command(alloc, &mut file, &mut image, err))
-        }
+        Settings::Asm(asm) => asm_file(rt, asm, reason, out, err),
         Settings::Dis(dis) => {
             let mut file = Meter::new(open(rt, dis.file, reason)?);
             Ok(dis_command(alloc, &mut file, dis.words, dis.comments, out, err))
@@ -212,9 +274,20 @@ fn execute<
             let choice = choice_of(&order.lines);
             tell_lines(rt, &order.lines, &Order { choice }, reason, out, err)
         }
-        Settings::Story(lines) => {
-            let choice = choice_of(lines);
-            tell_lines(rt, lines, &Story { choice }, reason, out, err)
+        Settings::Story(story) => {
+            let choice = choice_of(&story.lines);
+            let rounds = story.rounds;
+            tell_lines(
+                rt,
+                &story.lines,
+                &Story { choice, rounds },
+                reason,
+                out,
+                err,
+            )
+        }
+        Settings::Stats(counts) if counts.latency => {
+            tell_steps(rt, &counts.replay, &LatencyStats, reason, out, err)
         }
         Settings::Stats(counts) => tell_steps(rt, &counts.replay, &Stats, reason, out, err),
         Settings::Picture(asked) => {
@@ -224,6 +297,11 @@ fn execute<
             };
             tell_steps(rt, &asked.replay, &picture, reason, out, err)
         }
+        Settings::Trace(asked) => {
+            let mut trace = Meter::new(open(rt, asked.trace, reason)?);
+            Ok(text_command(alloc, &mut trace, out, err))
+        }
+        Settings::Steps(schedule) => write_steps(rt, schedule, reason, out, err),
         Settings::Debug(session) => debug_file(rt, session, reason, out, err),
         Settings::Explain(explain) => {
             let topics = all_topics();
@@ -231,6 +309,25 @@ fn execute<
             Ok(explain_command(alloc, &topics, words, out, err))
         }
     }
+}
+
+/// Makes a trace of a text of steps. The first write to OUT opens it.
+fn write_steps<'a, R: Files + Input + AllocGlobal, W: LinkWrite, E: Write>(
+    rt: &R,
+    schedule: &Schedule<'a>,
+    reason: &Reason,
+    out: &mut W,
+    err: &mut E,
+) -> Result<u8, Refusal<'a>>
+    requires works { W.has_failed out.old ≡ false }
+{
+    if schedule.out == STANDARD {
+        let mut file = Meter::new(open(rt, schedule.file, reason)?);
+        return Ok(steps_command(rt.alloc(), &mut file, out, err));
+    }
+    let mut file = Meter::new(open_beside(rt, schedule.file, Some(schedule.out), reason)?);
+    let mut trace = writer_to(rt, schedule.out, reason);
+    Ok(steps_command(rt.alloc(), &mut file, &mut trace, err))
 }
 
 /// Opens a trace, and then the image of its run, and reports on its steps. If the image cannot be opened, the command
@@ -432,7 +529,14 @@ fn explore_file<'a, R: Files + Input + Clock + Eprint + AllocGlobal, W: LinkWrit
 ) -> Result<u8, Refusal<'a>>
     requires works { W.has_failed out.old ≡ false }
 {
-    if explore.every && (explore.witness.is_some() || explore.trace.is_some()) {
+    let shown = terminal && !explore.quiet;
+    if let Some(text) = property_of(explore)? {
+        return judge_file(rt, explore, text, shown, reason, out, err);
+    }
+    if let Some(against) = explore.against {
+        return compare_files(rt, explore, against, terminal, reason, out, err);
+    }
+    if explore.every && (explore.fair || explore.witness.is_some() || explore.trace.is_some()) {
         return Err(Refusal::Every);
     }
     if explore.witness.is_some() != explore.trace.is_some() {
@@ -445,14 +549,125 @@ fn explore_file<'a, R: Files + Input + Clock + Eprint + AllocGlobal, W: LinkWrit
     let asked = Asked {
         limit: explore.states,
         each: explore.each,
+        fair: explore.fair,
         witness: explore.witness.unwrap_or(0),
         observed: words.as_ref(),
     };
-    let shown = terminal && !explore.quiet;
     let every = explore.every;
     Ok(explore_image(
         rt, &mut file, config, asked, every, shown, &mut trace, out, err,
     ))
+}
+
+/// Does what `explore FILE --against SPEC` asks for.
+fn compare_files<'a, R: Files + Input + Clock + Eprint + AllocGlobal, W: LinkWrite, E: Write>(
+    rt: &R,
+    explore: &Explore<'a>,
+    against: &'a str,
+    terminal: bool,
+    reason: &Reason,
+    out: &mut W,
+    err: &mut E,
+) -> Result<u8, Refusal<'a>>
+    requires works { W.has_failed out.old ≡ false }
+{
+    if explore.every || explore.fair || explore.witness.is_some() || explore.trace.is_some() {
+        return Err(Refusal::Against);
+    }
+    if explore.file == STANDARD && against == STANDARD {
+        return Err(Refusal::InputTwice);
+    }
+    let words = compared_words(rt.alloc(), explore.observe, &explore.sizes)?;
+    let mut program = Meter::new(open(rt, explore.file, reason)?);
+    let mut specification = Meter::new(open(rt, against, reason)?);
+    let shown = terminal && !explore.quiet;
+    match compare_images(
+        rt,
+        &mut program,
+        &mut specification,
+        explore,
+        &words,
+        shown,
+        out,
+        err,
+    ) {
+        Ok(status) => Ok(status),
+        Err(fault) => Err(Refusal::Specification(against, fault, reason.get())),
+    }
+}
+
+/// Compares the results of an image with those of its specification. The progress of the searches is shown, if it is
+/// asked for.
+fn compare_images<
+    F: LinkRead,
+    S: LinkRead,
+    R: Clock + Eprint + AllocGlobal,
+    W: LinkWrite,
+    E: Write,
+>(
+    rt: &R,
+    program: &mut F,
+    specification: &mut S,
+    explore: &Explore<'_>,
+    words: &ObservedWords,
+    shown: bool,
+    out: &mut W,
+    err: &mut E,
+) -> Result<u8, Fault>
+    requires reads { F.has_failed program.old ≡ false }
+    requires also_reads { S.has_failed specification.old ≡ false }
+    requires works { W.has_failed out.old ≡ false }
+{
+    let alloc = rt.alloc();
+    let config = config_of(&explore.sizes);
+    let limit = explore.states;
+    if shown {
+        let mut observer = SearchProgress::new(rt, rt);
+        refinement_command(
+            alloc,
+            program,
+            specification,
+            config,
+            limit,
+            words,
+            &mut observer,
+            out,
+            err,
+        )
+    } else {
+        let mut observer = NoProgress;
+        refinement_command(
+            alloc,
+            program,
+            specification,
+            config,
+            limit,
+            words,
+            &mut observer,
+            out,
+            err,
+        )
+    }
+}
+
+/// The words by which results are compared: those that a list names, or all words of a machine of these sizes if no
+/// list is given.
+fn compared_words<'a>(
+    alloc: Global,
+    list: Option<&'a str>,
+    sizes: &Sizes,
+) -> Result<ObservedWords, Refusal<'a>> {
+    if let Some(words) = words_of(alloc, list, sizes)? {
+        return Ok(words);
+    }
+    let last = sizes.words.saturating_sub(1);
+    let Ok(all) = format!(in alloc; "0-{last}") else {
+        return Err(Refusal::Memory);
+    };
+    match ObservedWords::of_list(alloc, all.as_str(), sizes.words) {
+        Ok(Some(words)) => Ok(words),
+        _ => Err(Refusal::Memory),
+    }
 }
 
 /// The words that a list names, on a machine of these sizes, or None if no list is given.

@@ -42,6 +42,8 @@ struct Style {
     json: bool,
     /// With the ABI's names of registers, and with the targets of jumps and branches.
     abi: bool,
+    /// With values in decimal.
+    decimal: bool,
     /// The shapes of the lines.
     shapes: &'static [Shape],
 }
@@ -60,13 +62,14 @@ pub(crate) fn format_of<'a>(
     if style.json {
         return Format::Json(style.shapes);
     }
-    if symbols.is_none() && !style.abi {
+    if symbols.is_none() && !style.abi && !style.decimal {
         return Format::Plain;
     }
     Format::Named(Names {
         shapes: style.shapes,
         places: symbols,
         disassembly: style.abi,
+        decimal: style.decimal,
     })
 }
 
@@ -80,18 +83,40 @@ fn prints_csv(settings: &Settings<'_>) -> bool {
 
 /// How a command's lines are to be printed, if that can be chosen.
 fn style_of(settings: &Settings<'_>) -> Option<Style> {
+    let (shapes, lines) = match settings {
+        Settings::Run(run) => (shapes::report(), &run.style),
+        Settings::Hunt(hunt) => (shapes::hunt(), &hunt.style),
+        Settings::Explore(explore) if explore.every => (shapes::sizes(), &explore.style),
+        Settings::Explore(explore) => (shapes::results(), &explore.style),
+        Settings::Replay(report) => (shapes::report(), &report.style),
+        Settings::Order(order) => (shapes::order(), &order.lines.style),
+        Settings::Story(story) => (shapes::story(), &story.lines.style),
+        _ => return other_style_of(settings),
+    };
+    let abi = match settings {
+        Settings::Order(order) => order.abi,
+        _ => false,
+    };
+    Some(Style {
+        json: lines.json,
+        abi,
+        decimal: lines.decimal,
+        shapes,
+    })
+}
+
+/// The same, for a command whose lines have no values of words.
+fn other_style_of(settings: &Settings<'_>) -> Option<Style> {
     let (shapes, json, abi) = match settings {
         Settings::Check(check) => (shapes::mistakes(), check.json, false),
         Settings::Dis(dis) => (shapes::listing(), false, dis.abi),
-        Settings::Run(run) => (shapes::report(), run.json, false),
-        Settings::Hunt(hunt) => (shapes::hunt(), hunt.json, false),
-        Settings::Explore(explore) if explore.every => (shapes::sizes(), explore.json, false),
-        Settings::Explore(explore) => (shapes::results(), explore.json, false),
-        Settings::Replay(report) => (shapes::report(), report.json, false),
         Settings::Stats(counts) => (shapes::counts(), counts.json, false),
-        Settings::Order(order) => (shapes::order(), order.lines.json, order.abi),
-        Settings::Story(lines) => (shapes::story(), lines.json, false),
         _ => return None,
     };
-    Some(Style { json, abi, shapes })
+    Some(Style {
+        json,
+        abi,
+        decimal: false,
+        shapes,
+    })
 }

@@ -1,28 +1,39 @@
 //! Why a command does not begin.
 
-use crate::reports::{Place, report_place};
+use crate::reports::{Place, report_place, text_or_place};
 use crate::symbols::MAX_SYMBOL_BYTES;
-use command_io::{Fault, REFUSED, report_fault};
+use command_io::{Fault, LINK_FAILED, REFUSED, report_fault};
+use state_conditions::{Kind, wrong_part};
 use std::io::{self, Write};
 use trace_file::TraceError;
 
 /// Why a command does not begin.
 #[derive(Clone, Copy, Debug, Drop)]
 pub(crate) enum Refusal<'a> {
-    /// The file at this path cannot be opened, with this error of the system.
+    /// The file at this path cannot be opened or written, with this error of the system.
     Closed(&'a str, io::Error),
     /// A trace cannot be written at this path: its folder cannot be found, with this error of the system.
     NoFolder(&'a str, io::Error),
     /// OUT is the same file as the one to read. Neither is opened.
     SameFile,
+    /// The map of labels is the same file as the text or the image. None is opened.
+    SameMap,
     /// A witness is asked for without a file for its trace, or the other way round.
     Half,
-    /// A witness and every size are asked for.
+    /// A witness or fair schedules, and every size, are asked for.
     Every,
+    /// A comparison is asked for, and a witness, fair schedules or every size.
+    Against,
+    /// The specification at this path is refused for this fault, with the system's last error if there was one.
+    Specification(&'a str, Fault, Option<io::Error>),
     /// A run without a log is asked for on threads, or with a trace.
     NoLog,
     /// This text is no list of shared words of a machine that has this many.
     NoList(&'a str, u32),
+    /// More than one property is asked for, or one together with an option on results.
+    Properties,
+    /// The text for a property of this kind is no condition on a machine that has this many shared words.
+    NoCondition(Kind, &'a str, u32),
     /// There is no memory for what the command line asks for.
     Memory,
     /// Standard input is to be read for two purposes.
@@ -50,19 +61,59 @@ impl Refusal<'_> {
                 status
             }
             Refusal::SameFile => refuse("OUT is the same file as FILE", err),
+            Refusal::SameMap => refuse("MAP is the same file as FILE or OUT", err),
             Refusal::Half => refuse("--witness and --trace go together", err),
-            Refusal::Every => refuse("--every goes with neither --witness nor --trace", err),
+            Refusal::Every => refuse(
+                "--every goes with none of --fair, --witness and --trace",
+                err,
+            ),
+            Refusal::Against => {
+                refuse(
+                    "--against goes with none of --every, --fair, --witness and --trace",
+                    err,
+                )
+            }
+            Refusal::Specification(path, fault, reason) => {
+                refuse_specification(path, fault, reason, err)
+            }
             Refusal::NoLog => refuse("--no-log goes with --sweep, and not with --trace", err),
             Refusal::NoList(list, words) => refuse_list(list, words, err),
+            Refusal::Properties => {
+                refuse(
+                    "--never, --always and --finally exclude each other, and other options than the sizes, --states \
+                     and --quiet",
+                    err,
+                )
+            }
+            Refusal::NoCondition(kind, text, words) => refuse_condition(kind, text, words, err),
             Refusal::Memory => report_fault(Fault::Memory, err),
             Refusal::InputTwice => refuse("standard input is asked for twice", err),
             Refusal::PrintedTrace => refuse("a trace is not written to standard output", err),
             Refusal::Formats => {
-                refuse("--json goes with none of --symbols, --abi and --csv", err)
+                refuse(
+                    "--json goes with none of --symbols, --abi, --decimal and --csv",
+                    err,
+                )
             }
             Refusal::LongSymbols(path) => refuse_symbols(path, err),
         }
     }
+}
+
+/// Reports why a specification is refused and which file it is, and returns the exit status.
+fn refuse_specification<E: Write>(
+    path: &str,
+    fault: Fault,
+    reason: Option<io::Error>,
+    err: &mut E,
+) -> u8 {
+    let status = report_fault(fault, err);
+    match status {
+        LINK_FAILED => report_place(Place::File(path), reason, err),
+        REFUSED => report_place(text_or_place(Place::File(path)), None, err),
+        _ => report_place(Place::File(path), None, err),
+    }
+    status
 }
 
 /// Reports that a text is no list of shared words of a machine that has this many, as the parser of the command line
@@ -74,6 +125,25 @@ fn refuse_list<E: Write>(list: &str, words: u32, err: &mut E) -> u8 {
         err,
         "error: invalid value '{list}' for '--observe <LIST>': not numbers and ranges in 0..={last}, the machine's shared \
          words (--words)"
+    );
+    REFUSED
+}
+
+/// Reports that a text is no condition, as the parser of the command line reports a wrong number, and returns the exit
+/// status.
+fn refuse_condition<E: Write>(kind: Kind, text: &str, words: u32, err: &mut E) -> u8 {
+    let option = match kind {
+        Kind::Never => "never",
+        Kind::Always => "always",
+        Kind::Finally => "finally",
+    };
+    let last = words.saturating_sub(1);
+    let part = wrong_part(text, words).unwrap_or(text);
+    // If standard error fails too, the exit status alone reports it.
+    let _ = writeln!(
+        err,
+        "error: invalid value '{text}' for '--{option} <CONDITION>': '{part}' is not `word N OP V` with N in \
+         0..={last}, `at A-B OP V`, `running OP V`, `halted OP V`, `faulted OP V` or `any fault`"
     );
     REFUSED
 }

@@ -80,6 +80,8 @@ impl<E: Write> Write for Reports<'_, E> {
 pub(crate) enum Place<'a> {
     /// The file at this path, or standard input.
     File(&'a str),
+    /// The file at this path, whose name is that of a text, where an image is wanted.
+    Text(&'a str),
     Port(u16),
     StandardOutput,
     /// Standard input and output, between which a session's error does not tell.
@@ -93,6 +95,10 @@ impl Display for Place<'_> {
         match self {
             Place::File(path) if *path == STANDARD => write!(f, "standard input"),
             Place::File(path) => write!(f, "{path}"),
+            Place::Text(path) => write!(
+                f,
+                "{path}: a text, which `ultra asm {path} OUT` makes an image"
+            ),
             Place::Port(number) => write!(f, "port {number}"),
             Place::StandardOutput => write!(f, "standard output"),
             Place::StandardStreams => write!(f, "standard input or output"),
@@ -110,8 +116,16 @@ pub(crate) fn report_place<E: Write>(place: Place<'_>, reason: Option<io::Error>
     };
 }
 
-/// What is at fault by the first letter of a code: a text (A, V), an image (I), a trace (X), or what cannot be opened
-/// or read (`link`); or the budget of a run. None for other codes, which concern no file.
+/// The same place, said to be a text if its name is that of one.
+pub(crate) fn text_or_place(place: Place<'_>) -> Place<'_> {
+    match place {
+        Place::File(path) if path.ends_with(".s") => Place::Text(path),
+        _ => place,
+    }
+}
+
+/// What is at fault by the first letter of a code: a text (A, S, V), an image (I), a trace (X), or what cannot be
+/// opened or read (`link`); or the budget of a run. None for other codes, which concern no file.
 pub(crate) fn place_of<'a>(settings: &Settings<'a>, letter: u8) -> Option<Place<'a>> {
     match (letter, settings) {
         (b'V' | b'l', Settings::Words(words)) => Some(Place::File(words.file)),
@@ -119,6 +133,9 @@ pub(crate) fn place_of<'a>(settings: &Settings<'a>, letter: u8) -> Option<Place<
         (b'A' | b'l', Settings::Asm(asm)) => Some(Place::File(asm.file)),
         // The one image of `asm` is the one that it writes.
         (b'I', Settings::Asm(asm)) => Some(Place::File(asm.out)),
+        (b'X', Settings::Trace(asked)) => Some(Place::File(asked.trace)),
+        (b'S' | b'l', Settings::Steps(schedule)) => Some(Place::File(schedule.file)),
+        (b'X', Settings::Steps(schedule)) => Some(Place::File(schedule.out)),
         (b'I', Settings::Dis(dis)) => Some(Place::File(dis.file)),
         (b'I', Settings::Run(run)) => Some(Place::File(run.file)),
         (b'X', Settings::Run(run)) => file(run.trace),
@@ -131,7 +148,7 @@ pub(crate) fn place_of<'a>(settings: &Settings<'a>, letter: u8) -> Option<Place<
         (b'l', Settings::Debug(session)) => Some(Place::Port(session.port)),
         (_, Settings::Replay(report)) => place_of_replay(&report.replay, letter),
         (_, Settings::Order(order)) => place_of_replay(&order.lines.replay, letter),
-        (_, Settings::Story(lines)) => place_of_replay(&lines.replay, letter),
+        (_, Settings::Story(story)) => place_of_replay(&story.lines.replay, letter),
         (_, Settings::Stats(counts)) => place_of_replay(&counts.replay, letter),
         (_, Settings::Picture(asked)) => place_of_replay(&asked.replay, letter),
         _ => None,

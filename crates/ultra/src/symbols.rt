@@ -4,7 +4,7 @@ use crate::files::{STANDARD, are_one_file, open};
 use crate::refusal::Refusal;
 use crate::reports::Reason;
 use link::{Meter, ReadError, read_within};
-use settings::Settings;
+use settings::{LineStyle, Settings};
 use std::io::{ErrorKind, Input};
 use std::rt::Files;
 
@@ -46,12 +46,12 @@ pub(crate) fn symbol_bytes<'a, R: Files + Input + AllocGlobal>(
 fn symbols_of<'a>(settings: &Settings<'a>) -> Option<&'a str> {
     match settings {
         Settings::Dis(dis) => dis.symbols,
-        Settings::Run(run) => run.symbols,
-        Settings::Hunt(hunt) => hunt.symbols,
-        Settings::Explore(explore) => explore.symbols,
-        Settings::Replay(report) => report.symbols,
-        Settings::Order(order) => order.lines.symbols,
-        Settings::Story(lines) => lines.symbols,
+        Settings::Run(run) => run.style.symbols,
+        Settings::Hunt(hunt) => hunt.style.symbols,
+        Settings::Explore(explore) => explore.style.symbols,
+        Settings::Replay(report) => report.style.symbols,
+        Settings::Order(order) => order.lines.style.symbols,
+        Settings::Story(story) => story.lines.style.symbols,
         _ => None,
     }
 }
@@ -67,16 +67,30 @@ fn trace_of<'a>(settings: &Settings<'a>) -> Option<&'a str> {
 
 /// Whether lines are asked for as JSON and in another format.
 fn has_two_formats(settings: &Settings<'_>) -> bool {
-    let is_named = symbols_of(settings).is_some();
     match settings {
-        Settings::Run(run) => run.json && is_named,
-        Settings::Hunt(hunt) => hunt.json && is_named,
-        Settings::Explore(explore) => explore.json && is_named,
-        Settings::Replay(report) => report.json && is_named,
-        Settings::Order(order) => order.lines.json && (is_named || order.abi),
-        Settings::Story(lines) => lines.json && is_named,
+        Settings::Run(run) => is_twofold(&run.style),
+        Settings::Hunt(hunt) => is_twofold(&hunt.style),
+        Settings::Explore(explore) => is_twofold(&explore.style),
+        Settings::Replay(report) => is_twofold(&report.style),
+        Settings::Order(order) => {
+            is_twofold(&order.lines.style) || (order.lines.style.json && order.abi)
+        }
+        Settings::Story(story) => is_twofold(&story.lines.style),
         Settings::Stats(counts) => counts.json && counts.csv,
         _ => false,
+    }
+}
+
+/// Whether a style is JSON and something else.
+fn is_twofold(style: &LineStyle<'_>) -> bool {
+    style.json && (style.decimal || style.symbols.is_some())
+}
+
+/// Whether a path is given, and names standard input.
+fn is_standard(path: Option<&str>) -> bool {
+    match path {
+        Some(path) => path == STANDARD,
+        None => false,
     }
 }
 
@@ -86,15 +100,15 @@ fn reads_standard_input(settings: &Settings<'_>) -> bool {
         Settings::Dis(dis) => dis.file == STANDARD,
         Settings::Run(run) => run.file == STANDARD,
         Settings::Hunt(hunt) => hunt.file == STANDARD,
-        Settings::Explore(explore) => explore.file == STANDARD,
+        Settings::Explore(explore) => { explore.file == STANDARD || is_standard(explore.against) }
         Settings::Replay(report) => {
             report.replay.trace == STANDARD || report.replay.file == STANDARD
         }
         Settings::Order(order) => {
             order.lines.replay.trace == STANDARD || order.lines.replay.file == STANDARD
         }
-        Settings::Story(lines) => {
-            lines.replay.trace == STANDARD || lines.replay.file == STANDARD
+        Settings::Story(story) => {
+            story.lines.replay.trace == STANDARD || story.lines.replay.file == STANDARD
         }
         _ => false,
     }

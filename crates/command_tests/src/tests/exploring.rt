@@ -1,8 +1,10 @@
 //! The command `explore`, from the bytes of an image to the bytes of the lines. Images are assembled from texts, and
 //! the results are worked out by hand.
 
+mod comparisons;
 mod devices;
 mod ends;
+mod properties;
 mod sizes;
 mod witnesses;
 
@@ -33,6 +35,7 @@ const fn up_to_exchanges(limit: u32) -> Asked<'static> {
     Asked {
         limit,
         each: false,
+        fair: false,
         witness: 0,
         observed: None,
     }
@@ -43,6 +46,7 @@ const fn each(limit: u32) -> Asked<'static> {
     Asked {
         limit,
         each: true,
+        fair: false,
         witness: 0,
         observed: None,
     }

@@ -68,6 +68,20 @@ pub const DEADLY_EMBRACE: &str =
     "addi a7, x0, 2\necall\nlui x1, 0x80000\nslli x2, a0, 2\nadd x3, x1, x2\nxori x2, x2, 4\nadd x4, x1, x2\n\
     wait: lw x5, 0(x3)\nbeq x5, x0, wait\naddi x6, x0, 1\nsw x6, 0(x4)\necall";
 
+/// Each of two raises its flag, and ends if the other's is down. Otherwise it lowers its own, and tries again.
+pub const POLITE: &str =
+    "addi a7, x0, 2\necall\nlui x1, 0x80000\nslli x2, a0, 2\nadd x3, x1, x2\nxori x2, x2, 4\nadd x4, x1, x2\n\
+    addi x5, x0, 1\nagain: sw x5, 0(x3)\nlw x6, 0(x4)\nbeq x6, x0, enter\nsw x0, 0(x3)\njal x0, again\n\
+    enter: sw x0, 0(x3)\naddi a7, x0, 0\necall";
+
+/// Each adds 1 to the first word again and again.
+pub const ADDS_ON: &str = "lui x1, 0x80000\nagain: amoadd.w x0, x0, (x1)\njal x0, again";
+
+/// Each takes a lock by a swap, adds 1 inside it by a load and a store, and opens it.
+pub const SWAP_LOCK: &str =
+    "lui x1, 0x80000\naddi x2, x0, 1\nwait: amoswap.w x3, x2, (x1)\nbne x3, x0, wait\nlw x4, 4(x1)\n\
+    addi x4, x4, 1\nsw x4, 4(x1)\nsw x0, 0(x1)\necall";
+
 /// Processor 1 writes 1, and then 0 again, while the other waits for the 1, and may look too late.
 pub const MISSED: &str =
     "addi a7, x0, 2\necall\nlui x1, 0x80000\nbeq a0, x0, wait\naddi x4, x0, 1\nsw x4, 0(x1)\nsw x0, 0(x1)\n\

@@ -2,11 +2,13 @@
 
 /// Ways to ask for `check`.
 pub const TAKEN: &str = r#"$ ultra check a.s
-Check(Check { file: "a.s", json: false })
+Check(Check { file: "a.s", course: false, json: false })
 $ ultra check -- --a
-Check(Check { file: "--a", json: false })
+Check(Check { file: "--a", course: false, json: false })
 $ ultra check --json a.s
-Check(Check { file: "a.s", json: true })
+Check(Check { file: "a.s", course: false, json: true })
+$ ultra check a.s --course
+Check(Check { file: "a.s", course: true, json: false })
 "#;
 
 /// Parts of the help.

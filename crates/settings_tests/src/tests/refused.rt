@@ -247,7 +247,7 @@ fn without_value(rt: &(impl Abort + AllocGlobal), most: usize) -> bool {
 }
 
 /// Command lines with an unknown argument.
-static UNKNOWN: [(&str, &str); 21] = [
+static UNKNOWN: [(&str, &str); 23] = [
     ("words --fast a.hex", "--fast"),
     ("run --k -1 a.elf", "-1"),
     ("run --fast a.elf", "--fast"),
@@ -265,10 +265,12 @@ static UNKNOWN: [(&str, &str); 21] = [
     ("check --words 7 a.s", "--words"),
     ("picture a.trace a.elf --json", "--json"),
     ("replay a.trace a.elf --csv", "--csv"),
+    ("replay a.trace a.elf --latency", "--latency"),
     ("story a.trace a.elf --abi", "--abi"),
     ("stats a.trace a.elf --symbols a.elf", "--symbols"),
     ("debug a.elf --symbols a.elf", "--symbols"),
     ("dis a.elf --json", "--json"),
+    ("stats a.trace a.elf --decimal", "--decimal"),
 ];
 
 fn unknown(rt: &(impl Abort + AllocGlobal), most: usize) -> bool {
@@ -283,9 +285,9 @@ fn unknown(rt: &(impl Abort + AllocGlobal), most: usize) -> bool {
 }
 
 /// Command lines with one argument too many: the argument, and the usage.
-static ONE_TOO_MANY: [(&str, &str, &str); 5] = [
+static ONE_TOO_MANY: [(&str, &str, &str); 6] = [
     ("words a.hex b.hex", "b.hex", "words <FILE>"),
-    ("asm a.s a.elf b.elf", "b.elf", "asm <FILE> <OUT>"),
+    ("asm a.s a.elf b.elf", "b.elf", "asm [OPTIONS] <FILE> <OUT>"),
     ("run a.elf b.elf", "b.elf", "run [OPTIONS] <FILE>"),
     (
         "replay a.trace a.elf b.elf",
@@ -293,6 +295,7 @@ static ONE_TOO_MANY: [(&str, &str, &str); 5] = [
         "replay [OPTIONS] <TRACE> <FILE>",
     ),
     ("check a.s a.elf", "a.elf", "check [OPTIONS] <FILE>"),
+    ("trace a.trace a.elf", "a.elf", "trace <TRACE>"),
 ];
 
 fn one_too_many(rt: &(impl Abort + AllocGlobal), most: usize) -> bool {
@@ -307,7 +310,7 @@ fn one_too_many(rt: &(impl Abort + AllocGlobal), most: usize) -> bool {
 }
 
 /// Command lines that lack arguments: these, and the usage.
-static MISSING: [(&str, &str, &str); 12] = [
+static MISSING: [(&str, &str, &str); 14] = [
     ("words", "<FILE>", "words <FILE>"),
     ("asm a.s", "<OUT>", "asm <FILE> <OUT>"),
     ("run", "<FILE>", "run <FILE>"),
@@ -320,6 +323,8 @@ static MISSING: [(&str, &str, &str); 12] = [
     ("hunt", "<FILE>", "hunt <FILE>"),
     ("check", "<FILE>", "check <FILE>"),
     ("picture a.trace", "<FILE>", "picture <TRACE> <FILE>"),
+    ("trace", "<TRACE>", "trace <TRACE>"),
+    ("steps a.steps", "<OUT>", "steps <FILE> <OUT>"),
 ];
 
 fn missing(rt: &(impl Abort + AllocGlobal), most: usize) -> bool {

@@ -2,25 +2,27 @@
 
 /// Ways to ask for `replay` and `stats`.
 pub const TAKEN: &str = r#"$ ultra replay a.trace a.elf
-Replay(Report { replay: Replay { trace: "a.trace", file: "a.elf", words: 1024 }, symbols: None, json: false })
+Replay(Report { replay: Replay { trace: "a.trace", file: "a.elf", words: 1024 }, style: LineStyle { symbols: None, decimal: false, json: false } })
 $ ultra replay --words 1 a.trace a.elf
-Replay(Report { replay: Replay { trace: "a.trace", file: "a.elf", words: 1 }, symbols: None, json: false })
+Replay(Report { replay: Replay { trace: "a.trace", file: "a.elf", words: 1 }, style: LineStyle { symbols: None, decimal: false, json: false } })
 $ ultra replay a.trace --words=262144 a.elf
-Replay(Report { replay: Replay { trace: "a.trace", file: "a.elf", words: 262144 }, symbols: None, json: false })
+Replay(Report { replay: Replay { trace: "a.trace", file: "a.elf", words: 262144 }, style: LineStyle { symbols: None, decimal: false, json: false } })
 $ ultra replay a.trace a.elf --words 64
-Replay(Report { replay: Replay { trace: "a.trace", file: "a.elf", words: 64 }, symbols: None, json: false })
+Replay(Report { replay: Replay { trace: "a.trace", file: "a.elf", words: 64 }, style: LineStyle { symbols: None, decimal: false, json: false } })
 $ ultra replay a.elf a.trace
-Replay(Report { replay: Replay { trace: "a.elf", file: "a.trace", words: 1024 }, symbols: None, json: false })
+Replay(Report { replay: Replay { trace: "a.elf", file: "a.trace", words: 1024 }, style: LineStyle { symbols: None, decimal: false, json: false } })
 $ ultra replay -- --words 1
-Replay(Report { replay: Replay { trace: "--words", file: "1", words: 1024 }, symbols: None, json: false })
+Replay(Report { replay: Replay { trace: "--words", file: "1", words: 1024 }, style: LineStyle { symbols: None, decimal: false, json: false } })
 $ ultra replay --symbols names.txt a.trace a.elf
-Replay(Report { replay: Replay { trace: "a.trace", file: "a.elf", words: 1024 }, symbols: Some("names.txt"), json: false })
+Replay(Report { replay: Replay { trace: "a.trace", file: "a.elf", words: 1024 }, style: LineStyle { symbols: Some("names.txt"), decimal: false, json: false } })
 $ ultra stats a.trace a.elf
-Stats(Counts { replay: Replay { trace: "a.trace", file: "a.elf", words: 1024 }, csv: false, json: false })
+Stats(Counts { replay: Replay { trace: "a.trace", file: "a.elf", words: 1024 }, latency: false, csv: false, json: false })
 $ ultra stats --words=8 a.trace --json a.elf
-Stats(Counts { replay: Replay { trace: "a.trace", file: "a.elf", words: 8 }, csv: false, json: true })
+Stats(Counts { replay: Replay { trace: "a.trace", file: "a.elf", words: 8 }, latency: false, csv: false, json: true })
 $ ultra stats a.trace a.elf --csv
-Stats(Counts { replay: Replay { trace: "a.trace", file: "a.elf", words: 1024 }, csv: true, json: false })
+Stats(Counts { replay: Replay { trace: "a.trace", file: "a.elf", words: 1024 }, latency: false, csv: true, json: false })
+$ ultra stats --latency a.trace a.elf --csv
+Stats(Counts { replay: Replay { trace: "a.trace", file: "a.elf", words: 1024 }, latency: true, csv: true, json: false })
 "#;
 
 /// Parts of the help.
@@ -37,6 +39,9 @@ DisplayHelp
 $ ultra stats --help
 DisplayHelp
 --csv             Print the counts as CSV, a row for each number;\
+$ ultra stats --help
+DisplayHelp
+--latency         Print how many rounds of the sweep references took:\
 $ ultra replay --help
 DisplayHelp
 `ultra: X1` TRACE is cut short\

@@ -2,11 +2,12 @@
 
 /// The settings of `run` without options.
 pub const PLAIN: &str =
-    "Run(Run { file: \"a.elf\", trace: None, sweep: false, no_log: false, unfinished: false, quiet: false, symbols: None, json: false, \
+    "Run(Run { file: \"a.elf\", trace: None, sweep: false, no_log: false, unfinished: false, quiet: false, \
+    style: LineStyle { symbols: None, decimal: false, json: false }, \
     sizes: Sizes { k: 2, c: 4, b: 4, r: 1, words: 1024 }, budget: 10000000, start: 1 })";
 
 /// Command lines that change one setting: the part of `PLAIN` that changes, and what replaces it.
-pub static CHANGED: [(&str, &str, &str); 29] = [
+pub static CHANGED: [(&str, &str, &str); 30] = [
     ("run --k 0 a.elf", "k: 2", "k: 0"),
     ("run a.elf --k 6", "k: 2", "k: 6"),
     ("run --k=3 a.elf", "k: 2", "k: 3"),
@@ -40,6 +41,7 @@ pub static CHANGED: [(&str, &str, &str); 29] = [
     ),
     ("run --quiet a.elf", "quiet: false", "quiet: true"),
     ("run --json a.elf", "json: false", "json: true"),
+    ("run a.elf --decimal", "decimal: false", "decimal: true"),
     (
         "run --symbols a.elf a.elf",
         "symbols: None",
@@ -73,28 +75,36 @@ pub static CHANGED: [(&str, &str, &str); 29] = [
 /// Further ways to ask for `run`.
 pub const TAKEN: &str = "\
 $ ultra run a.elf
-Run(Run { file: \"a.elf\", trace: None, sweep: false, no_log: false, unfinished: false, quiet: false, symbols: None, json: false, \
+Run(Run { file: \"a.elf\", trace: None, sweep: false, no_log: false, unfinished: false, quiet: false, \
+    style: LineStyle { symbols: None, decimal: false, json: false }, \
 sizes: Sizes { k: 2, c: 4, b: 4, r: 1, words: 1024 }, budget: 10000000, start: 1 })
 $ ultra run --r 1 a.elf
-Run(Run { file: \"a.elf\", trace: None, sweep: false, no_log: false, unfinished: false, quiet: false, symbols: None, json: false, \
+Run(Run { file: \"a.elf\", trace: None, sweep: false, no_log: false, unfinished: false, quiet: false, \
+    style: LineStyle { symbols: None, decimal: false, json: false }, \
 sizes: Sizes { k: 2, c: 4, b: 4, r: 1, words: 1024 }, budget: 10000000, start: 1 })
 $ ultra run a.elf --r=3 --c 3
-Run(Run { file: \"a.elf\", trace: None, sweep: false, no_log: false, unfinished: false, quiet: false, symbols: None, json: false, \
+Run(Run { file: \"a.elf\", trace: None, sweep: false, no_log: false, unfinished: false, quiet: false, \
+    style: LineStyle { symbols: None, decimal: false, json: false }, \
 sizes: Sizes { k: 2, c: 3, b: 4, r: 3, words: 1024 }, budget: 10000000, start: 1 })
 $ ultra run a.elf --quiet --sweep
-Run(Run { file: \"a.elf\", trace: None, sweep: true, no_log: false, unfinished: false, quiet: true, symbols: None, json: false, \
+Run(Run { file: \"a.elf\", trace: None, sweep: true, no_log: false, unfinished: false, quiet: true, \
+    style: LineStyle { symbols: None, decimal: false, json: false }, \
 sizes: Sizes { k: 2, c: 4, b: 4, r: 1, words: 1024 }, budget: 10000000, start: 1 })
 $ ultra run --no-log --sweep a.elf
-Run(Run { file: \"a.elf\", trace: None, sweep: true, no_log: true, unfinished: false, quiet: false, symbols: None, json: false, \
+Run(Run { file: \"a.elf\", trace: None, sweep: true, no_log: true, unfinished: false, quiet: false, \
+    style: LineStyle { symbols: None, decimal: false, json: false }, \
 sizes: Sizes { k: 2, c: 4, b: 4, r: 1, words: 1024 }, budget: 10000000, start: 1 })
 $ ultra run --k 3 -- --a
-Run(Run { file: \"--a\", trace: None, sweep: false, no_log: false, unfinished: false, quiet: false, symbols: None, json: false, \
+Run(Run { file: \"--a\", trace: None, sweep: false, no_log: false, unfinished: false, quiet: false, \
+    style: LineStyle { symbols: None, decimal: false, json: false }, \
 sizes: Sizes { k: 3, c: 4, b: 4, r: 1, words: 1024 }, budget: 10000000, start: 1 })
 $ ultra run --k 1 --c 2 --b 3 --r 2 a.elf --words 4 --budget 5 --start 6 --sweep --trace 7
-Run(Run { file: \"a.elf\", trace: Some(\"7\"), sweep: true, no_log: false, unfinished: false, quiet: false, symbols: None, json: false, \
+Run(Run { file: \"a.elf\", trace: Some(\"7\"), sweep: true, no_log: false, unfinished: false, quiet: false, \
+    style: LineStyle { symbols: None, decimal: false, json: false }, \
 sizes: Sizes { k: 1, c: 2, b: 3, r: 2, words: 4 }, budget: 5, start: 6 })
 $ ultra run --trace 7 --start 6 --budget 5 --words 4 --r 2 --b 3 --c 2 --k 1 --sweep a.elf
-Run(Run { file: \"a.elf\", trace: Some(\"7\"), sweep: true, no_log: false, unfinished: false, quiet: false, symbols: None, json: false, \
+Run(Run { file: \"a.elf\", trace: Some(\"7\"), sweep: true, no_log: false, unfinished: false, quiet: false, \
+    style: LineStyle { symbols: None, decimal: false, json: false }, \
 sizes: Sizes { k: 1, c: 2, b: 3, r: 2, words: 4 }, budget: 5, start: 6 })
 ";
 

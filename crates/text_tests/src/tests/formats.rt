@@ -73,10 +73,46 @@ fn other_lines_have_objects(rt: HostRuntime) -> Result<(), Fail> {
         "module 3 serves 9 1x5 4x1",
         object,
     )?;
+    let line = "latency word 3 references 2 least 1 mean 1.50 greatest 2 rounds 1x1 2x1";
+    let object =
+        r#"{"kind":"latency","word":3,"references":2,"least":1,"mean":1.50,"greatest":2,"rounds":[[1,1],[2,1]]}"#;
+    has_object(&rt, alloc, shapes::counts(), line, object)?;
     let line = r#"line 2 column 7: A2 \x22"": a "word" is wanted"#;
     let object =
         r#"{"kind":"fault","line":2,"column":7,"code":"A2","word":"\\x22\"\"","advice":"a \"word\" is wanted"}"#;
     has_object(&rt, alloc, shapes::mistakes(), line, object)
+}
+
+/// A round and steps of a story with functions and values: a request, a combination, a service, and replies that are
+/// split.
+#[test]
+fn steps_with_values_have_objects(rt: HostRuntime) -> Result<(), Fail> {
+    for (line, object) in [
+        ("round 12", r#"{"kind":"round","round":12}"#),
+        (
+            "9 turn 0: sends and ffffff00 xor 00000005 to word 12",
+            r#"{"kind":"step","number":9,"step":"turn","processor":0,"outcome":"sends","function":"and ffffff00 xor 00000005","word":12}"#,
+        ),
+        (
+            "8 up 1 2: 1 joins 0 at stage 1: load goes on, load is kept",
+            r#"{"kind":"step","number":8,"step":"up","stage":1,"wire":2,"outcome":"joins","second":1,"leader":0,"at_stage":1,"goes_on":"load","kept":"load"}"#,
+        ),
+        (
+            "19 serve 0: serves 2: 0 1: word 4 0000000a to 00000019",
+            r#"{"kind":"step","number":19,"step":"serve","module":0,"outcome":"serves","served":2,"processors":[0,1],"word":4,"before":10,"after":25}"#,
+        ),
+        (
+            "20 down 1 0: answers 1 3 at stage 1: 0000000f ffffffff",
+            r#"{"kind":"step","number":20,"step":"down","stage":1,"wire":0,"outcome":"answers","leaders":[1,3],"at_stage":1,"values":[15,4294967295]}"#,
+        ),
+        (
+            "20 down 1 0: answers 1 at stage 1: 000000",
+            r#"{"kind":"text","text":"20 down 1 0: answers 1 at stage 1: 000000"}"#,
+        ),
+    ] {
+        has_object(&rt, rt.alloc(), shapes::story(), line, object)?;
+    }
+    Ok(())
 }
 
 /// Lines of `dis`: an instruction, a word that is none, and one with a comment.
@@ -136,6 +172,7 @@ fn has_names<R: Abort>(
         shapes,
         places: Some(TwoNames),
         disassembly,
+        decimal: false,
     };
     let text = format!(in alloc; "{named}\n")?;
     passes_on(rt, alloc, format, line, text.as_str())
@@ -173,6 +210,7 @@ fn lines_have_no_names_without_a_table(rt: HostRuntime) -> Result<(), Fail> {
         shapes: shapes::report(),
         places,
         disassembly: false,
+        decimal: false,
     };
     passes_on(
         &rt,
@@ -246,6 +284,53 @@ fn instructions_of_other_lines_have_names(rt: HostRuntime) -> Result<(), Fail> {
     has_names(&rt, alloc, shapes::story(), true, line, named)
 }
 
+/// Values are in decimal, in two's complement: in a word, in a function, and in a list. Addresses, instructions, bytes
+/// and words of other lengths stay as they are.
+#[test]
+fn values_in_decimal(rt: HostRuntime) -> Result<(), Fail> {
+    for (shapes, line, decimal) in [
+        (shapes::report(), "word 3 0000002a", "word 3 42"),
+        (shapes::results(), "word 3 ffffffff", "word 3 -1"),
+        (
+            shapes::order(),
+            "5 1 00010004 amoadd.w x8, x7, (x5) = 7fffffff word 0 80000000 00000107",
+            "5 1 00010004 amoadd.w x8, x7, (x5) = 2147483647 word 0 -2147483648 263",
+        ),
+        (shapes::order(), "3 0 poke x5 00010000", "3 0 poke x5 65536"),
+        (
+            shapes::story(),
+            "9 turn 0: sends max fffffffe min 00000003 to word 12",
+            "9 turn 0: sends max -2 min 3 to word 12",
+        ),
+        (
+            shapes::story(),
+            "18 up 1 2: 1 joins 0 at stage 1: add 0000000f goes on, load is kept",
+            "18 up 1 2: 1 joins 0 at stage 1: add 15 goes on, load is kept",
+        ),
+        (
+            shapes::story(),
+            "20 down 1 0: answers 1 3 at stage 1: 0000000f ffffffff",
+            "20 down 1 0: answers 1 3 at stage 1: 15 -1",
+        ),
+        (
+            shapes::story(),
+            "0 poke - 80000000 0a: writes",
+            "0 poke - 80000000 0a: writes",
+        ),
+        (shapes::story(), "word 3 0000002a", "word 3 0000002a"),
+    ] {
+        let format: Names<'_, TwoNames> = Names {
+            shapes,
+            places: None,
+            disassembly: false,
+            decimal: true,
+        };
+        let text = format!(in rt.alloc(); "{decimal}\n")?;
+        passes_on(&rt, rt.alloc(), format, line, text.as_str())?;
+    }
+    Ok(())
+}
+
 /// Whether these rows are passed on for a line.
 fn has_rows<R: Abort>(
     rt: &R,
@@ -284,6 +369,20 @@ stage,0,records,1\nstage,0,replies,1\n",
             "processor 0 turns 806 retired 605",
             "processor,0,turns,806\nprocessor,0,retired,605\n",
         ),
+        (
+            "latency all references 4 least 1 mean 1.25 greatest 2 rounds 1x3 2x1",
+            "latency,,references,4\nlatency,,least,1\nlatency,,mean,1.25\nlatency,,greatest,2
+latency,,rounds of 1,3\nlatency,,rounds of 2,1\n",
+        ),
+        (
+            "latency processor 0 references 200 least 11 mean 11.50 greatest 17 rounds 8x150 16x50",
+            "processor,0,references,200\nprocessor,0,least,11\nprocessor,0,mean,11.50\nprocessor,0,greatest,17
+processor,0,rounds of 8,150\nprocessor,0,rounds of 16,50\n",
+        ),
+        (
+            "latency word 3 references 1 least 1 mean 1.00 greatest 1 rounds 1x1",
+            "word,3,references,1\nword,3,least,1\nword,3,mean,1.00\nword,3,greatest,1\nword,3,rounds of 1,1\n",
+        ),
         ("word 3 0000002a", ""),
     ] {
         has_rows(&rt, rt.alloc(), shapes::counts(), line, rows)?;
@@ -314,6 +413,7 @@ fn symbols_are_names(rt: HostRuntime) -> Result<(), Fail> {
         shapes: shapes::order(),
         places: Some(places),
         disassembly: true,
+        decimal: false,
     };
     let line = "5 1 00010010 beq x5, x6, -8 word 0 00000100 00000107";
     let named =

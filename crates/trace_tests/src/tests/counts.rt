@@ -75,7 +75,7 @@ fn names_the_size(rt: HostRuntime) -> Result<(), Fail> {
 }
 
 /// Each processor adds 1 to word 0 and then reads it, a hundred times.
-const HOT_SPOT: &str = "
+pub(super) const HOT_SPOT: &str = "
 start: lui s2, 0x80000
  addi s3, x0, 100
  addi s5, x0, 1
@@ -91,10 +91,10 @@ again: amoadd.w t0, s5, (s2)
 bad: ebreak
 ";
 
-/// The trace of a run of the hot spot by the sweep, on eight processors.
-fn hot_spot(alloc: Global, image: &[u8], b: u8) -> Result<Vec<u8>, Fail> {
+/// The trace of a run by the sweep, on `2^k` processors.
+pub(super) fn sweep(alloc: Global, image: &[u8], k: u8, b: u8) -> Result<Vec<u8>, Fail> {
     let config = Config {
-        k: 3,
+        k,
         c: 4,
         b,
         r: 1,
@@ -151,7 +151,7 @@ module 1 serves 0
 ",
         ),
     ] {
-        let trace = hot_spot(alloc, image.as_slice(), b)?;
+        let trace = sweep(alloc, image.as_slice(), 3, b)?;
         let ran = run(
             alloc,
             Asked::Stats,

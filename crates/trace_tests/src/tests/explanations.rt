@@ -28,7 +28,7 @@ fn run(alloc: Global, words: &[&str]) -> Ran {
 
 /// The names in the order of the list: the codes and ends of commands and libraries, the faults of a processor, the
 /// errors of the debugger, and the pages.
-static NAMES: [&str; 50] = [
+static NAMES: [&str; 55] = [
     "V1",
     "A1",
     "A2",
@@ -37,6 +37,11 @@ static NAMES: [&str; 50] = [
     "A5",
     "A6",
     "A7",
+    "S1",
+    "S2",
+    "S3",
+    "S4",
+    "S5",
     "I1",
     "I2",
     "I3",

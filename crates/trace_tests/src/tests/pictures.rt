@@ -2,6 +2,7 @@
 //! reported if no picture is drawn.
 
 mod ends;
+mod summaries;
 mod travelling;
 
 use super::same;
@@ -9,6 +10,7 @@ use link::Meter;
 use machine_picture::Svg;
 use std::alloc::Global;
 use std::io;
+use std::test::Fail;
 use test_support::metered;
 use trace_commands::{Picture, trace_command};
 
@@ -45,4 +47,18 @@ fn run(
         out: out.device,
         err,
     }
+}
+
+/// The texts of a class in the order of the picture, with `|` between them: the columns from the left, and each column
+/// from the top.
+fn texts_of(alloc: Global, picture: &str, class: &str) -> Result<String, Fail> {
+    let mut texts = String::new(alloc);
+    let begin = format!(in alloc; "class='{class}'>")?;
+    for part in picture.split(begin.as_str()).skip(1) {
+        if !texts.is_empty() {
+            texts.push('|')?;
+        }
+        texts.push_str(part.split('<').next().unwrap_or(""))?;
+    }
+    Ok(texts)
 }

@@ -2,6 +2,7 @@
 
 use super::{ALL, Asked, run};
 use std::alloc::{AllocError, Global};
+use std::fmt::Write;
 use std::test::Fail;
 use test_support::{ADD_AT_X12, FOUR_ADDS, assert_same, image_of, trace_of};
 use trace_lines::Choice;
@@ -16,23 +17,23 @@ const GOING_UP: &str = "0 poke 0 x11 00000001: writes
 6 poke 2 x12 80000000: writes
 7 poke 3 x12 80000000: writes
 8 poke - 80000000 0a: writes
-9 turn 0: sends
-10 turn 1: sends
-11 turn 2: sends
-12 turn 3: sends
+9 turn 0: sends add 00000001 to word 0
+10 turn 1: sends add 00000002 to word 0
+11 turn 2: sends add 00000004 to word 0
+12 turn 3: sends add 00000008 to word 0
 13 up 0 0: moves to depth 1
-14 up 0 2: 2 joins 0 at stage 0
+14 up 0 2: 2 joins 0 at stage 0: add 00000005 goes on, add 00000001 is kept
 15 up 0 1: moves to depth 1
-16 up 0 3: 3 joins 1 at stage 0
+16 up 0 3: 3 joins 1 at stage 0: add 0000000a goes on, add 00000002 is kept
 17 up 1 0: moves to depth 2
-18 up 1 2: 1 joins 0 at stage 1
-19 serve 0: serves 4: 0 2 1 3
+18 up 1 2: 1 joins 0 at stage 1: add 0000000f goes on, add 00000005 is kept
+19 serve 0: serves 4: 0 2 1 3: word 0 0000000a to 00000019
 ";
 
 /// After the service the trace answers all processors, and then takes all turns.
-const BY_THE_TRACE: &str = "20 down 1 0: answers 1 at stage 1
-21 down 0 0: answers 2 at stage 0
-22 down 0 2: answers 3 at stage 0
+const BY_THE_TRACE: &str = "20 down 1 0: answers 1 at stage 1: 0000000f
+21 down 0 0: answers 2 at stage 0: 0000000b
+22 down 0 2: answers 3 at stage 0: 00000011
 23 turn 0: retires amoadd.w x10, x11, (x12) = 0000000a
 24 turn 1: retires amoadd.w x10, x11, (x12) = 0000000f
 25 turn 2: retires amoadd.w x10, x11, (x12) = 0000000b
@@ -40,11 +41,11 @@ const BY_THE_TRACE: &str = "20 down 1 0: answers 1 at stage 1
 ";
 
 /// In a drain a processor takes its reply as soon as it has come.
-const BY_A_DRAIN: &str = "20 down 1 0: answers 1 at stage 1
-21 down 0 0: answers 2 at stage 0
+const BY_A_DRAIN: &str = "20 down 1 0: answers 1 at stage 1: 0000000f
+21 down 0 0: answers 2 at stage 0: 0000000b
 22 turn 0: retires amoadd.w x10, x11, (x12) = 0000000a
 23 turn 2: retires amoadd.w x10, x11, (x12) = 0000000b
-24 down 0 2: answers 3 at stage 0
+24 down 0 2: answers 3 at stage 0: 00000011
 25 turn 1: retires amoadd.w x10, x11, (x12) = 0000000f
 26 turn 3: retires amoadd.w x10, x11, (x12) = 00000011
 ";
@@ -143,6 +144,87 @@ fn lines_of(alloc: Global, numbers: &[usize]) -> Result<String, AllocError> {
         }
     }
     Ok(lines)
+}
+
+/// Choices of a processor and of a first line, and what is printed with the rounds of the sweep: the numbers of lines,
+/// each after that of the round that is marked before it, or 0 if none is. In each round come the turns by processor,
+/// then the moves of requests, at the last stage first, then the services, then the moves of replies, at the first stage
+/// first, and at each stage by wire.
+static MARKED: [((Option<u8>, Option<u32>), &[(usize, usize)]); 3] = [
+    (
+        (None, None),
+        &[
+            (0, 0),
+            (0, 1),
+            (0, 2),
+            (0, 3),
+            (0, 4),
+            (0, 5),
+            (0, 6),
+            (0, 7),
+            (0, 8),
+            (1, 9),
+            (0, 10),
+            (0, 11),
+            (0, 12),
+            (0, 13),
+            (0, 14),
+            (2, 15),
+            (0, 16),
+            (3, 17),
+            (0, 18),
+            (0, 19),
+            (0, 20),
+            (4, 21),
+            (0, 22),
+            (5, 23),
+            (0, 24),
+            (0, 25),
+            (0, 26),
+        ],
+    ),
+    (
+        (Some(3), None),
+        &[
+            (0, 3),
+            (0, 7),
+            (1, 12),
+            (2, 16),
+            (3, 18),
+            (0, 19),
+            (0, 20),
+            (4, 22),
+            (5, 26),
+        ],
+    ),
+    ((None, Some(25)), &[(5, 25), (0, 26)]),
+];
+
+#[test]
+fn marked_rounds(rt: HostRuntime) -> Result<(), Fail> {
+    let alloc = rt.alloc();
+    let image = image_of(alloc, ADD_AT_X12)?;
+    let trace = trace_of(alloc, (2, 4, 4), &FOUR_ADDS)?;
+    for ((processor, from), marked) in MARKED {
+        let choice = Choice {
+            processor,
+            word: None,
+            from,
+            to: None,
+        };
+        let asked = Asked::Rounds(choice);
+        let ran = run(alloc, asked, trace.as_slice(), Ok(image.as_slice()), 1);
+        let mut lines = String::new(alloc);
+        for (round, number) in marked {
+            if *round > 0 {
+                write!(lines, "round {round}\n")?;
+            }
+            lines.push_str(lines_of(alloc, &[*number])?.as_str())?;
+        }
+        assert_same!(rt; str::from_utf8(ran.out.as_slice())?, lines.as_str(), choice);
+        assert_same!(rt; ran.status, 0, choice);
+    }
+    Ok(())
 }
 
 /// A byte to the console, and a fault.

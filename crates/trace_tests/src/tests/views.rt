@@ -2,8 +2,8 @@
 //! a request has to be the one that the steps reported.
 
 use flat_machine::{Config, Poke, Status};
-use machine_picture::{MachineView, ProcessorView, SharedWord, view_of};
 use machine_steps::Machine;
+use machine_views::{MachineView, ProcessorView, SharedWord, view_of};
 use messages::{Record, Reply, Request};
 use std::alloc::Global;
 use std::fmt::Write;

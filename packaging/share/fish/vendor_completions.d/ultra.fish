@@ -51,6 +51,8 @@ complete -c ultra -n __ultra_wants_command -a order -d 'Print the serial order o
 complete -c ultra -n __ultra_wants_command -a story -d 'Print what the machine did in each step of a trace'
 complete -c ultra -n __ultra_wants_command -a stats -d 'Count what the switches, the modules and the processors did in the steps of a trace'
 complete -c ultra -n __ultra_wants_command -a picture -d 'Draw the machine after some steps of a trace, as an SVG'
+complete -c ultra -n __ultra_wants_command -a trace -d 'Print a trace as a text, which can be edited and made a trace again by `ultra steps`'
+complete -c ultra -n __ultra_wants_command -a steps -d 'Make a trace of a text of steps, which may be written by hand'
 complete -c ultra -n __ultra_wants_command -a debug -d 'Wait for a debugger on 127.0.0.1, and serve its commands on a machine that opens on an image'
 complete -c ultra -n __ultra_wants_command -a explain -d 'Explain what a code that ultra prints means, what usually causes it and what to do'
 complete -c ultra -n __ultra_wants_command -a help -d 'Print the help of the program or of a command'
@@ -60,12 +62,15 @@ complete -c ultra -n __ultra_wants_command -s V -l version -d 'Print version'
 complete -c ultra -n '__ultra_has_command words' -l help -d 'Print help'
 complete -c ultra -n '__ultra_wants_more words 1' -F
 
+complete -c ultra -n '__ultra_has_command check' -l course -d 'Take the pseudo-instructions, forms and directives of RISC-V textbooks, as `li a0, 5`'
 complete -c ultra -n '__ultra_has_command check' -l json -d 'Print each line as a JSON object'
 complete -c ultra -n '__ultra_has_command check' -l help -d 'Print help'
 complete -c ultra -n '__ultra_wants_more check 1' -F
 
+complete -c ultra -n '__ultra_has_command asm' -l course -d 'Take the pseudo-instructions, forms and directives of RISC-V textbooks, as `li a0, 5`'
+complete -c ultra -n '__ultra_has_command asm' -l symbols -r -F -d 'Write the addresses of the labels to MAP, as `nm` prints them, for --symbols of other commands'
 complete -c ultra -n '__ultra_has_command asm' -l help -d 'Print help'
-complete -c ultra -n '__ultra_wants_more asm 2' -F
+complete -c ultra -n '__ultra_wants_more asm 2 --symbols' -F
 
 complete -c ultra -n '__ultra_has_command dis' -l comments -d 'Write the name of an instruction that the machine does not have after its word, as `# lr.w`'
 complete -c ultra -n '__ultra_has_command dis' -l symbols -r -F -d 'Print names beside addresses, from the symbol table of an ELF file or from what `nm` prints'
@@ -80,6 +85,7 @@ complete -c ultra -n '__ultra_has_command run' -l no-log -d 'With --sweep, keep 
 complete -c ultra -n '__ultra_has_command run' -l unfinished -d 'Print the report, and write the trace, even if the budget ends the run'
 complete -c ultra -n '__ultra_has_command run' -l quiet -d 'Show no progress line on a terminal'
 complete -c ultra -n '__ultra_has_command run' -l symbols -r -F -d 'Print names beside addresses and words, from the symbol table of an ELF file or from what `nm` prints; not with --json'
+complete -c ultra -n '__ultra_has_command run' -l decimal -d 'Print values in decimal, in two\'s complement; not with --json'
 complete -c ultra -n '__ultra_has_command run' -l json -d 'Print each line as a JSON object'
 complete -c ultra -n '__ultra_has_command run' -l k -x -a '0 1 2 3 4 5 6' -d 'Stages of the network, 0 to 6; the machine has 2^k processors and 2^k memory modules [default: 2]'
 complete -c ultra -n '__ultra_has_command run' -l c -x -a '2 3 4 5 6 7 8 9 10 11 12 13 14 15 16' -d 'Messages that a queue of a switch holds, 2 to 16 [default: 4]'
@@ -97,6 +103,7 @@ complete -c ultra -n '__ultra_has_command hunt' -l overwrite -d 'Overwrite trace
 complete -c ultra -n '__ultra_has_command hunt' -l expect-one -d 'Expect all runs to come to one result; if they do not, the exit status says so'
 complete -c ultra -n '__ultra_has_command hunt' -l quiet -d 'Show no progress line on a terminal'
 complete -c ultra -n '__ultra_has_command hunt' -l symbols -r -F -d 'Print names beside addresses and words, from the symbol table of an ELF file or from what `nm` prints; not with --json'
+complete -c ultra -n '__ultra_has_command hunt' -l decimal -d 'Print values in decimal, in two\'s complement; not with --json'
 complete -c ultra -n '__ultra_has_command hunt' -l json -d 'Print each line as a JSON object'
 complete -c ultra -n '__ultra_has_command hunt' -l k -x -a '0 1 2 3 4 5 6' -d 'Stages of the network, 0 to 6; the machine has 2^k processors and 2^k memory modules [default: 2]'
 complete -c ultra -n '__ultra_has_command hunt' -l c -x -a '2 3 4 5 6 7 8 9 10 11 12 13 14 15 16' -d 'Messages that a queue of a switch holds, 2 to 16 [default: 4]'
@@ -111,10 +118,16 @@ complete -c ultra -n '__ultra_wants_more hunt 1 --trace --observe --symbols --k 
 
 complete -c ultra -n '__ultra_has_command explore' -l trace -r -F -d 'Where to write the steps to the result that --witness names, for `ultra replay`; opened after they are found'
 complete -c ultra -n '__ultra_has_command explore' -l observe -x -d 'Words by which results differ, as `0-3,8`; they are printed without others [default: all]'
+complete -c ultra -n '__ultra_has_command explore' -l against -r -F -d 'Print only the results that the image SPEC does not have; not with --every or --witness'
+complete -c ultra -n '__ultra_has_command explore' -l never -r -F -d 'Print instead whether no state between references satisfies the condition, as `at 0x10010-0x10020 > 1`'
+complete -c ultra -n '__ultra_has_command explore' -l always -r -F -d 'Print instead whether each state does'
+complete -c ultra -n '__ultra_has_command explore' -l finally -r -F -d 'Print instead whether each state does in which no processor runs'
 complete -c ultra -n '__ultra_has_command explore' -l each -d 'Print every result by itself; alike processors are not exchanged'
+complete -c ultra -n '__ultra_has_command explore' -l fair -d 'Also tell whether every fair schedule ends; alike processors are not exchanged'
 complete -c ultra -n '__ultra_has_command explore' -l every -d 'Explore every k from 0 to 6, and print a line for each; not with --witness'
 complete -c ultra -n '__ultra_has_command explore' -l quiet -d 'Show no progress line on a terminal'
 complete -c ultra -n '__ultra_has_command explore' -l symbols -r -F -d 'Print names beside addresses and words, from the symbol table of an ELF file or from what `nm` prints; not with --json'
+complete -c ultra -n '__ultra_has_command explore' -l decimal -d 'Print values in decimal, in two\'s complement; not with --json'
 complete -c ultra -n '__ultra_has_command explore' -l json -d 'Print each line as a JSON object'
 complete -c ultra -n '__ultra_has_command explore' -l k -x -a '0 1 2 3 4 5 6' -d 'Stages of the network, 0 to 6; the machine has 2^k processors and 2^k memory modules [default: 2]'
 complete -c ultra -n '__ultra_has_command explore' -l c -x -a '2 3 4 5 6 7 8 9 10 11 12 13 14 15 16' -d 'Messages that a queue of a switch holds, 2 to 16 [default: 4]'
@@ -124,10 +137,11 @@ complete -c ultra -n '__ultra_has_command explore' -l words -x -d 'Shared words 
 complete -c ultra -n '__ultra_has_command explore' -l states -x -d 'Give up when this many states are found, 1 to 4294967295 [default: 1000000]'
 complete -c ultra -n '__ultra_has_command explore' -l witness -x -d 'Write the trace of a path to the result of this number, or with 0 to the first state without a path to an end; goes with --trace'
 complete -c ultra -n '__ultra_has_command explore' -l help -d 'Print help'
-complete -c ultra -n '__ultra_wants_more explore 1 --trace --observe --symbols --k --c --b --r --words --states --witness' -F
+complete -c ultra -n '__ultra_wants_more explore 1 --trace --observe --against --never --always --finally --symbols --k --c --b --r --words --states --witness' -F
 
 complete -c ultra -n '__ultra_has_command replay' -l words -x -d 'Shared words of four bytes that the machine has, 1 to 262144 [default: 1024]'
 complete -c ultra -n '__ultra_has_command replay' -l symbols -r -F -d 'Print names beside addresses and words, from the symbol table of an ELF file or from what `nm` prints; not with --json'
+complete -c ultra -n '__ultra_has_command replay' -l decimal -d 'Print values in decimal, in two\'s complement; not with --json'
 complete -c ultra -n '__ultra_has_command replay' -l json -d 'Print each line as a JSON object'
 complete -c ultra -n '__ultra_has_command replay' -l help -d 'Print help'
 complete -c ultra -n '__ultra_wants_more replay 2 --words --symbols' -F
@@ -139,6 +153,7 @@ complete -c ultra -n '__ultra_has_command order' -l from -x -d 'Print no line be
 complete -c ultra -n '__ultra_has_command order' -l to -x -d 'Print no line after the line of this number, 0 to 4294967295'
 complete -c ultra -n '__ultra_has_command order' -l symbols -r -F -d 'Print names beside addresses and words, from the symbol table of an ELF file or from what `nm` prints; not with --json'
 complete -c ultra -n '__ultra_has_command order' -l abi -d 'Write registers by their ABI names, and the target of a jump or branch as an address; not with --json'
+complete -c ultra -n '__ultra_has_command order' -l decimal -d 'Print values in decimal, in two\'s complement; not with --json'
 complete -c ultra -n '__ultra_has_command order' -l json -d 'Print each line as a JSON object'
 complete -c ultra -n '__ultra_has_command order' -l help -d 'Print help'
 complete -c ultra -n '__ultra_wants_more order 2 --words --processor --word --from --to --symbols' -F
@@ -149,11 +164,14 @@ complete -c ultra -n '__ultra_has_command story' -l word -x -d 'Print the lines 
 complete -c ultra -n '__ultra_has_command story' -l from -x -d 'Print no line before the line of this number, 0 to 4294967295'
 complete -c ultra -n '__ultra_has_command story' -l to -x -d 'Print no line after the line of this number, 0 to 4294967295'
 complete -c ultra -n '__ultra_has_command story' -l symbols -r -F -d 'Print names beside addresses and words, from the symbol table of an ELF file or from what `nm` prints; not with --json'
+complete -c ultra -n '__ultra_has_command story' -l rounds -d 'Print `round N` before the first printed step of each round of the sweep'
+complete -c ultra -n '__ultra_has_command story' -l decimal -d 'Print values in decimal, in two\'s complement; not with --json'
 complete -c ultra -n '__ultra_has_command story' -l json -d 'Print each line as a JSON object'
 complete -c ultra -n '__ultra_has_command story' -l help -d 'Print help'
 complete -c ultra -n '__ultra_wants_more story 2 --words --processor --word --from --to --symbols' -F
 
 complete -c ultra -n '__ultra_has_command stats' -l words -x -d 'Shared words of four bytes that the machine has, 1 to 262144 [default: 1024]'
+complete -c ultra -n '__ultra_has_command stats' -l latency -d 'Print how many rounds of the sweep references took: all, each processor\'s, and those to each word'
 complete -c ultra -n '__ultra_has_command stats' -l csv -d 'Print the counts as CSV, a row for each number; not with --json'
 complete -c ultra -n '__ultra_has_command stats' -l json -d 'Print each line as a JSON object'
 complete -c ultra -n '__ultra_has_command stats' -l help -d 'Print help'
@@ -163,6 +181,12 @@ complete -c ultra -n '__ultra_has_command picture' -l words -x -d 'Shared words 
 complete -c ultra -n '__ultra_has_command picture' -l step -x -d 'Draw the machine after this many steps, 0 to 4294967295 [default: after all]'
 complete -c ultra -n '__ultra_has_command picture' -l help -d 'Print help'
 complete -c ultra -n '__ultra_wants_more picture 2 --words --step' -F
+
+complete -c ultra -n '__ultra_has_command trace' -l help -d 'Print help'
+complete -c ultra -n '__ultra_wants_more trace 1' -F
+
+complete -c ultra -n '__ultra_has_command steps' -l help -d 'Print help'
+complete -c ultra -n '__ultra_wants_more steps 2' -F
 
 complete -c ultra -n '__ultra_has_command debug' -l trace -r -F -d 'Where to write the steps of the session, for `ultra replay`; opened after the session is over'
 complete -c ultra -n '__ultra_has_command debug' -l stdio -d 'Serve the session over standard input and output; no port is opened'
@@ -185,6 +209,11 @@ complete -c ultra -n '__ultra_wants_more explain 1' -a A4 -d 'a label is defined
 complete -c ultra -n '__ultra_wants_more explain 1' -a A5 -d 'a label is used that is not defined'
 complete -c ultra -n '__ultra_wants_more explain 1' -a A6 -d 'a section has no room for a statement'
 complete -c ultra -n '__ultra_wants_more explain 1' -a A7 -d 'out of memory for the program of a text, reported as `memory`'
+complete -c ultra -n '__ultra_wants_more explain 1' -a S1 -d 'a text of steps does not begin with the sizes of a machine'
+complete -c ultra -n '__ultra_wants_more explain 1' -a S2 -d 'a line of a text of steps is no step'
+complete -c ultra -n '__ultra_wants_more explain 1' -a S3 -d 'a number of a step is out of its range'
+complete -c ultra -n '__ultra_wants_more explain 1' -a S4 -d 'a text has more than 4,194,304 steps'
+complete -c ultra -n '__ultra_wants_more explain 1' -a S5 -d 'a text of steps has more than 256 MiB'
 complete -c ultra -n '__ultra_wants_more explain 1' -a I1 -d 'an image ends before its header or its table of segments does'
 complete -c ultra -n '__ultra_wants_more explain 1' -a I2 -d 'an image is no ELF32 executable for RISC-V'
 complete -c ultra -n '__ultra_wants_more explain 1' -a I3 -d 'the header of an image asks for something that this machine does not have'
@@ -240,6 +269,8 @@ complete -c ultra -n '__ultra_wants_more help 1' -a order -d 'Print the serial o
 complete -c ultra -n '__ultra_wants_more help 1' -a story -d 'Print what the machine did in each step of a trace'
 complete -c ultra -n '__ultra_wants_more help 1' -a stats -d 'Count what the switches, the modules and the processors did in the steps of a trace'
 complete -c ultra -n '__ultra_wants_more help 1' -a picture -d 'Draw the machine after some steps of a trace, as an SVG'
+complete -c ultra -n '__ultra_wants_more help 1' -a trace -d 'Print a trace as a text, which can be edited and made a trace again by `ultra steps`'
+complete -c ultra -n '__ultra_wants_more help 1' -a steps -d 'Make a trace of a text of steps, which may be written by hand'
 complete -c ultra -n '__ultra_wants_more help 1' -a debug -d 'Wait for a debugger on 127.0.0.1, and serve its commands on a machine that opens on an image'
 complete -c ultra -n '__ultra_wants_more help 1' -a explain -d 'Explain what a code that ultra prints means, what usually causes it and what to do'
 complete -c ultra -n '__ultra_wants_more help 1' -a help -d 'Print the help of the program or of a command'

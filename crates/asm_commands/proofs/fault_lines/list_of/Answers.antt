@@ -1,7 +1,7 @@
 use Rattle.std.proofs.Common.{[], arith}
 use Rattle.std.specs.Prelude.{string_bytes}
 use Rattle.assembler.specs.declared.fault.AsmFault.TheVariants.{UnknownWord}
-use Rattle.line_faults.specs.declared.hint.Hint.TheVariants.{NoWord}
+use Rattle.line_faults.specs.word_faults.declared.hint.Hint.TheVariants.{NoWord}
 use Rattle.asm_commands.specs.declared.text_fault.TextFault.{TextFault}
 use Rattle.asm_commands.proofs.FaultLines.{more_printed, all_printed}
 use Rattle.asm_commands.proofs.fault_lines.list_of.Goals as goal

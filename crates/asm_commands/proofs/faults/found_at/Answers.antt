@@ -1,5 +1,5 @@
 use Rattle.line_faults.specs.Places.{label_values, place_of}
-use Rattle.line_faults.specs.Views.{spot_span}
+use Rattle.line_faults.specs.word_faults.Views.{spot_span}
 use Rattle.asm_commands.proofs.Found.{at_of, named_of}
 use Rattle.asm_commands.proofs.faults.found_at.Goals as goal
 

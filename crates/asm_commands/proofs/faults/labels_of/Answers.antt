@@ -1,15 +1,6 @@
-use Rattle.std.proofs.Common.{arith, ap, Bor, List, [], ℕ}
+use Rattle.std.proofs.Common.{ap}
 use Rattle.assembler.specs.Meaning.{Place}
-use Rattle.asm_commands.proofs.Found.{passed_more, passed_all}
 use Rattle.asm_commands.proofs.faults.labels_of.Goals as goal
 
-nothing : Bor (List ℕ)
-nothing = record { ref_ptr = (0, 0); now = [] }
-
-pub loop-at-preserved : goal.loop-at-preserved
-unfolding nothing
-loop-at-preserved c =
-    passed_more c.args.lines.now c.loop-at.at nothing c.loop-at.cursor c.pass_line.new.cursor (omega arith) c.loop-at.invariant c.in_ok-pass_line.ensures
-
 pub returns : goal.returns
-returns c = ap (λ (p : Place). p.labels) (passed_all c.args.lines.now c.loop-at.at c.loop-at.cursor (omega arith) c.loop-at.invariant)
+returns c = ap (λ (p : Place). p.labels) c.in_ok-end.ensures

@@ -163,6 +163,7 @@ fn observed_results_are_come_to(rt: HostRuntime) -> Result<(), Fail> {
     let search = Asked {
         limit: 100,
         each: true,
+        fair: false,
         witness: 0,
         observed: Some(&words),
     };

@@ -1,7 +1,7 @@
 //! Reads and writes that fail, at each call in turn.
 
 ghost use Rattle.std.specs.Prelude.{◌≡◌, false};
-ghost use Rattle.trace_commands.specs.TraceReports.{IsWorking};
+ghost use Rattle.trace_commands.specs.run_reports.RunReports.{IsWorking};
 
 use super::{AMPLE, Ran};
 use link::{Link, LinkWrite, Meter};

@@ -1,6 +1,6 @@
-use Rattle.std.proofs.Common.{◌≡◌, inl, true, false, ℕ, List, [], ◌∷◌, ◌++◌, length, sym, ap, subst, ◌∙◌, arith}
+use Rattle.std.proofs.Common.{◌≡◌, inl, ℕ, List, [], ◌∷◌, ◌++◌, sym, ap, subst, ◌∙◌, arith}
 use Rattle.local_reduction.specs.Results.{FinalResult, HaveStopped, result_at}
-use Rattle.state_search.specs.StateTables.{means}
+use Rattle.state_search.specs.state_store.StateTables.{means}
 use Rattle.exploration.specs.Endings.{AreShown, IsAdded, IsRowAdded}
 use Rattle.exploration.proofs.Shown.{order_stands, order_stopped, result_added, result_there, shown_more}
 use Rattle.exploration.proofs.ending.add_ending.Goals as goal

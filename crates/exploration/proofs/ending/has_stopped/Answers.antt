@@ -1,8 +1,8 @@
 use Rattle.std.proofs.Common.{◌≡◌, true, refl, sym, ap, ◌∙◌, arith}
 use Rattle.std.specs.Prelude.{slice_index}
 use Rattle.flat_machine.specs.State.{is_running}
-use Rattle.state_search.specs.Placed.{Placed}
-use Rattle.state_search.specs.StateTables.{placed_at}
+use Rattle.state_search.specs.state_store.Placed.{Placed}
+use Rattle.state_search.specs.state_store.StateTables.{placed_at}
 use Rattle.exploration.proofs.Endings.{all_stopped, one_runs}
 use Rattle.exploration.proofs.ending.has_stopped.Goals as goal
 

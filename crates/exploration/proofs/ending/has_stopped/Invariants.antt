@@ -1,7 +1,7 @@
 use Rattle.std.proofs.Common.{◌≡◌, ℕ, ◌<◌, false}
 use Rattle.std.specs.Prelude.{slice_index}
 use Rattle.flat_machine.specs.State.{is_running}
-use Rattle.state_search.specs.StateTables.{placed_at}
+use Rattle.state_search.specs.state_store.StateTables.{placed_at}
 use Rattle.exploration.proofs.ending.has_stopped.Given as goal
 
 abbrev pub invariant-loop-p : goal.invariant-loop-p

@@ -3,7 +3,7 @@ use Rattle.std.proofs.lemmas.List.FromFn.{map-range_with_len_more}
 use Rattle.std.specs.Prelude.{slice_index}
 use Rattle.std.specs.List.{range_with_len}
 use Rattle.local_reduction.specs.Results.{ProcessorResult, local_state_result}
-use Rattle.state_search.specs.StateTables.{placed_at}
+use Rattle.state_search.specs.state_store.StateTables.{placed_at}
 use Rattle.exploration.proofs.Endings.{all_results}
 use Rattle.exploration.proofs.ending.processors_of.Goals as goal
 

@@ -2,7 +2,7 @@ use Rattle.std.proofs.Common.{◌≡◌, map}
 use Rattle.std.specs.Prelude.{slice_index}
 use Rattle.std.specs.List.{range_with_len}
 use Rattle.local_reduction.specs.Results.{local_state_result}
-use Rattle.state_search.specs.StateTables.{placed_at}
+use Rattle.state_search.specs.state_store.StateTables.{placed_at}
 use Rattle.exploration.proofs.ending.processors_of.Given as goal
 
 abbrev pub invariant-loop-p : goal.invariant-loop-p

@@ -1,6 +1,6 @@
 use Rattle.std.proofs.Common.{ap, ◌∙◌}
 use Rattle.std.specs.Prelude.{slice_index}
-use Rattle.state_search.specs.StateTables.{words_at}
+use Rattle.state_search.specs.state_store.StateTables.{words_at}
 use Rattle.exploration.proofs.ending.result_of.Goals as goal
 
 pub returns : goal.returns

@@ -1,7 +1,7 @@
 use Rattle.std.proofs.Common.{ℕ, List, [], refl, sym, subst, ◌∙◌, arith}
 use Rattle.local_reduction.specs.Results.{FinalResult}
 use Rattle.state_search.proofs.Lemmas.{any_default}
-use Rattle.state_search.specs.StateTables.{IsRow, means}
+use Rattle.state_search.specs.state_store.StateTables.{IsRow, means}
 use Rattle.exploration.specs.Endings.{AreShown, IsEndingAdded}
 use Rattle.exploration.proofs.Endings.{AreEndings, no_endings, row_more}
 use Rattle.exploration.proofs.Shown.{none_shown}

@@ -1,5 +1,5 @@
 use Rattle.state_search.specs.Rows.{IsRowExchanged}
-use Rattle.state_search.specs.StateTables.{IsRow}
+use Rattle.state_search.specs.state_store.StateTables.{IsRow}
 use Rattle.exploration.proofs.order.in_order.Given as goal
 
 abbrev pub invariant-loop-last : goal.invariant-loop-last

@@ -1,6 +1,6 @@
 use Rattle.std.proofs.Common.{◌<◌, length}
 use Rattle.state_search.specs.Rows.{IsRowExchanged}
-use Rattle.state_search.specs.StateTables.{IsRow}
+use Rattle.state_search.specs.state_store.StateTables.{IsRow}
 use Rattle.exploration.proofs.order.sink.Given as goal
 
 abbrev pub invariant-loop-back : goal.invariant-loop-back

@@ -6,10 +6,11 @@ use Rattle.local_reduction.specs.Results.{FinalResult, IsFlatResult}
 use Rattle.state_graph.specs.Laws.{IsTerminationOf}
 use Rattle.machine_steps.specs.Openings.{flat_state}
 use Rattle.exploration.specs.Results.{IsMachineResult}
+use Rattle.exploration.specs.Fairness.{IsFairnessOf}
 use Rattle.exploration.specs.States.{AreAllStates, HasManyStates}
-use Rattle.state_search.specs.declared.state_tables.Extent.{Extent}
+use Rattle.state_search.specs.state_store.declared.state_tables.Extent.{Extent}
 use Rattle.state_search.proofs.Lemmas.{given_up_on}
-use Rattle.state_search.specs.Opening.{flat_of}
+use Rattle.state_search.specs.state_store.Opening.{flat_of}
 use Rattle.exploration.proofs.Exploring.{are_read, few_processors, flat_is, of_extent, wide, single}
 use Rattle.exploration.proofs.run.explore_as.Goals as goal
 
@@ -37,6 +38,7 @@ returns g c =
       single = λ off. single seen.processors c.in_ok-explored.ensures.classes
           (ap (λ (e : Extent). e.exchanged) c.extent_of-extent.ensures ∙ off);
       termination = subst (λ (n : FlatState). IsTerminationOf n found.termination) flat c.in_ok-explored.ensures.termination;
+      fairness = subst (λ (n : FlatState). IsFairnessOf n found.fairness) flat c.in_ok-explored.ensures.fairness;
       states = subst (λ (n : FlatState). AreAllStates n found.classes.items found.results.items found.termination found.states) flat
           c.in_ok-explored.ensures.states;
       few = c.in_ok-explored.ensures.few;

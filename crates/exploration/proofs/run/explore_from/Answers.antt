@@ -5,14 +5,13 @@ use Rattle.local_reduction.specs.Live.{HasAllLive}
 use Rattle.local_reduction.specs.Forgetting.{kept_by}
 use Rattle.std.proofs.lemmas.Result.{err_from_is_err_and}
 use Rattle.state_search.proofs.Lemmas.{given_up_on, moves_give_up}
-use Rattle.state_search.specs.Refusals.{IsGivenUpFor}
 use Rattle.state_search.specs.Ends.{AreFound}
-use Rattle.state_search.specs.Search.{AreClasses}
-use Rattle.state_search.specs.StateTables.{TableLists, setting_at, means}
-use Rattle.state_search.specs.Opening.{flat_of}
+use Rattle.state_search.specs.state_store.Moves.{AreClasses}
+use Rattle.state_search.specs.state_store.StateTables.{TableLists, setting_at, means}
+use Rattle.state_search.specs.state_store.Opening.{flat_of}
 use Rattle.exploration.specs.Endings.{IsStoodFor}
 use Rattle.exploration.specs.States.{AreAllStates, HasManyStates}
-use Rattle.exploration.proofs.Exploring.{all_states, many_states, flat_sound, flat_complete, flat_schedules, uniform}
+use Rattle.exploration.proofs.Exploring.{all_states, many_states, flat_sound, flat_complete, flat_fairness, flat_schedules, uniform}
 use Rattle.exploration.proofs.run.explore_from.Goals as goal
 
 pub results_of_space-requires : goal.results_of_space-requires
@@ -105,6 +104,23 @@ returns-clause-termination g c =
     (subst (λ cs. AreFound e code cs t c.in_ok-found.found.rows.keys c.in_ok-found.found.moves first) c.as_slice.ensures.value
     c.in_ok-found.ensures.found) reaches c.in_ok-explored.explored.results.items c.successors_decide_termination.ensures.termination_claim
     c.in_ok-explored.explored.termination c.in_ok-explored.ensures.termination
+
+pub returns-clause-fairness : goal.returns-clause-fairness
+returns-clause-fairness g c =
+    let e = c.args.extent in
+    let code = c.args.code.now in
+    let t = c.explore_states.new.state_tables in
+    let first = means e c.open.new.self c.in_ok-first.first in
+    let m = flat_of code c.args.cores.now c.args.words in
+    let reaches = subst (λ live. ReachesMacroState (setting_at e) code (kept_by live) m (λ k. []) first)
+    (sym c.in_ok-found.ensures.kept.live) c.in_ok-first.ensures.reaches in
+    let is : t.live ≡ c.in-Ok.live =
+    c.in_ok-found.ensures.kept.live ∙ (c.in_ok-first.ensures.kept.live ∙ ap (λ (t : TableLists). t.live) c.new-state_tables.ensures) in
+    let f = c.dead_registers_can_be_forgotten.ensures.forgotten (setting_at e) code t.live (subst (HasAllLive code) (sym is) c.in-Ok.ensures) in
+    flat_fairness e code c.in-Ok-classes_of.classes.items t c.in_ok-found.found.rows.keys c.in_ok-found.found.moves first m f
+    (subst (λ cs. AreFound e code cs t c.in_ok-found.found.rows.keys c.in_ok-found.found.moves first) c.as_slice.ensures.value
+    c.in_ok-found.ensures.found) reaches c.in_ok-explored.explored.results.items c.fairly_ranked_schedules_end.ensures.ends
+    c.in_ok-explored.explored.fairness c.in_ok-explored.ensures.fairness
 
 pub returns-clause-states : goal.returns-clause-states
 returns-clause-states g c =

@@ -4,7 +4,7 @@ use Rattle.std.proofs.lemmas.Result.{err_from_is_err_and}
 use Rattle.link.specs.Transfer.{AppendsPart}
 use Rattle.command_io.specs.Links.{input, output}
 use Rattle.explore_command.specs.Explorations.{exploration_of}
-use Rattle.trace_commands.specs.TraceReports.{trace_output}
+use Rattle.run_reports.specs.RunReports.{trace_output}
 use Rattle.explore_command.proofs.NotFound.{not_found}
 use Rattle.explore_command.proofs.command.execute.Goals as goal
 

@@ -1,8 +1,8 @@
-use Rattle.std.proofs.Common.{◌<◌, ◌^◌, not, subst, ap, ◌∙◌}
+use Rattle.std.proofs.Common.{◌<◌, ◌^◌, ◌++◌, not, subst, ap, ◌∙◌}
 use Rattle.std.proofs.lemmas.Result.{err_from_is_err_and}
 use Rattle.flat_machine.specs.declared.config.Config.{Config}
 use Rattle.exploration.specs.Endings.{AreSingle}
-use Rattle.explore_command.specs.Explorations.{IsExitOf}
+use Rattle.explore_command.specs.Explorations.{IsExitOf, fairness_text}
 use Rattle.observed_results.specs.Lines.{parts_lines}
 use Rattle.observed_results.specs.Parts.{AreParts}
 use Rattle.explore_command.proofs.observing.explore_observed.Goals as goal
@@ -19,7 +19,13 @@ returns-clause-lines g c =
     let marks = c.args.words.now in
     let parts = subst (λ rs. AreParts marks rs c.in_ok-parts.parts) c.as_slice-results.ensures.value c.in_ok-parts.ensures in
     record {
-      found = record { classes = found.classes.items; results = found.results.items; termination = found.termination; states = found.states };
+      found = record {
+        classes = found.classes.items;
+        results = found.results.items;
+        termination = found.termination;
+        fairness = found.fairness;
+        states = found.states;
+      };
       is = record {
         opening = c.args.machine.now;
         opens = c.requires.opens;
@@ -27,11 +33,13 @@ returns-clause-lines g c =
         single = λ each. subst (λ (d : Config). AreSingle (2 ^ d.k) found.classes.items) c.requires.opens.config
             (c.in_ok-found.ensures.single (c.search_of.ensures.exchanged ∙ ap not each));
         fact = c.in_ok-found.ensures.termination;
+        fair = c.in_ok-found.ensures.fairness;
         counted = c.in_ok-found.ensures.states;
         few = subst (λ n. found.states < n) c.search_of.ensures.limit c.in_ok-found.ensures.few;
       };
-      lines = c.in_ok-text.ensures
-          ∙ (λ j. parts_lines (parts.are j) (c.as_slice-classes.ensures.value j) found.states found.termination);
+      lines = c.in_ok-push_fairness.ensures
+          ∙ ap (λ text. text ++ fairness_text c.args.asked.fair found.fairness) (c.in_ok-text.ensures
+          ∙ (λ j. parts_lines (parts.are j) (c.as_slice-classes.ensures.value j) found.states found.termination));
       exit = subst (λ rs. IsExitOf rs found.termination c.exit_status.result) c.as_slice-results.ensures.value c.exit_status.ensures.exit;
       witnessed = c.in_ok-save_wanted.ensures.saved marks parts;
     }

@@ -2,7 +2,7 @@ use Rattle.std.proofs.Common.{List, Some, refl, subst}
 use Rattle.std.proofs.lemmas.Result.{err_from_is_err_and}
 use Rattle.steps.specs.declared.step.Step.{Step}
 use Rattle.trace_file.specs.Traces.{trace_bytes, trace_of}
-use Rattle.trace_commands.specs.TraceReports.{HasPartSaved, HasSaved, trace_output}
+use Rattle.run_reports.specs.RunReports.{HasPartSaved, HasSaved, trace_output}
 use Rattle.explore_command.specs.Explorations.{problem_of}
 use Rattle.explore_command.proofs.Wanted.{not_led_to, witnessed}
 use Rattle.explore_command.proofs.observing.save_wanted.Goals as goal

@@ -1,9 +1,9 @@
-use Rattle.std.proofs.Common.{◌<◌, ◌^◌, List, ℕ, None, not, ap, ap₂, subst, ◌∙◌}
+use Rattle.std.proofs.Common.{◌<◌, ◌^◌, ◌++◌, List, ℕ, None, not, ap, ap₂, subst, ◌∙◌}
 use Rattle.flat_machine.specs.declared.config.Config.{Config}
 use Rattle.exploration.specs.Endings.{AreSingle}
 use Rattle.exploration.specs.local_reduction.Results.{FinalResult}
-use Rattle.explore_command.specs.Explorations.{IsExitOf, IsWitnessed, problem_of}
-use Rattle.trace_commands.specs.TraceReports.{trace_output}
+use Rattle.explore_command.specs.Explorations.{IsExitOf, IsWitnessed, fairness_text, problem_of}
+use Rattle.run_reports.specs.RunReports.{trace_output}
 use Rattle.observed_results.specs.Lines.{results_lines}
 use Rattle.explore_command.proofs.searching.explore_all.Goals as goal
 
@@ -13,7 +13,13 @@ returns-clause-lines g c =
     let shown = ap₂ (λ (rs : List FinalResult) (cs : List ℕ). results_lines rs cs found.states found.termination)
     c.as_slice-results.ensures.value c.as_slice-classes.ensures.value in
     record {
-      found = record { classes = found.classes.items; results = found.results.items; termination = found.termination; states = found.states };
+      found = record {
+        classes = found.classes.items;
+        results = found.results.items;
+        termination = found.termination;
+        fairness = found.fairness;
+        states = found.states;
+      };
       is = record {
         opening = c.args.machine.now;
         opens = c.requires.opens;
@@ -21,10 +27,12 @@ returns-clause-lines g c =
         single = λ each. subst (λ (d : Config). AreSingle (2 ^ d.k) found.classes.items) c.requires.opens.config
             (c.in_ok-found.ensures.single (c.search_of-search.ensures.exchanged ∙ ap not each));
         fact = c.in_ok-found.ensures.termination;
+        fair = c.in_ok-found.ensures.fairness;
         counted = c.in_ok-found.ensures.states;
         few = subst (λ n. found.states < n) c.search_of-search.ensures.limit c.in_ok-found.ensures.few;
       };
-      lines = c.in_ok-text.ensures ∙ shown;
+      lines = c.in_ok-push_fairness.ensures
+          ∙ ap (λ text. text ++ fairness_text c.args.asked.fair found.fairness) (c.in_ok-text.ensures ∙ shown);
       exit = subst (λ rs. IsExitOf rs found.termination c.exit_status.result) c.as_slice-results.ensures.value c.exit_status.ensures.exit;
       witnessed = subst (λ image. IsWitnessed None (problem_of c.args.config image c.args.asked) found.results.items
           (trace_output g.T.Write.contents c.args.trace.now c.save_witness.new.trace)) c.image.ensures c.in_ok-save_witness.ensures.saved;

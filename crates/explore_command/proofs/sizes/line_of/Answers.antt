@@ -9,7 +9,13 @@ returns-in_ok-line_of_explored-in-Ok-clause-line g c =
     record {
       fault = None;
       is = inl (record {
-        found = record { classes = found.classes.items; results = found.results.items; termination = found.termination; states = found.states };
+        found = record {
+          classes = found.classes.items;
+          results = found.results.items;
+          termination = found.termination;
+          fairness = found.fairness;
+          states = found.states;
+        };
         is = c.in-Ok.ensures.found;
         greatest = line.0;
         greatest_is = line.1;

@@ -1,7 +1,7 @@
 use Rattle.std.proofs.Common.{refl, sym, subst}
 use Rattle.machine_steps.specs.Noting.{AreNoted}
 use Rattle.machine_log.specs.Logs.{Log}
-use Rattle.trace_commands.proofs.Lemmas.{StepObserver}
+use Rattle.run_reports.proofs.Lemmas.{StepObserver}
 use Rattle.hunt_command.proofs.running.observed_run.Goals as goal
 
 pub returns-in-Ok-ask_by_number-clause-noted : goal.returns-in-Ok-ask_by_number-clause-noted

@@ -4,7 +4,7 @@ use Rattle.flat_machine.specs.declared.config.Config.{Config}
 use Rattle.machine_steps.specs.Machines.{MachineLists}
 use Rattle.schedules.specs.Sweeps.{most_of}
 use Rattle.command_io.specs.Tallies.{nothing_shown}
-use Rattle.trace_commands.specs.CountedReplays.{IsReplayCounted}
+use Rattle.run_reports.specs.CountedReplays.{IsReplayCounted}
 use Rattle.hunt_command.specs.Hunts.{IsDrainedTo}
 use Rattle.hunt_command.proofs.RunsOfSchedules.{log_retaken, result_of_drain}
 use Rattle.hunt_command.proofs.runs.result_of.Goals as goal

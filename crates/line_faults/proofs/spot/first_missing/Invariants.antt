@@ -1,8 +1,9 @@
 use Rattle.std.proofs.Common.{◌≡◌, ◌+◌, map, length}
 use Rattle.line_faults.specs.Places.{label_values}
-use Rattle.line_faults.specs.Spans.{span_of}
-use Rattle.line_faults.specs.Wants.{shape_wants}
-use Rattle.line_faults.specs.WordAtFault.{missing_within, first_in}
+use Rattle.word_faults.specs.Spans.{span_of}
+use Rattle.word_faults.specs.Wants.{shape_wants}
+use Rattle.line_faults.specs.WordAtFault.{missing_within}
+use Rattle.word_faults.specs.WrongOperands.{first_in}
 use Rattle.line_faults.proofs.spot.first_missing.Given as goal
 
 abbrev pub invariant-loop-rest : goal.invariant-loop-rest

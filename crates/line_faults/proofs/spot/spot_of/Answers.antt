@@ -1,7 +1,7 @@
 use Rattle.std.proofs.lemmas.Result.{IfOk-weaker}
 use Rattle.assembler.specs.Meaning.{address}
 use Rattle.line_faults.specs.Places.{label_values, place_of}
-use Rattle.line_faults.specs.Views.{spot_span}
+use Rattle.word_faults.specs.Views.{spot_span}
 use Rattle.line_faults.proofs.Standing.{named_stands}
 use Rattle.line_faults.proofs.spot.spot_of.Goals as goal
 

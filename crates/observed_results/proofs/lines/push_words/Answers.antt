@@ -2,7 +2,7 @@ use Rattle.std.proofs.Common.{◌++◌, List, ℕ, length, refl, ap, ◌∙◌, 
 use Rattle.std.specs.Prelude.{string_bytes}
 use Rattle.command_io.specs.Lines.{word_lines}
 use Rattle.exploration.specs.local_reduction.Results.{FinalResult}
-use Rattle.exploration.specs.state_search.declared.sparse_words.NonzeroWord.{NonzeroWord}
+use Rattle.exploration.specs.state_store.declared.sparse_words.NonzeroWord.{NonzeroWord}
 use Rattle.observed_results.specs.Lines.{shared_lines}
 use Rattle.observed_results.proofs.Words.{lines_are, lines_more, no_lines, nonzero_lines}
 use Rattle.observed_results.proofs.lines.push_words.Goals as goal

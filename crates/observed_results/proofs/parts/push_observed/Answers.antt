@@ -1,7 +1,7 @@
 use Rattle.std.proofs.Common.{◌++◌, List, ℕ, length, ap, ◌∙◌, arith}
 use Rattle.std.specs.Prelude.{string_bytes}
 use Rattle.exploration.specs.local_reduction.Results.{FinalResult}
-use Rattle.exploration.specs.state_search.declared.sparse_words.NonzeroWord.{NonzeroWord}
+use Rattle.exploration.specs.state_store.declared.sparse_words.NonzeroWord.{NonzeroWord}
 use Rattle.observed_results.specs.Lines.{lines_by, observed_line}
 use Rattle.observed_results.proofs.Words.{lines_are, lines_more, no_lines, nonzero_lines, unobserved}
 use Rattle.observed_results.proofs.parts.push_observed.Goals as goal

@@ -2,8 +2,8 @@ use Rattle.std.proofs.Common.{◌≡◌, true, refl, subst, sym}
 use Rattle.std.proofs.lemmas.Result.{IfOk-weaker, IfErr-weaker, err_from_is_err_and}
 use Rattle.command_io.specs.Links.{input, output}
 use Rattle.schedules.specs.Sweeps.{most_of}
-use Rattle.trace_commands.specs.TraceReports.{trace_output}
-use Rattle.trace_commands.proofs.Lemmas.{can_be_reported, run_printed}
+use Rattle.run_reports.specs.RunReports.{trace_output}
+use Rattle.run_reports.proofs.Lemmas.{can_be_reported, run_printed}
 use Rattle.run_command.specs.SweepRuns.{IsSomeEndedRun, by_sweep, sweep_run, unfinished_by_sweep}
 use Rattle.run_command.specs.UnfinishedRuns.{EndsInFault, is_reported}
 use Rattle.run_command.proofs.Budgets.{as_error, ends, over_ends, printed_ends, silent_but, silent_of}

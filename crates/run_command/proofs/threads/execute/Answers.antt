@@ -3,9 +3,9 @@ use Rattle.std.specs.Prelude.{IfSome}
 use Rattle.std.proofs.lemmas.Result.{IfOk-weaker, IfErr-weaker}
 use Rattle.command_io.specs.Links.{input, output}
 use Rattle.processor_threads.specs.Consoles.{bytes_of}
-use Rattle.trace_commands.specs.CountedReplays.{AreConsoles}
-use Rattle.trace_commands.specs.TraceReports.{trace_output}
-use Rattle.trace_commands.proofs.Lemmas.{can_be_reported, run_printed}
+use Rattle.run_reports.specs.CountedReplays.{AreConsoles}
+use Rattle.run_reports.specs.RunReports.{trace_output}
+use Rattle.run_reports.proofs.Lemmas.{can_be_reported, run_printed}
 use Rattle.run_command.specs.ThreadRuns.{IsSomeThreaded, on_threads, threaded_run, unfinished_on_threads}
 use Rattle.run_command.specs.UnfinishedRuns.{EndsInFault}
 use Rattle.run_command.proofs.Budgets.{over_ends, printed_ends, silent_but, silent_of}

@@ -13,10 +13,10 @@ pub loop-step-preserved : goal.loop-step-preserved
 loop-step-preserved c =
     let steps = c.args.steps.now in
     let l = c.loop-step in
-    subst (λ (done : List Step). AreBegun done c.after-begun.result)
+    subst (λ (done : List Step). AreBegun done c.rounds_after-begun.result)
     (sym (take_more steps l.step-index (step.Turn 0) c.loop-step-test.true))
-    (more_are (take l.step-index steps) (slice_index_or steps l.step-index (step.Turn 0)) l.begun c.after-begun.result l.invariant
-    c.after-begun.ensures)
+    (more_are (take l.step-index steps) (slice_index_or steps l.step-index (step.Turn 0)) l.begun c.rounds_after-begun.result l.invariant
+    c.rounds_after-begun.ensures.exact)
 
 pub returns : goal.returns
 returns c =

@@ -1,8 +1,9 @@
 use Rattle.std.proofs.Common.{◌≡◌, ℕ, ◌+◌, Option, Some, None, length, true, rules, sym, subst, ◌∙◌}
 use Rattle.std.specs.Prelude.{IfSome, is_some}
-use Rattle.state_search.specs.Search.{Expanded, IsLike, IsNext}
-use Rattle.state_search.specs.StateTables.{means}
-use Rattle.state_search.proofs.Growing.{kept_all}
+use Rattle.state_search.specs.Search.{Expanded, IsLike}
+use Rattle.state_store.specs.Moves.{IsNext}
+use Rattle.state_store.specs.StateTables.{means}
+use Rattle.state_store.proofs.Lemmas.{kept_all}
 use Rattle.state_search.proofs.RowExchanges.{next_ordered}
 use Rattle.state_search.proofs.Searching.{stood, copied_on, went}
 use Rattle.state_search.proofs.finding.add_successor.Goals as goal

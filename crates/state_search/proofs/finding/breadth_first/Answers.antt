@@ -1,10 +1,10 @@
 use Rattle.std.proofs.Common.{◌≡◌, ◌+◌, ℕ, List, [], ◌∷◌, ◌++◌, Some, length, sym, ap, subst, ◌∙◌, arith}
 use Rattle.std.specs.Prelude.{slice_get}
-use Rattle.local_reduction.specs.Live.{HasAllLive}
+use Rattle.state_store.specs.local_reduction.Live.{HasAllLive}
 use Rattle.state_search.specs.Search.{AreAllFound, Searched}
-use Rattle.state_search.specs.StateTables.{IsRow, means}
+use Rattle.state_store.specs.StateTables.{IsRow, means}
 use Rattle.state_search.proofs.Lemmas.{found_at, past}
-use Rattle.state_search.proofs.Growing.{kept_all, kept_on}
+use Rattle.state_store.proofs.Lemmas.{kept_all, kept_on}
 use Rattle.state_search.proofs.Searching.{all_begun, begun}
 use Rattle.state_search.proofs.finding.breadth_first.Goals as goal
 

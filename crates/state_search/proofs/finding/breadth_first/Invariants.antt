@@ -1,6 +1,6 @@
 use Rattle.state_search.specs.Search.{AreAllFound, Searched}
-use Rattle.state_search.specs.TransitionCache.{KnowsLists, KnowsLocalStates}
-use Rattle.state_search.specs.StateTables.{HasGrown, means}
+use Rattle.state_store.specs.TransitionCache.{KnowsLists, KnowsLocalStates}
+use Rattle.state_store.specs.StateTables.{HasGrown, means}
 use Rattle.state_search.proofs.finding.breadth_first.Given as goal
 
 abbrev pub invariant-loop-at : goal.invariant-loop-at

@@ -1,7 +1,8 @@
 use Rattle.std.proofs.Common.{◌≡◌, ◌+◌, [], ◌∷◌, ◌++◌, sym, ap, subst, ◌∙◌, refl, arith}
-use Rattle.state_search.specs.Search.{state_at, AreAllFound, Spinning, Searched, Expanded}
-use Rattle.state_search.specs.StateTables.{means}
-use Rattle.state_search.proofs.Growing.{kept_all, kept_on, row_kept, means_kept}
+use Rattle.state_search.specs.Search.{state_at, AreAllFound, Searched, Expanded}
+use Rattle.state_store.specs.Moves.{Spinning}
+use Rattle.state_store.specs.StateTables.{means}
+use Rattle.state_store.proofs.Lemmas.{kept_all, kept_on, row_kept, means_kept}
 use Rattle.state_search.proofs.Searching.{completed, completed_all, expanding, spun}
 use Rattle.state_search.proofs.finding.expand.Goals as goal
 

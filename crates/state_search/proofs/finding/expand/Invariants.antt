@@ -1,9 +1,9 @@
 use Rattle.std.proofs.Common.{◌≡◌, ℕ, ◌<◌, List, [], length}
 use Rattle.std.specs.Prelude.{slice_index_or}
-use Rattle.local_reduction.specs.Closing.{MacroState}
+use Rattle.state_store.specs.local_reduction.Closing.{MacroState}
 use Rattle.state_search.specs.Search.{AreAllFound, Searched, Expanded}
-use Rattle.state_search.specs.TransitionCache.{KnowsLists, KnowsLocalStates}
-use Rattle.state_search.specs.StateTables.{HasGrown, IsRow}
+use Rattle.state_store.specs.TransitionCache.{KnowsLists, KnowsLocalStates}
+use Rattle.state_store.specs.StateTables.{HasGrown, IsRow}
 use Rattle.state_search.proofs.finding.expand.Given as goal
 
 abbrev pub invariant-loop-p : goal.invariant-loop-p

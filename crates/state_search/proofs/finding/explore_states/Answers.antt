@@ -1,6 +1,6 @@
 use Rattle.std.proofs.Common.{[], length, arith}
 use Rattle.std.specs.Prelude.{slice_index_or}
-use Rattle.state_search.proofs.Differing.{rows_differ}
+use Rattle.state_store.proofs.Lemmas.{rows_differ}
 use Rattle.state_search.proofs.Ending.{all_found, many_found}
 use Rattle.state_search.proofs.Lemmas.{given_up_on}
 use Rattle.state_search.proofs.finding.explore_states.Goals as goal

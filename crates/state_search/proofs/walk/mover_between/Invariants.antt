@@ -1,5 +1,5 @@
-use Rattle.state_search.specs.TransitionCache.{KnowsLists, KnowsLocalStates}
-use Rattle.state_search.specs.StateTables.{HasGrown, IsRow}
+use Rattle.state_store.specs.TransitionCache.{KnowsLists, KnowsLocalStates}
+use Rattle.state_store.specs.StateTables.{HasGrown, IsRow}
 use Rattle.state_search.proofs.walk.mover_between.Given as goal
 
 abbrev pub invariant-loop-p : goal.invariant-loop-p

@@ -1,6 +1,6 @@
 use Rattle.state_search.specs.Ends.{AreRows}
-use Rattle.state_search.specs.TransitionCache.{KnowsLists, KnowsLocalStates}
-use Rattle.state_search.specs.StateTables.{HasGrown}
+use Rattle.state_store.specs.TransitionCache.{KnowsLists, KnowsLocalStates}
+use Rattle.state_store.specs.StateTables.{HasGrown}
 use Rattle.state_search.proofs.walk.movers_of.Given as goal
 
 abbrev pub invariant-loop-place : goal.invariant-loop-place

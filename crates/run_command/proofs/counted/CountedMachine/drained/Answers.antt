@@ -1,7 +1,7 @@
 use Rattle.std.proofs.Common.{◌≤◌, ◌++◌, sym, subst}
 use Rattle.machine_steps.specs.Draining.{drain_steps}
 use Rattle.machine_steps.specs.Machines.{MachineLists}
-use Rattle.trace_commands.specs.InMemory.{IsReplayInMemory}
+use Rattle.run_reports.specs.InMemory.{IsReplayInMemory}
 use Rattle.run_command.specs.CountedMachines.{CountedModel, IsCountedLog}
 use Rattle.run_command.proofs.Counting.{drain_fits}
 use Rattle.run_command.proofs.counted.CountedMachine.drained.Goals as goal

@@ -1,6 +1,6 @@
 use Rattle.std.proofs.Common.{◌≡◌, List, ◌∙◌, ap, subst}
 use Rattle.std.specs.Prelude.{length, string_bytes}
-use Rattle.machine_picture.specs.Views.{view_of}
+use Rattle.machine_views.specs.Views.{view_of}
 use Rattle.steps.specs.declared.step.Step.{Step}
 use Rattle.machine_steps.specs.Runs.{IsRun}
 use Rattle.trace_commands.specs.Pictures.{first_of}

@@ -1,0 +1,9 @@
+pub mod Parts
+pub mod Table
+pub mod Templates
+pub mod Forms
+pub mod Numbers
+pub mod Constants
+pub mod Places
+pub mod Course
+pub mod Views

@@ -1,7 +1,0 @@
-use Rattle.std.proofs.Common.{◌≡◌, drop}
-use Rattle.line_formats.specs.Shapes.{object_of}
-use Rattle.line_formats.proofs.objects.write_object.Given as goal
-
-abbrev pub invariant-loop-shape : goal.invariant-loop-shape
-invariant-loop-shape l =
-    (l.writer ≡ l.initial.writer) × (object_of (drop l.shape-index l.fn.shapes) l.fn.line ≡ object_of l.fn.shapes l.fn.line)

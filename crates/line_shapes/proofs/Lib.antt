@@ -1,0 +1,5 @@
+pub mod Cutting
+pub mod Digits
+pub mod Writing
+pub mod Reading
+pub mod ObjectTokens

@@ -1,0 +1,4 @@
+pub mod Finding
+pub mod Reached
+pub mod Rows
+pub mod Viewed

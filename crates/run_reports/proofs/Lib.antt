@@ -1,0 +1,9 @@
+pub mod Tallying
+pub mod TakenAgain
+pub mod InMemory
+pub mod Logging
+pub mod LogReports
+pub mod FlatReports
+pub mod OneReport
+pub mod Hearing
+pub mod Lemmas

@@ -1,0 +1,4 @@
+pub mod Exchanging
+pub mod Listing
+pub mod Parts
+pub mod Numerals

@@ -1,5 +1,0 @@
-use Rattle.state_search.proofs.Clearing.{IsCleared}
-use Rattle.state_search.proofs.local_state.LocalState.forget.Given as goal
-
-abbrev pub invariant-loop-number : goal.invariant-loop-number
-invariant-loop-number l = IsCleared l.live l.fn.self l.pc l.self-inside.core l.self-inside.console.items l.number

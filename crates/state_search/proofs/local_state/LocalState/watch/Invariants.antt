@@ -1,5 +1,0 @@
-use Rattle.state_search.proofs.Still.{HasGoneOn}
-use Rattle.state_search.proofs.local_state.LocalState.watch.Given as goal
-
-abbrev pub invariant-loop-turn : goal.invariant-loop-turn
-invariant-loop-turn l = HasGoneOn l.quietly l.code l.fn.self l.self

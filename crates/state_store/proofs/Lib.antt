@@ -1,0 +1,12 @@
+pub mod Listed
+pub mod WordLists
+pub mod Still
+pub mod Spinners
+pub mod Lemmas
+pub mod Growing
+pub mod Remembering
+pub mod Moving
+pub mod Opened
+pub mod Clearing
+pub mod Keys
+pub mod Differing

@@ -1,0 +1,3 @@
+pub mod Lemmas
+pub mod Cutting
+pub mod OperandSpans
