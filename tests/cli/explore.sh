@@ -65,6 +65,7 @@ expected_results() {
             { word 2 1 && word 3 2; } | all_halt 2
             ;;
         peterson_wrong) expected_results "$1" peterson 1 && word 3 1 | all_halt 2 && { word 2 1 && word 3 1; } | all_halt 2 ;;
+        polite) word 2 2 | all_halt 2 ;;
         swap_lock) word 1 "$n" | all_halt "$n" ;;
         ticket_lock) for i in 0 1 2; do word "$i" "$n"; done | all_halt "$n" ;;
         ticket_lock_twice) for i in 0 1 2; do word "$i" $((2 * n)); done | all_halt "$n" ;;
@@ -105,7 +106,7 @@ expected_results() {
 expected_classes() {
     local last=$(((1 << $3) - 1)) first=0
     case $2 in
-        neighbours | own_number | peterson | peterson_wrong | queue | queue_lock | queue_wrong) return ;;
+        neighbours | own_number | peterson | peterson_wrong | polite | queue | queue_lock | queue_wrong) return ;;
         readers_writer | signal) first=1 ;;
     esac
     [ "$1" = each ] || [ "$first" -ge "$last" ] || echo "processors $first to $last can be exchanged"
@@ -282,6 +283,7 @@ each signal 1 1
 each signal 2 1
 each peterson 1 0
 each peterson_wrong 1 0
+each polite 1 0
 each swap_lock 2 0
 each ticket_lock 2 0 624
 each ticket_lock_twice 2 0 6513
@@ -344,18 +346,31 @@ replays_numbers_of_64() {
 }
 check 'the result of 64 processors that halt with 64 numbers has a witness, with short queues too' replays_numbers_of_64
 
-# A witness without a trace, a trace without a witness, and a trace that would overwrite the image are refused, and no
-# file is opened.
+# A witness without a trace, a trace without a witness or --fair, a trace of a lasso that there is not, and a trace that
+# would overwrite the image are refused, and no file is opened.
 refuses_half_a_witness() {
-    local half='error: --witness and --trace go together'
+    local half='error: --witness goes with --trace, and --trace with --witness or --fair'
     cp "$room/counter.elf" "$room/same.elf"
     ends 2 "$half" ./ultra explore --witness 1 "$room/none.elf" && ends 2 "$half" ./ultra explore --trace "$room/witness" "$room/none.elf" &&
+        ends 2 "$half" ./ultra explore --fair --witness 1 "$room/none.elf" &&
+        ends 2 'error: no fair schedule is known that never ends' ./ultra explore --fair --trace "$room/witness" "$room/counter.elf" &&
         ends 2 'error: OUT is the same file as FILE' ./ultra explore --witness 1 --trace "$room/same.elf" "$room/same.elf" &&
         cmp "$room/counter.elf" "$room/same.elf" && [ ! -e "$room/witness" ] &&
         ends_with_code 3 X5 "$room/none/witness: $no_such_file" ./ultra explore --witness 1 --trace "$room/none/witness" "$room/counter.elf" &&
         ends_with_code 3 X5 "/dev/full: $no_space_left" ./ultra explore --witness 1 --trace /dev/full "$room/counter.elf"
 }
 check 'a witness without a trace, a trace without a witness and a trace over the image are refused, with status 2' refuses_half_a_witness
+
+# Two polite processors raise their flags, see both up, and lower them, in step. The trace of the lasso has each of these
+# references once. Each has then retired 12 instructions, and is about to try again, at 0x10030.
+shows_a_lasso() {
+    ./ultra asm examples/explore/polite.s "$room/polite.elf" &&
+        ./ultra explore --fair --k 1 --trace "$room/lasso" "$room/polite.elf" >"$room/out" 2>"$room/err" &&
+        diff <(printf '%s\n' 'some fair schedule never ends' stem 'cycle 0 1 0 1 0 1') <(tail -n 3 "$room/out") || return 1
+    ./ultra replay "$room/lasso" "$room/polite.elf" >"$room/report"
+    diff <(for p in 0 1; do echo "processor $p pc 00010030 run retired 12 console -"; done) "$room/report"
+}
+check 'the trace of a lasso has the references of its stem and of one turn round its cycle' shows_a_lasso
 
 # With --every a witness or a trace is refused. Nothing else is printed, and no file is opened.
 refuses_a_witness_of_every_size() {
@@ -639,7 +654,8 @@ check 'on a terminal a line shows the progress of a search' shows_progress_of_a_
 
 # finds_what_another_search_finds TEXT OPTION ..: with these options `ultra explore` prints the same as
 # tests/tools/every_result.py, an independent search: the results in their order, the processors that can be exchanged,
-# the number of states, and whether schedules, or fair ones, end; or a line for each size. The faults and the status are the same too.
+# the number of states, and whether schedules, or fair ones, end; or a line for each size. A lasso is right by its moves. The faults and the
+# status are the same too.
 finds_what_another_search_finds() {
     local text=$1 ended=0 status=0
     shift
@@ -647,7 +663,7 @@ finds_what_another_search_finds() {
     ./ultra explore "$@" "$room/searched.elf" >"$room/results" 2>"$room/err" || ended=$?
     # The other search takes the number of stages without --k.
     [ "$1" != --k ] || shift
-    python3 tests/tools/every_result.py "$text" "$@" >"$room/out" 2>"$room/said" || status=$?
+    python3 tests/tools/every_result.py "$text" "$@" --shown "$room/results" >"$room/out" 2>"$room/said" || status=$?
     diff "$room/out" "$room/results" && diff "$room/said" "$room/err" && diff <(echo "$status") <(echo "$ended")
 }
 while read -r name options; do
@@ -669,6 +685,7 @@ barrier_late --k 2 --each
 signal --k 2 --each
 peterson --k 1 --each
 peterson_wrong --k 1 --each
+polite --k 1 --each
 swap_lock --k 2 --each
 ticket_lock --k 2 --each
 ticket_lock_twice --k 2 --each
@@ -683,6 +700,7 @@ barrier --k 1 --fair
 barrier_stuck --k 1 --fair
 signal --k 2 --fair
 peterson --k 1 --fair
+polite --k 1 --fair
 swap_lock --k 2 --fair
 ticket_lock --k 2 --fair
 readers_writer --k 2 --fair
@@ -703,6 +721,7 @@ barrier_late --k 5
 signal --k 6
 peterson --k 1
 peterson_wrong --k 1
+polite --k 1
 swap_lock --k 6
 ticket_lock --k 5
 ticket_lock_twice --k 3

@@ -26,11 +26,13 @@ prints_both() {
 # line. The kinds of objects are all those of the schema but `text`.
 prints_objects_for_lines() {
     local both=0 pairs=() name command
-    for name in lost_adds barrier_once barrier_stuck signal; do
+    for name in lost_adds barrier_once barrier_stuck polite signal; do
         ./ultra asm "examples/explore/$name.s" "$room/$name.elf" && prints_both explore --k 1 "$room/$name.elf" || return 1
     done
     prints_both explore --every --states 40 "$room/barrier_once.elf" &&
         prints_both explore --fair --k 1 "$room/barrier_once.elf" &&
+        prints_both explore --fair --k 1 "$room/polite.elf" &&
+        prints_both explore --fair --k 1 "$room/signal.elf" &&
         prints_both explore --k 1 --against "$room/counter.elf" "$room/lost_adds.elf" &&
         prints_both explore --k 0 --against "$room/counter.elf" "$room/lost_adds.elf" &&
         prints_both explore --k 1 --observe 1 --against "$room/counter.elf" "$room/lost_adds.elf" &&
@@ -43,7 +45,7 @@ prints_objects_for_lines() {
         for command in replay order story stats; do
             prints_both "$command" "$room/$name.trace" "$room/$name.elf" || return 1
         done
-        prints_both stats --latency "$room/$name.trace" "$room/$name.elf" || return 1
+        prints_both stats --latency "$room/$name.trace" "$room/$name.elf" && prints_both stats --queues "$room/$name.trace" "$room/$name.elf" || return 1
         prints_both story --rounds "$room/$name.trace" "$room/$name.elf" || return 1
     done
     prints_both hunt --k 1 --runs 40 --budget 20000 "$room/barrier_phase_late.elf" && prints_both hunt --k 1 --runs 3 "$room/ebreak.elf" &&

@@ -104,11 +104,33 @@ writes_abi_names() {
 }
 check 'with --abi registers have the names of the ABI, and jumps and branches their targets' writes_abi_names
 
+# Pictures of few and of many processors, in which names are whole, cut, and not there.
+draws_names() {
+    local stages number
+    { symbol_lines && printf '%s\n' '0001000c T again<and>again&again' '80000000 00000004 B count_of_all_that_was_added'; } >"$room/symbols"
+    for stages in 1 3 4; do
+        ./ultra run --sweep --k "$stages" --trace "$room/drawn.trace" "$room/hot_spot.elf" >"$room/out" || return 1
+        for number in 0 30 80; do
+            ./ultra picture --step "$number" "$room/drawn.trace" "$room/hot_spot.elf" >"$room/plain.svg" &&
+                ./ultra picture --step "$number" --symbols "$room/symbols" "$room/drawn.trace" "$room/hot_spot.elf" >"$room/named.svg" || return 1
+            tests/tools/symbols.py picture "$room/symbols" <"$room/plain.svg" | diff - <(tests/tools/symbols.py picture <"$room/named.svg") ||
+                { echo "after $number steps with k $stages" && return 1; }
+        done
+    done
+    # Names are there, in the last picture that was compared too: 12 letters of each. If nothing has a name, no byte changes.
+    grep -q ' to count_of_a\.\. {' "$room/named.svg" && grep -q '>0 run again&lt;and&gt;\.\. count_of_a\.\.<' "$room/named.svg" || return 1
+    printf '%s\n' '00020000 00000004 D local' >"$room/symbols" &&
+        ./ultra picture --step 80 --symbols "$room/symbols" "$room/drawn.trace" "$room/hot_spot.elf" | cmp "$room/plain.svg" -
+}
+check 'with --symbols picture draws words and program counters by their names' draws_names
+
 # What cannot be read as symbols is refused before the command begins; what goes with no other option is refused too.
 refuses_symbols() {
     ends_with_code 3 link "$room/none: $no_such_file" ./ultra dis --symbols "$room/none" "$room/three.elf" &&
         ends_with_code 3 link "$room: $is_a_folder" ./ultra run --sweep --symbols "$room" "$room/three.elf" &&
-        ends 2 'error: standard input is asked for twice' ./ultra dis --symbols - - <"$room/three.elf" || return 1
+        ends_with_code 3 link "$room/none: $no_such_file" ./ultra picture --symbols "$room/none" "$room/three.trace" "$room/three.elf" &&
+        ends 2 'error: standard input is asked for twice' ./ultra dis --symbols - - <"$room/three.elf" &&
+        ends 2 'error: standard input is asked for twice' ./ultra picture --symbols - "$room/three.trace" - <"$room/three.elf" || return 1
     cp "$room/three.elf" "$room/same.elf" &&
         ends 2 'error: OUT is the same file as FILE' ./ultra run --symbols "$room/same.elf" --trace "$room/same.elf" "$room/three.elf" &&
         cmp "$room/three.elf" "$room/same.elf" || return 1

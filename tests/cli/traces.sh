@@ -128,9 +128,10 @@ marks_rounds() {
 }
 then_check 'with --rounds a story marks the rounds that the statistics count' marks_rounds
 
-# has_the_longest_queues TRACE FILE: the statistics have the same longest queues as the story.
+# has_the_longest_queues TRACE FILE: the statistics have the same longest queues as the story, and the same lengths at the ends of rounds.
 has_the_longest_queues() {
-    ./ultra story "$1" "$2" >"$room/story" && ./ultra stats "$1" "$2" >"$room/stats" && tests/tools/queues.py "$room/story" "$room/stats"
+    ./ultra story "$1" "$2" >"$room/story" && ./ultra stats --queues "$1" "$2" >"$room/stats" &&
+        ./ultra stats --queues --csv "$1" "$2" >"$room/table" && tests/tools/queues.py "$room/story" "$room/stats" "$room/table"
 }
 
 # Runs of the hot spot by the sweep, also with short queues, and random runs of a program that refers to many words.
@@ -149,7 +150,13 @@ reports_the_longest_queues() {
         has_the_longest_queues "$room"/random* "$room/queue.elf" || return 1
     done
 }
-check 'the longest queues of the statistics are those of the story' reports_the_longest_queues
+check 'the longest queues of the statistics, and their lengths at the ends of rounds, are those of the story' reports_the_longest_queues
+
+# Lengths of queues and latencies are not printed together.
+refuses_queues_with_latencies() {
+    ends 2 'error: --queues and --latency exclude each other' ./ultra stats --queues --latency "$room/hot_spot.trace" "$room/hot_spot.elf"
+}
+then_check 'statistics of queues and of latencies exclude each other, with status 2' refuses_queues_with_latencies
 
 # has_the_latencies TRACE FILE: the statistics have the same latencies as the story.
 has_the_latencies() {
@@ -256,18 +263,21 @@ then_check 'the values of a story fit those of the order' tells_values_of_runs
 
 # ---- pictures
 
-# draws_each_step STAGES: the pictures of a short run after each of its steps are XML, and show what its story says.
+# draws_each_step STAGES: the pictures of a short run after each of its steps are XML, and show what its story says, without
+# names and with long ones.
 draws_each_step() {
     local number steps
+    printf '%s\n' '00010000 T start<of>the&short-program' '80000000 B a_counter_of_all_the_processors' >"$room/long.symbols"
     printf 'lui x5, 0x80000\naddi x6, x0, 1\namoadd.w x7, x6, (x5)\namoadd.w x7, x6, (x5)\necall\n' >"$room/short.s"
     ./ultra asm "$room/short.s" "$room/short.elf" &&
         ./ultra run --sweep --k "$1" --c 2 --trace "$room/short.trace" "$room/short.elf" >"$room/out" &&
         ./ultra story "$room/short.trace" "$room/short.elf" >"$room/short.story" || return 1
-    rm -rf "$room/pictures" && mkdir "$room/pictures" && steps=$(wc -l <"$room/short.story") || return 1
+    rm -rf "$room/pictures" "$room/named" && mkdir "$room/pictures" "$room/named" && steps=$(wc -l <"$room/short.story") || return 1
     for ((number = 0; number <= steps; number++)); do
-        ./ultra picture "$room/short.trace" "$room/short.elf" --step "$number" >"$room/pictures/$number.svg" || return 1
+        ./ultra picture "$room/short.trace" "$room/short.elf" --step "$number" >"$room/pictures/$number.svg" &&
+            ./ultra picture "$room/short.trace" "$room/short.elf" --step "$number" --symbols "$room/long.symbols" >"$room/named/$number.svg" || return 1
     done
-    tests/tools/pictures.py "$room/short.story" "$room/pictures"
+    tests/tools/pictures.py "$room/short.story" "$room/pictures" && tests/tools/pictures.py "$room/short.story" "$room/named"
 }
 if command -v python3 >/dev/null; then
     for it in 0 1 2 3; do

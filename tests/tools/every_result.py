@@ -1,8 +1,8 @@
 #!/usr/bin/env python3
 """What `ultra explore` prints for a text, found by an independent search.
 
-    every_result.py TEXT STAGES [--each] [--fair] [--states N]   as `ultra explore --k STAGES`
-    every_result.py TEXT --every [--each] [--states N]           as `ultra explore --every`
+    every_result.py TEXT STAGES [--each] [--fair [--shown FILE]] [--states N]   as `ultra explore --k STAGES`
+    every_result.py TEXT --every [--each] [--states N]                          as `ultra explore --every`
 
 It knows the instructions of examples/explore and examples/published, reads the text and not the image, and shares nothing with the
 simulator. A state is each processor at its next reference to a shared word, with the registers that it may still read, or stopped,
@@ -10,15 +10,18 @@ or found to spin, and the shared words. The search does not go on from a state i
 
 Processors that are in the same state at their first reference are of one class, and can be exchanged, unless a processor asks for its
 own number later. States that differ by an exchange are one: it has the processors of a class in the order in which their states
-were found. With --each every processor is a class of its own, and also with --fair. A fair schedule need not end if a processor spins,
-or if in some strongly connected component each processor that runs has a move.
+were found. With --each every processor is a class of its own, and also with --fair. If no processor spins, some fair schedule never
+ends exactly if in some strongly connected component each processor that runs has a move. There are many lassos of such schedules, so
+that of FILE is checked, and printed if it is one.
 
 It prints faults as `ultra` does, and ends with the same status.
 """
 import argparse
+import pathlib
 import sys
 
 TOP, CODE, SHARED = 1 << 32, 0x10000, 0x80000000
+NEVER_ENDS = 'some fair schedule never ends'
 # How many turns a processor may take without a reference.
 ALONE = 1_000_000
 ABI = ['zero', 'ra', 'sp', 'gp', 'tp', 't0', 't1', 't2', 's0', 's1'] + [f'a{i}' for i in range(8)] + [f's{i}' for i in range(2, 12)] + [
@@ -325,11 +328,23 @@ class Search:
         for at, moved_by in enumerate(self.moved_by):
             movers = stays.setdefault(of[at], set())
             movers.update(p for p, target in moved_by.items() if of[target] == of[at])
-        for at, moved_by in enumerate(self.moved_by):
-            spins = not self.spinners.isdisjoint(self.states[at][0])
-            if spins or moved_by and stays[of[at]].issuperset(moved_by):
-                return 'some fair schedule may never end'
+        if not all(self.spinners.isdisjoint(stations) for stations, _ in self.states):
+            return 'some fair schedule may never end'
+        if any(moved_by and stays[of[at]].issuperset(moved_by) for at, moved_by in enumerate(self.moved_by)):
+            return NEVER_ENDS
         return 'every fair schedule ends'
+
+    def lasso(self, stem, cycle):
+        """Whether the moves of the stem lead from the first state to one from which those of the cycle lead back to it, and each
+        processor that has a move there is in the cycle."""
+        at = self.place_after(0, stem)
+        return bool(cycle) and at is not None and self.place_after(at, cycle) == at and set(self.moved_by[at]) <= set(cycle)
+
+    def place_after(self, at, movers):
+        """The place to which moves of these processors lead, one after another, if they all have one."""
+        for p in movers:
+            at = None if at is None else self.moved_by[at].get(p)
+        return at
 
     def spread(self, ready):
         """The number of states of which something holds: of each that is `ready`, given those of which it holds already. It is found
@@ -426,7 +441,16 @@ def exit_status(results, is_stuck):
     return int(faulted or is_stuck)
 
 
-def print_results(search, is_fair):
+def lines_of_lasso(search, shown):
+    """The last two lines of a file, if they are those of a lasso that some fair schedule follows."""
+    lines = pathlib.Path(shown).read_text(encoding='utf-8').splitlines()[-2:]
+    words = [line.split(' ') for line in lines]
+    named = [word[0] for word in words] == ['stem', 'cycle']
+    is_lasso = named and search.lasso(*([int(p) for p in word[1:]] for word in words))
+    return lines if is_lasso else ['no lasso is shown']
+
+
+def print_results(search, is_fair, shown):
     """Prints all results of a size, and returns the exit status."""
     results, (schedules, is_stuck) = search.results(), search.ways_on()
     for at, (processors, words) in enumerate(results, 1):
@@ -443,6 +467,8 @@ def print_results(search, is_fair):
     print(schedules)
     if is_fair:
         print(search.fairness())
+        if search.fairness() == NEVER_ENDS:
+            print(*lines_of_lasso(search, shown), sep='\n')
     return exit_status(results, is_stuck)
 
 
@@ -470,12 +496,13 @@ def main():
     words.add_argument('--fair', action='store_true')
     words.add_argument('--every', action='store_true')
     words.add_argument('--states', type=int, default=1_000_000)
+    words.add_argument('--shown')
     asked = words.parse_args()
     text = Text(asked.text)
     if asked.every:
         return max([print_size(text, k, asked.each, asked.states) for k in range(7)])
     try:
-        return print_results(searched(text, 1 << asked.stages, asked.each or asked.fair, asked.states), asked.fair)
+        return print_results(searched(text, 1 << asked.stages, asked.each or asked.fair, asked.states), asked.fair, asked.shown)
     except GivenUp as why:
         print(f'ultra: {why}', file=sys.stderr)
         return 4

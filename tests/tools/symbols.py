@@ -3,10 +3,12 @@
 what it prints without them.
 
 FILE is an ELF file, whose symbol table is read here by the rules of the System V ABI, or what nm prints. COMMAND is run,
-hunt, explore, order, story or dis: `replay` prints what `run` prints. Without FILE, nothing has a name."""
+hunt, explore, order, story or dis: `replay` prints what `run` prints. Without FILE, nothing has a name. If COMMAND is
+`picture`, LINES is an SVG, and only its texts are printed."""
 import re
 import struct
 import sys
+import xml.etree.ElementTree as tree
 
 SHARED_WORDS = 0x80000000
 NAMES = "zero ra sp gp tp t0 t1 t2 s0 s1 a0 a1 a2 a3 a4 a5 a6 a7 s2 s3 s4 s5 s6 s7 s8 s9 s10 s11 t3 t4 t5 t6".split()
@@ -49,22 +51,22 @@ def symbols_of(path):
 
 
 def place(rows, address):
-    """The last symbol at or below the address, unless the address lies past it."""
+    """The last symbol at or below the address, and the offset from it, unless the address lies past it."""
     below = [row for row in rows if row[0] <= address]
     if not below or 0 < below[-1][1] <= address - below[-1][0]:
         return None
     offset = address - below[-1][0]
-    return below[-1][2] + (f"+0x{offset:x}" if offset else "")
+    return below[-1][2], f"+0x{offset:x}" if offset else ""
 
 
 def after_address(rows, text):
     name = place(rows, int(text, 16))
-    return f"{text} <{name}>" if name else text
+    return f"{text} <{name[0]}{name[1]}>" if name else text
 
 
 def after_word(rows, text):
     name = place(rows, SHARED_WORDS + 4 * int(text))
-    return f"{text} ({name})" if name else text
+    return f"{text} ({name[0]}{name[1]})" if name else text
 
 
 def by_abi(rows, address, text):
@@ -110,10 +112,32 @@ def named_step(rows, _, line):
     return re.sub(rf"( poke \S+ )({HEX})(?= [0-9a-f]{{2}}: writes$)", lambda it: it[1] + after_address(rows, it[2]), line)
 
 
+def drawn(rows, letters, address, text):
+    """A name in a picture, of at most so many letters, or the text if the address has none."""
+    name = place(rows, address)
+    if not name:
+        return text
+    label, offset = name
+    left = letters - len(offset)
+    return (label if len(label) <= left else label[:max(left - 2, 0)] + "..") + offset
+
+
+def print_picture(rows, picture):
+    """Prints the texts of a picture in which a `pc` or a word stands, with names."""
+    texts = [it for it in picture.iter() if it.get("class") in ("heading", "title", "mark", "request", "word")]
+    letters = 24 if int(texts[0].text.split()[2]) <= 3 else 12
+    for text in texts:
+        named = re.sub(rf"^([0-9]+ (?:run|halt \S+|fault \S+) )({HEX})", lambda it: it[1] + drawn(rows, letters, int(it[2], 16), it[2]), text.text or "")
+        print(re.sub(r"\bword ([0-9]+)", lambda it: drawn(rows, letters, SHARED_WORDS + 4 * int(it[1]), it[0]), named))
+
+
 def main():
     words = [it for it in sys.argv[1:] if it != "--abi"]
     change = {"order": named_order, "dis": named_listing, "story": named_step}.get(words[0], named_result)
     rows = symbols_of(words[1]) if len(words) > 1 else []
+    if words[0] == "picture":
+        print_picture(rows, tree.parse(sys.stdin).getroot())
+        return
     for line in sys.stdin:
         print(change(rows, "--abi" in sys.argv, line.rstrip("\n")))
 

@@ -112,7 +112,7 @@ flag name = record (new_rule name) { long = Some name; action = Some SetTrue }
 abbrev pub file : Rule
 file = path (codes "FILE")
 
--- the file with the names that are printed beside addresses, or that `asm` writes for that
+-- the file with the names for addresses that a command prints or draws, or that `asm` writes for that
 abbrev pub symbols : Rule
 symbols = option (codes "symbols")
 
@@ -192,10 +192,11 @@ unfoldable pub story_command : App
 story_command = command (codes "story") (lines ++ (flag (codes "rounds") ∷ decimal ∷ json ∷ []))
 
 unfoldable pub stats_command : App
-stats_command = command (codes "stats") (replay ++ (flag (codes "latency") ∷ flag (codes "csv") ∷ json ∷ []))
+stats_command = command (codes "stats") (replay
+    ++ (flag (codes "latency") ∷ flag (codes "queues") ∷ flag (codes "csv") ∷ json ∷ []))
 
 unfoldable pub picture_command : App
-picture_command = command (codes "picture") (replay ++ (number step ∷ []))
+picture_command = command (codes "picture") (replay ++ (number step ∷ symbols ∷ []))
 
 unfoldable pub trace_command : App
 trace_command = command (codes "trace") (path (codes "TRACE") ∷ [])

@@ -258,7 +258,7 @@ const EXPLORE: CommandForm = CommandForm {
         Argument::Text {
             name: "trace",
             value: "OUT",
-            help: "Where to write the steps to the result that --witness names, for `ultra replay`; opened after they are found",
+            help: "Where to write the steps to the result that --witness names, or with --fair those of a lasso, for `ultra replay`; opened then",
         },
         Argument::Text {
             name: "observe",
@@ -291,7 +291,7 @@ const EXPLORE: CommandForm = CommandForm {
         },
         Argument::Flag {
             name: "fair",
-            help: "Also tell whether every fair schedule ends; alike processors are not exchanged",
+            help: "Also tell whether every fair schedule ends, and show one that never does; alike processors are not exchanged",
         },
         Argument::Flag {
             name: "every",
@@ -382,6 +382,10 @@ const STATS: CommandForm = CommandForm {
             help: "Print how many rounds of the sweep references took: all, each processor's, and those to each word",
         },
         Argument::Flag {
+            name: "queues",
+            help: "Print how much waits at each stage at the end of each round of the sweep; not with --latency",
+        },
+        Argument::Flag {
             name: "csv",
             help: "Print the counts as CSV, a row for each number; not with --json",
         },
@@ -398,6 +402,11 @@ const PICTURE: CommandForm = CommandForm {
         TRACED_IMAGE,
         Argument::Number(SHARED_WORDS),
         Argument::Choice(STEP),
+        Argument::Text {
+            name: "symbols",
+            value: "FILE",
+            help: "Draw names in place of addresses and words, from the symbol table of an ELF file or from what `nm` prints",
+        },
     ],
     ends: PICTURE_ENDS,
 };

@@ -192,6 +192,10 @@ With --latency there are also lines for all references, and for those of each pr
 shared word: how many they are, the least, the mean and the greatest number of rounds from sending a
 request to retiring its instruction, and as `8x5` that five references took from 8 to 15 rounds.
 
+With --queues there is a line for each round and each stage where anything waits at its end: how many
+requests, records and replies; and then for each stage how many rounds all of them waited there. With
+--csv only a table of the same is printed: round,stage,requests,records,replies.
+
 Errors are reported on standard error as by `ultra replay`, and then nothing is printed.
 
 Exit status: 0 done, 1 a fault stopped a processor, 2 a refused trace, image or command line, 3 a
@@ -204,8 +208,9 @@ drawn after the first N of them, or after all if there are fewer, so `--step N` 
 which line N of the story happens. From left to right stand the processors, the stages of switches and
 the modules. A request shows its function, its word and the processors that it stands for, the leader
 first; a wait record who waits for whom, and what it then does to the value; a reply its value. Of more
-than 8 processors a summary is drawn. `ultra picture TRACE FILE > FILE.svg` writes a file that browsers
-show.
+than 8 processors a summary is drawn. With --symbols a word or a `pc` with a name is drawn as `LABEL` or
+`LABEL+0xHEX`, of which a long LABEL is cut. `ultra picture TRACE FILE > FILE.svg` writes a file that
+browsers show.
 
 Errors are reported on standard error as by `ultra replay`, and then nothing is printed.
 
@@ -252,8 +257,12 @@ processor, and a line `word I VVVVVVVV` for each shared word that is not zero, a
 and the number of states between references to shared words. The last line is `every schedule ends`,
 `some schedule never ends; an end can always be reached`, or `from N states no end can be reached`.
 
-With --fair one more line is printed: `every fair schedule ends`, or `some fair schedule may never end`. A
-schedule is fair if each processor that runs takes turns again and again. None is exchanged then.
+With --fair one more line is printed: `every fair schedule ends`, `some fair schedule never ends`, or, if
+neither is known, `some fair schedule may never end`. A schedule is fair if each processor that runs takes
+turns again and again. None is exchanged then. If some fair schedule never ends, lines `stem P P ..` and
+`cycle P P ..` show one: the processors of the stem refer, one after another, and then those of the cycle,
+again and again. With --trace OUT and no --witness the steps of the stem and one turn round the cycle are
+written to OUT.
 
 With --observe LIST a result has, of the shared words, only those in the list: numbers and ranges from 0
 to 262143 with commas between them. Results that then are the same are one, and --witness N leads to the
@@ -290,7 +299,7 @@ cannot be opened or standard output cannot be written, `I9` FILE cannot be read,
 written, `L2` a way of more than 4194304 steps, `memory`. If SPEC is at fault, a second line has its name.
 
 Exit status: 0 done, 1 in a result a fault has stopped a processor or from a state no end can be reached,
-2 a refused image or command line, or there is no such witness, 3 a file or standard output failed, 4 out
+2 a refused image or command line, or there is no such witness or no cycle, 3 a file or standard output failed, 4 out
 of memory, too many states, a processor alone for too long, or a path too long. With --every it is the
 greatest of all sizes. With --against it is 1 if there is a result that SPEC does not have, else 0.";
 

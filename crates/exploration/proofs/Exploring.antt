@@ -35,7 +35,8 @@ use Rattle.exploration.specs.Fairness.{IsFairnessAt, IsFairnessOf}
 use Rattle.exploration.specs.States.{AreAllStates, HasManyStates, IsGivenUp}
 use Rattle.exploration.specs.declared.outcome.Fairness.{Fairness}
 use Rattle.exploration.specs.declared.outcome.Fairness.TheVariants as fairness
-use Rattle.local_reduction.specs.Laws.{FairlyRankedSchedulesEnd}
+use Rattle.local_reduction.specs.Laws.{FairCyclesNeverEnd, FairlyRankedSchedulesEnd}
+use Rattle.local_reduction.specs.Termination.{IsEndlessBy}
 use Rattle.state_graph.specs.Fairness.{helper_at}
 use Rattle.state_graph.specs.Ranks.{rank_at}
 use Rattle.state_search.specs.declared.refusal.Refusal.{Refusal as SearchRefusal}
@@ -109,11 +110,15 @@ module _ (e : Extent) (code : List ℕ) (classes : List ℕ) (t : TableLists) (r
       found.successors found.reached reaches
 
   -- What is found of fair schedules is true of the machine.
-  pub flat_fairness : FairlyRankedSchedulesEnd → (said : Fairness) → IsFairnessAt e code t rows said → IsFairnessOf m said
-  flat_fairness law fairness.Ends h =
-      law (setting_at e) code (kept_by t.live) (state_at e t rows) (length rows) (rank_at h.ranks) (helper_at h.helpers) m (λ k. []) f
+  pub flat_fairness : FairlyRankedSchedulesEnd → FairCyclesNeverEnd → (said : Fairness) → IsFairnessAt e code t rows said → IsFairnessOf m said
+  flat_fairness ends endless fairness.Ends h =
+      ends (setting_at e) code (kept_by t.live) (state_at e t rows) (length rows) (rank_at h.ranks) (helper_at h.helpers) m (λ k. []) f
       found.successors.filled reaches h.are
-  flat_fairness law fairness.Unknown h = tt
+  flat_fairness ends endless (fairness.Endless lasso) h =
+      let by : IsEndlessBy m lasso.stem.items lasso.cycle.items =
+      endless (setting_at e) code (kept_by t.live) m (λ k. []) (state_at e t rows 0) lasso.stem.items h.state lasso.cycle.items f reaches h.stem h.cycle in
+      ((by.0, by.1, by.2), by)
+  flat_fairness ends endless fairness.Unknown h = tt
 
   -- The rows mean all states of the machine.
   pub all_states : HasAllLive code t.live → (termination : Termination) (count : ℕ) → IsTrueOf moves termination →

@@ -1,7 +1,7 @@
 pub mod Endings
 pub mod Shown
 pub mod Exploring
-pub mod FairRanking
+pub mod FairCertificates
 pub mod Sameness
 pub mod Exchanged
 pub mod MachineEnds

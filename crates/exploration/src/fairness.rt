@@ -1,7 +1,7 @@
 //! Whether every fair schedule ends.
 
 ghost use Rattle.std.specs.Prelude.{◌≡◌, ◌<◌, ◌≤◌, length, IfOk, OnOk};
-ghost use Rattle.exploration.specs.Fairness.{IsFairnessAt};
+ghost use Rattle.exploration.specs.Fairness.{IsFairnessAt, fairness_by};
 ghost use Rattle.local_reduction.specs.Live.{HasAllLive};
 ghost use Rattle.state_graph.specs.Ranks.{no_rank};
 ghost use Rattle.state_search.specs.Ends.{AreRows};
@@ -11,16 +11,16 @@ ghost use Rattle.state_search.specs.state_store.StateTables.{HasGrown};
 
 use crate::outcome::Fairness;
 use local_memory::Code;
-use state_graph::fair_ranks_of;
+use state_graph::{FairCertificate, fair_certificate_of};
 use state_search::{Extent, MoveRefusal, StateSpace, StateTables, TransitionCaches, targets_of};
 use std::alloc::Global;
 
-/// Whether every fair schedule ends, by ranks of the rows that a search without exchanges found. Nothing is said unless
-/// it is asked for.
+/// Whether every fair schedule ends, by ranks or a lasso of the rows that a search without exchanges found. Nothing is
+/// said unless it is asked for.
 ///
 /// # Errors
 ///
-/// Those of [`targets_of`]; [`MoveRefusal::Memory`] also if there is no memory for the ranks.
+/// Those of [`targets_of`]; [`MoveRefusal::Memory`] also if there is no memory for the ranks or the lasso.
 pub(crate) fn fairness_of<const N: usize>(
     alloc: Global,
     state_tables: &mut StateTables,
@@ -61,9 +61,19 @@ pub(crate) fn fairness_of<const N: usize>(
     let Some(targets) = targets else {
         return Ok(Fairness::Unknown);
     };
-    match fair_ranks_of(alloc, extent.processors, &targets) {
-        Ok(Some(_)) => Ok(Fairness::Ends),
-        Ok(None) => Ok(Fairness::Unknown),
-        Err(_) => Err(MoveRefusal::Memory),
+    let Ok(certificate) = fair_certificate_of(alloc, extent.processors, &targets) else {
+        return Err(MoveRefusal::Memory);
+    };
+    Ok(fairness_by(certificate))
+}
+
+/// What is said of fair schedules if this is found.
+fn fairness_by(found: Option<FairCertificate>) -> Fairness
+    ensures { result ≡ fairness_by found }
+{
+    match found {
+        Some(FairCertificate::Ranks(_)) => Fairness::Ends,
+        Some(FairCertificate::Lasso(lasso)) => Fairness::Endless(lasso),
+        None => Fairness::Unknown,
     }
 }

@@ -29,5 +29,5 @@ pub use opening::words_of;
 pub use outcome::{Explored, Fairness, FinalResult, ProcessorResult};
 pub use refusal::Refusal;
 pub use run::{Search, explore};
-pub use state_graph::Termination;
+pub use state_graph::{Lasso, Termination};
 pub use state_search::{NoProgress, NonzeroWord, SearchObserver, SparseWords};

@@ -3,7 +3,7 @@
 ghost use Rattle.std.specs.Prelude.{◌≡◌, ◌↔◌, IsTrue};
 
 use flat_machine::Status;
-use state_graph::Termination;
+use state_graph::{Lasso, Termination};
 use state_search::SparseWords;
 use std::marker::Model;
 
@@ -75,11 +75,14 @@ fn are_same(some: &[ProcessorResult], others: &[ProcessorResult]) -> bool
 }
 
 /// What a search says of fair schedules: those in which each processor that runs takes turns again and again.
-#[derive(Clone, Copy, Debug, PartialEq, Eq, Drop)]
+#[derive(Drop)]
 pub enum Fairness {
     /// Every fair schedule ends.
     Ends,
-    /// Nothing: it was not asked for, or the search found no ranks by which every fair schedule ends.
+    /// Some fair schedule never ends: one whose references are those of the stem, and then those of the cycle, again
+    /// and again.
+    Endless(Lasso),
+    /// Nothing: it was not asked for, or the search found neither ranks by which every fair schedule ends nor a lasso.
     Unknown,
 }
 

@@ -222,6 +222,7 @@ fn explore_from<const N: usize, G: SearchObserver>(
     state_graph::laws::successors_decide_termination();
     local_reduction::laws::dead_registers_can_be_forgotten();
     local_reduction::laws::fairly_ranked_schedules_end();
+    local_reduction::laws::fair_cycles_never_end();
     let Ok(live) = LiveTable::new(alloc, code) else {
         return Err(SearchRefusal::Memory);
     };

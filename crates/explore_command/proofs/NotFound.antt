@@ -8,6 +8,7 @@ use Rattle.machine_steps.specs.Runs.{IsOpening}
 use Rattle.command_io.specs.declared.fault.Fault.{Fault}
 use Rattle.command_io.specs.declared.fault.Fault.TheVariants as fault
 use Rattle.command_io.specs.Links.{Output}
+use Rattle.exploration.specs.Fairness.{IsFairnessOf}
 use Rattle.exploration.specs.state_graph.Laws.{IsTerminationOf}
 use Rattle.explore_command.specs.declared.refused.Refused.{Refused}
 use Rattle.explore_command.specs.declared.refused.Refused.TheVariants as refused
@@ -36,7 +37,7 @@ module _ {T : Type 0} (observed : Option (List Bool)) (p : Problem) (trace : Tra
   not_searched fault.Memory same why = same
 
   module _ (found : SearchResult) (all : AreResultsOf opening found.classes found.results)
-      (fact : IsTerminationOf (flat_state opening) found.termination) where
+      (fact : IsTerminationOf (flat_state opening) found.termination) (fair : IsFairnessOf (flat_state opening) found.fairness) where
     -- If the trace of a witness is not saved, the results are not found, for the same reason.
     pub not_saved : (r : Refused) → IsNotSaved observed p found trace r → IsNotFound observed p trace r
     not_saved refused.Unknown why = (
@@ -49,6 +50,8 @@ module _ {T : Type 0} (observed : Option (List Bool)) (p : Problem) (trace : Tra
         all = all;
         termination = found.termination;
         fact = fact;
+        fairness = found.fairness;
+        fair = fair;
         none = why.1;
       },
     )
@@ -59,7 +62,7 @@ module _ {T : Type 0} (observed : Option (List Bool)) (p : Problem) (trace : Tra
     not_saved (refused.Fault (fault.Image e)) why = absurd why
     not_saved (refused.Fault (fault.Trace e)) why = (
       why.0,
-      record { opening = opening; opens = opens; classes = found.classes; results = found.results; all = all; part = why.1 },
+      record { opening = opening; opens = opens; found = found; all = all; fair = fair; part = why.1 },
     )
     not_saved (refused.Fault fault.Size) why = why
     not_saved (refused.Fault (fault.Stalled place)) why = absurd why

@@ -1,5 +1,5 @@
 -- Why no results are printed, or not all of them.
-use Rattle.std.specs.Prelude.{◌≡◌, ℕ, ◌==◌, Bool, List, ◌++◌, Option, codes, if◌then◌else◌}
+use Rattle.std.specs.Prelude.{◌≡◌, ℕ, ◌==◌, Bool, List, ◌++◌, Option, Some, None, codes, if◌then◌else◌}
 use Rattle.std.specs.Fmt.{decimal}
 use Rattle.flat_machine.specs.State.{FlatState}
 use Rattle.flat_machine.specs.Limits.{IsWithinLimits}
@@ -19,13 +19,15 @@ use Rattle.command_io.specs.Faults.{status_of_fault}
 use Rattle.command_io.specs.FaultTexts.{AppendsOrPart, IsReported}
 use Rattle.command_io.specs.Links.{IsOfLink, Output}
 use Rattle.command_io.specs.Printing.{PrintsPrefix}
+use Rattle.exploration.specs.Fairness.{IsFairnessOf}
 use Rattle.exploration.specs.States.{HasManyStates}
+use Rattle.exploration.specs.declared.outcome.Fairness.{Fairness}
 use Rattle.exploration.specs.local_reduction.Results.{FinalResult}
 use Rattle.exploration.specs.state_graph.declared.termination.Termination.{Termination}
 use Rattle.exploration.specs.state_graph.Laws.{IsTerminationOf}
 use Rattle.explore_command.specs.declared.refused.Refused.{Refused}
 use Rattle.explore_command.specs.declared.refused.Refused.TheVariants as refused
-use Rattle.explore_command.specs.Refusals.{HasWitness}
+use Rattle.explore_command.specs.Refusals.{HasWanted}
 use Rattle.run_reports.specs.RunReports.{HasPartSaved, TraceOutput}
 use Rattle.explore_command.specs.Explorations.{AreResultsOf, Exploration, IsWanted, PrintsSomeResults, Problem}
 use Rattle.explore_command.specs.Explorations.{SearchResult, marks_of, problem_of}
@@ -37,16 +39,18 @@ status_of (refused.Fault f) = status_of_fault f
 status_of refused.Unknown = 2
 status_of refused.Missed = 4
 
--- the line that reports that no result has the number, or, for 0, that an end can be reached from each state
-abbrev pub unknown_line : (number : ℕ) → List ℕ
-unknown_line number = if number == 0 then codes "error: an end can be reached from each state\n"
+-- the line that reports that no result has the number, or, for 0, that an end can be reached from each state; if no
+-- witness is asked for, that there is no lasso
+abbrev pub unknown_line : (witness : Option ℕ) → List ℕ
+unknown_line None = codes "error: no fair schedule is known that never ends\n"
+unknown_line (Some number) = if number == 0 then codes "error: an end can be reached from each state\n"
     else codes "error: there is no result " ++ decimal number ++ line_feed
 
 -- Standard error got the line that reports the refusal, or, if a write failed, a beginning of it.
-abbrev pub IsReportedAs : (number : ℕ) → (old new : Option (List ℕ)) → Refused → Type 0
-IsReportedAs number old new (refused.Fault f) = IsReported old new f
-IsReportedAs number old new refused.Unknown = AppendsOrPart old new (unknown_line number)
-IsReportedAs number old new refused.Missed =
+abbrev pub IsReportedAs : (witness : Option ℕ) → (old new : Option (List ℕ)) → Refused → Type 0
+IsReportedAs witness old new (refused.Fault f) = IsReported old new f
+IsReportedAs witness old new refused.Unknown = AppendsOrPart old new (unknown_line witness)
+IsReportedAs witness old new refused.Missed =
     AppendsOrPart old new (codes "error: the steps that were taken lead elsewhere\n")
 
 -- Why a search gives up: there are as many states as the limit, or more; or a processor ran alone for too long. Nothing
@@ -66,8 +70,8 @@ abbrev pub HasTooMany : Problem → Type 0
 HasTooMany p = (opening : MachineLists) × IsOpening p.config p.image opening
     × HasManyStates (flat_state opening) p.asked.limit
 
--- The machine's results and whether its schedules end are known, and the wanted number names nothing.
-pub record HasNoWitness (observed : Option (List Bool)) (p : Problem) : Type 0 where
+-- The machine's results and whether its schedules and fair ones end are known, and what is asked for is not there.
+pub record HasNoWitness (observed : Option (List Bool)) (p : Problem) (witness : Option ℕ) : Type 0 where
   pub opening : MachineLists
   pub opens : IsOpening p.config p.image opening
   pub classes : List ℕ
@@ -75,45 +79,49 @@ pub record HasNoWitness (observed : Option (List Bool)) (p : Problem) : Type 0 w
   pub all : AreResultsOf opening classes results
   pub termination : Termination
   pub fact : IsTerminationOf (flat_state opening) termination
-  pub none : HasWitness (count_of observed results) termination p.asked.witness → ⊥
+  pub fairness : Fairness
+  pub fair : IsFairnessOf (flat_state opening) fairness
+  pub none : HasWanted (count_of observed results) termination fairness witness → ⊥
 
--- A beginning of the trace of a witness is written, and not all of it.
-pub record IsPartWitnessed {T : Type 0} (observed : Option (List Bool)) (p : Problem) (results : List FinalResult)
+-- A beginning of the trace that is asked for is written, and not all of it.
+pub record IsPartWitnessed {T : Type 0} (observed : Option (List Bool)) (p : Problem) (found : SearchResult)
     (trace : TraceOutput T) : Type 0 where
   pub steps : List Step
-  pub witness : IsWanted observed p results steps
+  pub witness : IsWanted observed p found steps
   pub part : HasPartSaved trace (trace_bytes (trace_of p.config steps))
 
--- Why the trace of a witness is not written: there is none for the number; the trace cannot be written; the size is out
--- of limits; the way is too long or leads elsewhere; or there is no memory.
+-- Why the trace that is asked for is not written: there is no such witness or lasso; the trace cannot be written; the
+-- size is out of limits; the way is too long or leads elsewhere; or there is no memory.
 abbrev pub IsNotSaved : {T : Type 0} → (observed : Option (List Bool)) → Problem → SearchResult → TraceOutput T →
     Refused → Type 0
 IsNotSaved observed p found trace refused.Unknown = (trace.new ≡ trace.old)
-    × (HasWitness (count_of observed found.results) found.termination p.asked.witness → ⊥)
+    × (HasWanted (count_of observed found.results) found.termination found.fairness p.asked.witness → ⊥)
 IsNotSaved observed p found trace refused.Missed = trace.new ≡ trace.old
 IsNotSaved observed p found trace (refused.Fault (fault.Trace e)) =
-    (e ≡ of_trace.Link) × IsPartWitnessed observed p found.results trace
+    (e ≡ of_trace.Link) × IsPartWitnessed observed p found trace
 IsNotSaved observed p found trace (refused.Fault fault.Size) =
     (trace.new ≡ trace.old) × (IsWithinLimits p.config → ⊥)
 IsNotSaved observed p found trace (refused.Fault fault.Full) = trace.new ≡ trace.old
 IsNotSaved observed p found trace (refused.Fault fault.Memory) = trace.new ≡ trace.old
 IsNotSaved observed p found trace (refused.Fault other) = ⊥
 
--- The machine's results are known, and only a beginning of the trace of a witness for the wanted one is written.
+-- The machine's results and whether its fair schedules end are known, and only a beginning of the trace that is asked
+-- for is written.
 pub record IsPartOfFound {T : Type 0} (observed : Option (List Bool)) (p : Problem) (trace : TraceOutput T) : Type 0
   where
     pub opening : MachineLists
     pub opens : IsOpening p.config p.image opening
-    pub classes : List ℕ
-    pub results : List FinalResult
-    pub all : AreResultsOf opening classes results
-    pub part : IsPartWitnessed observed p results trace
+    pub found : SearchResult
+    pub all : AreResultsOf opening found.classes found.results
+    pub fair : IsFairnessOf (flat_state opening) found.fairness
+    pub part : IsPartWitnessed observed p found trace
 
 -- Why the results of an image or their witness are not found: the size is out of limits; or the machine opens, but the
 -- search gives up, the number names nothing, there is no witness, or the trace cannot be written; or there is no
 -- memory.
 abbrev pub IsNotFound : {T : Type 0} → (observed : Option (List Bool)) → Problem → TraceOutput T → Refused → Type 0
-IsNotFound observed p trace refused.Unknown = (trace.new ≡ trace.old) × HasNoWitness observed p
+IsNotFound observed p trace refused.Unknown =
+    (trace.new ≡ trace.old) × HasNoWitness observed p p.asked.witness
 IsNotFound observed p trace refused.Missed = (trace.new ≡ trace.old) × Opens p
 IsNotFound observed p trace (refused.Fault fault.Size) =
     (trace.new ≡ trace.old) × (IsWithinLimits p.config → ⊥)
@@ -127,15 +135,15 @@ IsNotFound observed p trace (refused.Fault other) = ⊥
 -- Why there are no steps to what is wanted, if words are chosen: the number names nothing; the size is out of limits;
 -- or the machine opens, but the search for the way gives up, or the way is too long or leads elsewhere; or there is no
 -- memory.
-abbrev pub IsNotLedTo : (observed : Option (List Bool)) → Problem → Refused → Type 0
-IsNotLedTo observed p refused.Unknown = HasNoWitness observed p
-IsNotLedTo observed p refused.Missed = Opens p
-IsNotLedTo observed p (refused.Fault fault.Size) = IsWithinLimits p.config → ⊥
-IsNotLedTo observed p (refused.Fault fault.States) = HasTooMany p
-IsNotLedTo observed p (refused.Fault fault.Alone) = Opens p
-IsNotLedTo observed p (refused.Fault fault.Full) = Opens p
-IsNotLedTo observed p (refused.Fault fault.Memory) = Unit {0}
-IsNotLedTo observed p (refused.Fault other) = ⊥
+abbrev pub IsNotLedTo : (observed : Option (List Bool)) → Problem → (witness : Option ℕ) → Refused → Type 0
+IsNotLedTo observed p witness refused.Unknown = HasNoWitness observed p witness
+IsNotLedTo observed p witness refused.Missed = Opens p
+IsNotLedTo observed p witness (refused.Fault fault.Size) = IsWithinLimits p.config → ⊥
+IsNotLedTo observed p witness (refused.Fault fault.States) = HasTooMany p
+IsNotLedTo observed p witness (refused.Fault fault.Alone) = Opens p
+IsNotLedTo observed p witness (refused.Fault fault.Full) = Opens p
+IsNotLedTo observed p witness (refused.Fault fault.Memory) = Unit {0}
+IsNotLedTo observed p witness (refused.Fault other) = ⊥
 
 -- Why no results are printed, or not all of them: the image is refused, its results or their witness are not found, or
 -- the lines cannot be written.

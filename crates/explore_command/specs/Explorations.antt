@@ -17,11 +17,11 @@ use Rattle.exploration.specs.Endings.{AreResultsUpTo, AreSingle, IsOnce}
 use Rattle.exploration.specs.Fairness.{IsFairnessOf}
 use Rattle.exploration.specs.States.{AreAllStates}
 use Rattle.exploration.specs.declared.outcome.Fairness.{Fairness}
-use Rattle.exploration.specs.declared.outcome.Fairness.TheVariants as fairness
 use Rattle.exploration.specs.state_graph.declared.termination.Termination.{Termination}
 use Rattle.exploration.specs.state_graph.declared.termination.Termination.TheVariants as fact
 use Rattle.exploration.specs.state_graph.Laws.{IsTerminationOf}
 use Rattle.explore_command.specs.declared.command.Asked.{Asked}
+use Rattle.explore_command.specs.Lassos.{IsRoundOf, fairness_text}
 use Rattle.run_reports.specs.RunReports.{HasSaved, TraceOutput}
 use Rattle.explore_command.specs.Witnesses.{IsWitness, target}
 use Rattle.observed_results.specs.Lines.{observed_parts, parts_lines, results_lines}
@@ -117,40 +117,44 @@ lines_of None found = results_lines found.results found.classes found.states fou
 lines_of (Some marks) found =
     parts_lines (observed_parts marks found.results) found.classes found.states found.termination
 
--- ---- fair schedules
-
--- the line on fair schedules, if it is asked for
-abbrev pub fairness_text : (asked : Bool) → Fairness → List ℕ
-fairness_text false f = []
-fairness_text true fairness.Ends = codes "every fair schedule ends\n"
-fairness_text true fairness.Unknown = codes "some fair schedule may never end\n"
-
 -- ---- what is printed
 
--- The steps lead to the result of the wanted number, or, if words are chosen, to one that has the observed part of the
--- wanted number; for 0 they lead to a machine from which no result can be reached.
-abbrev pub IsWanted : (observed : Option (List Bool)) → Problem → List FinalResult → List Step → Type 0
-IsWanted None p results steps = IsWitness p.config p.image (target results p.asked.witness) steps
-IsWanted (Some marks) p results steps = (number : ℕ) × HasPart marks results p.asked.witness number
-    × IsWitness p.config p.image (target results number) steps
+-- The steps lead to the result of this number, or, if words are chosen, to one that has the observed part of this
+-- number; for 0 they lead to a machine from which no result can be reached.
+abbrev pub LeadsToNumber : (observed : Option (List Bool)) → Problem → List FinalResult → (number : ℕ) → List Step →
+    Type 0
+LeadsToNumber None p results number steps = IsWitness p.config p.image (target results number) steps
+LeadsToNumber (Some marks) p results number steps = (place : ℕ) × HasPart marks results number place
+    × IsWitness p.config p.image (target results place) steps
 
--- If a trace is asked for, it is written, and its steps lead to what is wanted.
-abbrev pub IsWitnessed : {T : Type 0} → (observed : Option (List Bool)) → Problem → List FinalResult →
-    TraceOutput T → Type 0
-IsWitnessed observed p results trace =
+-- The steps lead to what the witness names. If no witness is asked for, they are those of the lasso: of its stem and
+-- one turn round its cycle.
+abbrev pub AreStepsOf : (witness : Option ℕ) → (observed : Option (List Bool)) → Problem → SearchResult → List Step →
+    Type 0
+AreStepsOf None observed p found steps = IsRoundOf p.config p.image found.fairness steps
+AreStepsOf (Some number) observed p found steps = LeadsToNumber observed p found.results number steps
+
+-- These are the steps that are asked for.
+abbrev pub IsWanted : (observed : Option (List Bool)) → Problem → SearchResult → List Step → Type 0
+IsWanted observed p found steps = AreStepsOf p.asked.witness observed p found steps
+
+-- If a trace is asked for, it is written, and its steps are those that are asked for.
+abbrev pub IsWitnessed : {T : Type 0} → (observed : Option (List Bool)) → Problem → SearchResult → TraceOutput T →
+    Type 0
+IsWitnessed observed p found trace =
     MatchOption trace.old (trace.new ≡ None)
-    (λ old. (steps : List Step) × IsWanted observed p results steps
+    (λ old. (steps : List Step) × IsWanted observed p found steps
     × HasSaved trace (trace_bytes (trace_of p.config steps)))
 
--- These are the lines of what is found, and this is the exit status, whatever is observed. The trace of a witness is
--- written, if one is asked for.
+-- These are the lines of what is found, and this is the exit status, whatever is observed. The trace of a witness or of
+-- a lasso is written, if one is asked for.
 pub record AreExplored {T : Type 0} (observed : Option (List Bool)) (p : Problem) (trace : TraceOutput T)
     (text : List ℕ) (status : ℕ) : Type 0 where
   pub found : SearchResult
   pub is : IsFound p found
   pub lines : text ≡ lines_of observed found ++ fairness_text p.asked.fair found.fairness
   pub exit : IsExitOf found.results found.termination status
-  pub witnessed : IsWitnessed observed p found.results trace
+  pub witnessed : IsWitnessed observed p found trace
 
 -- These are the lines of the final results of the image in the file, and this is the exit status. The trace of a
 -- witness is written, if one is asked for.

@@ -1,3 +1,4 @@
+pub mod Lassos
 pub mod Explorations
 pub mod Causes
 pub mod Sizes

@@ -1,17 +1,19 @@
 -- Why there is no witness.
-use Rattle.std.specs.Prelude.{ℕ, zero, suc, ◌<◌}
+use Rattle.std.specs.Prelude.{ℕ, zero, suc, ◌<◌, Option, Some, None}
 use Rattle.flat_machine.specs.declared.config.Config.{Config}
 use Rattle.flat_machine.specs.Limits.{IsWithinLimits}
 use Rattle.machine_log.specs.declared.refusal.LockRefusal.{LockRefusal}
 use Rattle.machine_log.specs.declared.refusal.LockRefusal.TheVariants as log
 use Rattle.command_io.specs.declared.fault.Fault.{Fault}
 use Rattle.command_io.specs.declared.fault.Fault.TheVariants as fault
+use Rattle.exploration.specs.declared.outcome.Fairness.{Fairness}
 use Rattle.exploration.specs.declared.refusal.Refusal.{Refusal}
 use Rattle.exploration.specs.declared.refusal.Refusal.TheVariants as search
 use Rattle.exploration.specs.state_graph.declared.termination.Termination.{Termination}
 use Rattle.exploration.specs.state_graph.declared.termination.Termination.TheVariants as fact
 use Rattle.explore_command.specs.declared.refused.Refused.{Refused}
 use Rattle.explore_command.specs.declared.refused.Refused.TheVariants as refused
+use Rattle.explore_command.specs.Lassos.{HasLasso}
 
 abbrev pub refused_by_log : LockRefusal → Refused
 refused_by_log log.Memory = refused.Fault fault.Memory
@@ -36,6 +38,11 @@ abbrev pub HasWitness : (results : ℕ) → Termination → (number : ℕ) → T
 HasWitness results termination zero = Deadlock termination
 HasWitness results termination (suc place) = place < results
 
+-- There is what the witness names, or, if no witness is asked for, a lasso.
+abbrev pub HasWanted : (results : ℕ) → Termination → Fairness → (witness : Option ℕ) → Type 0
+HasWanted results termination f None = HasLasso f
+HasWanted results termination f (Some number) = HasWitness results termination number
+
 -- Why steps are not taken: the log is full, there is no memory, or the steps lead elsewhere. No more is said about
 -- these.
 abbrev pub IsOfSteps : Refused → Type 0
@@ -56,3 +63,15 @@ abbrev pub IsNoWitness : Config → (results : ℕ) → Termination → (number 
 IsNoWitness c results termination number refused.Unknown = HasWitness results termination number → ⊥
 IsNoWitness c results termination number refused.Missed = Unit {0}
 IsNoWitness c results termination number (refused.Fault fault) = IsNotTaken c (refused.Fault fault)
+
+-- Why there are no steps of a lasso: there is none, or its steps are not taken.
+abbrev pub IsNoRound : Config → Fairness → Refused → Type 0
+IsNoRound c f refused.Unknown = HasLasso f → ⊥
+IsNoRound c f refused.Missed = Unit {0}
+IsNoRound c f (refused.Fault fault) = IsNotTaken c (refused.Fault fault)
+
+-- Why there are no steps of what is asked for: there is no such thing, or its steps are not taken or lead elsewhere.
+abbrev pub IsNoneWanted : Config → (results : ℕ) → Termination → Fairness → (witness : Option ℕ) → Refused → Type 0
+IsNoneWanted c results termination f witness refused.Unknown = HasWanted results termination f witness → ⊥
+IsNoneWanted c results termination f witness refused.Missed = Unit {0}
+IsNoneWanted c results termination f witness (refused.Fault fault) = IsNotTaken c (refused.Fault fault)

@@ -31,8 +31,9 @@ pub struct Asked<'a> {
     /// Whether it is asked if every fair schedule ends. If so, processors that are alike are not exchanged.
     pub fair: bool,
     /// The number of the result to which the trace leads, counted from 1, or 0 for a state from which no end can be
-    /// reached. Ignored if no trace is asked for.
-    pub witness: u32,
+    /// reached. If there is no number, the trace follows the lasso of a fair schedule that never ends, once round its
+    /// cycle. Ignored if no trace is asked for.
+    pub witness: Option<u32>,
     /// The shared words by which results are observed, or None for all words. Results are then printed without the
     /// other words, and those that are the same without them are one result.
     pub observed: Option<&'a ObservedWords>,
@@ -43,12 +44,12 @@ pub struct Asked<'a> {
 /// processor runs. If words are chosen, prints the different observed parts of results in place of the results; the
 /// trace then leads to the first result that has the wanted part. Also prints which processors can be exchanged, and
 /// whether schedules end. The observer sees the progress of the search. If a trace is asked for, that of a way to the
-/// result with the wanted number is written first.
+/// result with the wanted number, or that of a lasso, is written first.
 ///
 /// Returns the exit status: 0 if the results are printed; 1 if they are printed, and in one of them a fault has stopped
 /// a processor, or there is a state from which no end can be reached; else that of the fault reported on standard
-/// error. Faults are checked in this order: of the image, of the machine's size, of the search, of the witness, of the
-/// trace, of standard output.
+/// error. Faults are checked in this order: of the image, of the machine's size, of the search, of the witness or the
+/// lasso, of the trace, of standard output.
 pub fn explore_command<R: LinkRead, T: LinkWrite, G: SearchObserver, W: LinkWrite, E: Write>(
     alloc: Global,
     file: &mut R,
@@ -81,15 +82,15 @@ pub fn explore_command<R: LinkRead, T: LinkWrite, G: SearchObserver, W: LinkWrit
 }
 
 /// Reports why the results are not printed, and returns the exit status.
-fn tell_refused<E: Write>(refused: Refused, number: u32, err: &mut E) -> u8
+fn tell_refused<E: Write>(refused: Refused, witness: Option<u32>, err: &mut E) -> u8
     ensures fault { result ≡ status_of refused }
     ensures high { 2 ≤ result }
-    ensures reported { IsReportedAs number (E.contents err.old) (E.contents err.new) refused }
+    ensures reported { IsReportedAs witness (E.contents err.old) (E.contents err.new) refused }
 {
     match refused {
         Refused::Fault(fault) => report_fault(fault, err),
         Refused::Unknown => {
-            write_error(unknown_line(number).as_str(), err);
+            write_error(unknown_line(witness).as_str(), err);
             REFUSED
         }
         Refused::Missed => {
@@ -99,17 +100,20 @@ fn tell_refused<E: Write>(refused: Refused, number: u32, err: &mut E) -> u8
     }
 }
 
-/// The line that reports that no result has the number, or, for 0, that an end can be reached from each state.
-fn unknown_line(number: u32) -> ArrayString<48>
-    ensures { result.bytes ≡ unknown_line number }
+/// The line that reports that no result has the number, or, for 0, that an end can be reached from each state; if there
+/// is no number, that there is no lasso.
+fn unknown_line(witness: Option<u32>) -> ArrayString<56>
+    ensures { result.bytes ≡ unknown_line witness }
 {
     let mut line = ArrayString::new();
-    if number == 0 {
-        line.push_str("error: an end can be reached from each state\n");
-    } else {
-        line.push_str("error: there is no result ");
-        line.push_str(Buffer::new().format(number));
-        line.push_str("\n");
+    match witness {
+        None => line.push_str("error: no fair schedule is known that never ends\n"),
+        Some(0) => line.push_str("error: an end can be reached from each state\n"),
+        Some(number) => {
+            line.push_str("error: there is no result ");
+            line.push_str(Buffer::new().format(number));
+            line.push_str("\n");
+        }
     }
     line
 }

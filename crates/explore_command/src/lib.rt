@@ -4,9 +4,9 @@
 //! of their different observed parts. This crate prints them. [`explore_every_size`] prints a line for each size of a
 //! machine.
 //!
-//! If a trace is asked for, that of a witness is written before the lines. On a second machine, [`witness_of`] takes
-//! the path that the search has noted, and compares what is left with the result before it returns the steps. So the
-//! proof that the steps are a witness needs to know nothing about the path.
+//! If a trace is asked for, that of a witness or of a lasso is written before the lines. On a second machine,
+//! [`witness_of`] takes the path that the search has noted, and compares what is left with the result before it returns
+//! the steps. So the proof that the steps are a witness needs to know nothing about the path.
 #![tactic(auto)]
 
 mod command;
@@ -17,6 +17,7 @@ mod left;
 mod observing;
 mod progress;
 mod refused;
+mod round;
 mod searching;
 mod sizes;
 mod status;

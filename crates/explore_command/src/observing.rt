@@ -4,6 +4,7 @@
 //! search, so a second search finds the way to it.
 
 ghost use Rattle.std.specs.Prelude.{◌≡◌, ◌≤◌, Bool, List, Some, IfErr, IfOk, OnOk, string_bytes};
+ghost use Rattle.exploration.specs.Fairness.{IsFairnessOf};
 ghost use Rattle.exploration.specs.state_graph.Laws.{IsTerminationOf};
 ghost use Rattle.machine_steps.specs.Machines.{AreHome, IsIdle};
 ghost use Rattle.machine_steps.specs.Openings.{flat_state};
@@ -11,13 +12,14 @@ ghost use Rattle.machine_steps.specs.Runs.{IsOpening};
 ghost use Rattle.run_reports.specs.RunReports.{IsWorking, trace_output};
 ghost use Rattle.explore_command.specs.Causes.{IsNotFound, IsNotLedTo, IsNotSearched};
 ghost use Rattle.explore_command.specs.Explorations.{AreExplored, AreResultsOf, IsWanted, IsWitnessed};
-ghost use Rattle.explore_command.specs.Explorations.{problem_of};
+ghost use Rattle.explore_command.specs.Explorations.{LeadsToNumber, problem_of, search_result};
 ghost use Rattle.observed_results.specs.Parts.{AreParts};
 ghost use Rattle.trace_file.specs.Traces.{IsTrace, trace_of};
 
 use crate::command::Asked;
 use crate::fairness::push_fairness;
 use crate::refused::Refused;
+use crate::round::round_of;
 use crate::searching::{find_results, search_of};
 use crate::status::exit_status;
 use crate::witness::{has_witness, witness_on};
@@ -32,7 +34,7 @@ use run_reports::save;
 use std::alloc::Global;
 
 /// The lines of the different observed parts of the results of a machine that has just opened, and the exit status.
-/// Writes the trace of a way to the first result that has the wanted part, if one is asked for.
+/// Writes the trace of a way to the first result that has the wanted part, or of a lasso, if one is asked for.
 pub(crate) fn explore_observed<T: LinkWrite, G: SearchObserver>(
     alloc: Global,
     machine: &Machine,
@@ -57,14 +59,14 @@ pub(crate) fn explore_observed<T: LinkWrite, G: SearchObserver>(
     let classes = found.classes.as_slice();
     let parts = parts_of(alloc, results, words)?;
     let mut text = parts_text(alloc, &parts, classes, found.states, found.termination)?;
-    push_fairness(&mut text, asked.fair, found.fairness)?;
+    push_fairness(&mut text, asked.fair, &found.fairness)?;
     save_wanted(
         alloc, machine, config, asked, &found, &parts, trace, observer,
     )?;
     Ok((text, exit_status(results, found.termination)))
 }
 
-/// Writes the trace of a way to the first result that has the wanted part, if a trace is asked for.
+/// Writes the trace of a way to the first result that has the wanted part, or of a lasso, if a trace is asked for.
 fn save_wanted<T: LinkWrite, G: SearchObserver>(
     alloc: Global,
     machine: &Machine,
@@ -80,9 +82,12 @@ fn save_wanted<T: LinkWrite, G: SearchObserver>(
     requires works { IsWorking T.has_failed trace.old }
     requires all { AreResultsOf machine.now found.now.classes.items found.now.results.items }
     requires fact { IsTerminationOf (flat_state machine.now) found.now.termination }
+    requires fair { IsFairnessOf (flat_state machine.now) found.now.fairness }
     ensures saved { OnOk result ((marks : List Bool) →
         AreParts marks found.now.results.items parts.now
-        → IsWitnessed (Some marks) (problem_of config machine.now.image asked.entry) found.now.results.items
+        → IsWitnessed (Some marks) (problem_of config machine.now.image asked.entry)
+        (search_result found.now.classes.items found.now.results.items found.now.termination found.now.fairness
+        found.now.states)
         (trace_output T.contents trace.old trace.new)) }
     ensures refused { IfErr result (λ refused. (marks : List Bool) →
         AreParts marks found.now.results.items parts.now
@@ -97,7 +102,7 @@ fn save_wanted<T: LinkWrite, G: SearchObserver>(
     Ok(())
 }
 
-/// The log of a way to the first result that has the wanted part.
+/// The log of a way to the first result that has the wanted part, or, if no number is given, that of a lasso.
 fn wanted_log<G: SearchObserver>(
     alloc: Global,
     machine: &Machine,
@@ -111,18 +116,54 @@ fn wanted_log<G: SearchObserver>(
     requires words { machine.now.image.shared_words ≡ config.shared_words }
     requires all { AreResultsOf machine.now found.now.classes.items found.now.results.items }
     requires fact { IsTerminationOf (flat_state machine.now) found.now.termination }
+    requires fair { IsFairnessOf (flat_state machine.now) found.now.fairness }
     ensures wanted { IfOk result (λ log. (marks : List Bool) →
         AreParts marks found.now.results.items parts.now
-        → IsWanted (Some marks) (problem_of config machine.now.image asked.entry) found.now.results.items log.steps) }
+        → IsWanted (Some marks) (problem_of config machine.now.image asked.entry)
+        (search_result found.now.classes.items found.now.results.items found.now.termination found.now.fairness
+        found.now.states) log.steps) }
     ensures trace { IfOk result (λ log. IsTrace (trace_of config log.steps)) }
     ensures refused { IfErr result (λ refused. (marks : List Bool) →
         AreParts marks found.now.results.items parts.now
-        → IsNotLedTo (Some marks) (problem_of config machine.now.image asked.entry) refused) }
+        → IsNotLedTo (Some marks) (problem_of config machine.now.image asked.entry) asked.entry.witness refused) }
 {
-    if !has_witness(parts.count(), found.termination, asked.witness) {
+    match asked.witness {
+        Some(witness) => part_log(
+            alloc, machine, config, asked, found, parts, witness, observer,
+        ),
+        None => round_of(alloc, machine.image(), config, &found.fairness),
+    }
+}
+
+/// The log of a way to the first result that has the part of this number.
+fn part_log<G: SearchObserver>(
+    alloc: Global,
+    machine: &Machine,
+    config: Config,
+    asked: Asked<'_>,
+    found: &Explored,
+    parts: &Parts,
+    witness: u32,
+    observer: &mut G,
+) -> Result<Logged, Refused>
+    requires opens { IsOpening config machine.now.image machine.now }
+    requires words { machine.now.image.shared_words ≡ config.shared_words }
+    requires all { AreResultsOf machine.now found.now.classes.items found.now.results.items }
+    requires fact { IsTerminationOf (flat_state machine.now) found.now.termination }
+    requires fair { IsFairnessOf (flat_state machine.now) found.now.fairness }
+    ensures wanted { IfOk result (λ log. (marks : List Bool) →
+        AreParts marks found.now.results.items parts.now
+        → LeadsToNumber (Some marks) (problem_of config machine.now.image asked.entry) found.now.results.items witness
+        log.steps) }
+    ensures trace { IfOk result (λ log. IsTrace (trace_of config log.steps)) }
+    ensures refused { IfErr result (λ refused. (marks : List Bool) →
+        AreParts marks found.now.results.items parts.now
+        → IsNotLedTo (Some marks) (problem_of config machine.now.image asked.entry) (Some witness) refused) }
+{
+    if !has_witness(parts.count(), found.termination, witness) {
         return Err(Refused::Unknown);
     }
-    let Some(number) = parts.first_with(asked.witness) else {
+    let Some(number) = parts.first_with(witness) else {
         return Err(Refused::Missed);
     };
     let way = way_to(alloc, machine, asked, number, observer)?;

@@ -14,9 +14,10 @@ use std::alloc::AllocError;
 pub enum Refused {
     /// A fault that has a code.
     Fault(Fault),
-    /// No result has the number, or the number is 0 and an end can be reached from each state found.
+    /// No result has the number; or the number is 0, and an end can be reached from each state found; or there is no
+    /// number, and no lasso.
     Unknown,
-    /// The steps taken do not lead to what the number names.
+    /// The steps taken do not lead to what the number names, or do not follow the lasso.
     Missed,
 }
 

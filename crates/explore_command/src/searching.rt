@@ -12,15 +12,17 @@ ghost use Rattle.exploration.specs.States.{AreAllStates};
 ghost use Rattle.exploration.specs.state_graph.Laws.{IsTerminationOf};
 ghost use Rattle.run_reports.specs.RunReports.{IsWorking};
 ghost use Rattle.explore_command.specs.Causes.{IsNotFound, IsNotSaved, IsNotSearched};
-ghost use Rattle.explore_command.specs.Explorations.{AreExplored, AreResultsOf, IsWitnessed, marks_of, problem_of};
-ghost use Rattle.explore_command.specs.Explorations.{search_result};
-ghost use Rattle.explore_command.specs.Refusals.{HasWitness, fault_of_search};
+ghost use Rattle.explore_command.specs.Explorations.{AreExplored, AreResultsOf, IsWanted, IsWitnessed, marks_of};
+ghost use Rattle.explore_command.specs.Explorations.{problem_of, search_result};
+ghost use Rattle.explore_command.specs.Refusals.{HasWanted, IsNoneWanted, fault_of_search};
 ghost use Rattle.run_reports.specs.RunReports.{trace_output};
+ghost use Rattle.trace_file.specs.Traces.{IsTrace, trace_of};
 
 use crate::command::Asked;
 use crate::fairness::push_fairness;
 use crate::observing::explore_observed;
 use crate::refused::Refused;
+use crate::round::round_of;
 use crate::status::exit_status;
 use crate::witness::witness_of;
 use command_io::{Fault, machine_of};
@@ -28,12 +30,13 @@ use elf_image::Image;
 use exploration::{Explored, Refusal, Search, SearchObserver, explore};
 use flat_machine::Config;
 use link::LinkWrite;
+use machine_log::Logged;
 use machine_steps::Machine;
 use observed_results::results_text;
 use run_reports::save;
 use std::alloc::Global;
 
-/// The lines of the results, and the exit status. Writes the trace of a witness, if one is asked for.
+/// The lines of the results, and the exit status. Writes the trace of a witness or a lasso, if one is asked for.
 pub(crate) fn explore_image<T: LinkWrite, G: SearchObserver>(
     alloc: Global,
     image: Image,
@@ -57,7 +60,7 @@ pub(crate) fn explore_image<T: LinkWrite, G: SearchObserver>(
 }
 
 /// The lines of the results of a machine that has just opened, or of their different observed parts, and the exit
-/// status. Writes the trace of a witness, if one is asked for.
+/// status. Writes the trace of a witness or a lasso, if one is asked for.
 // A separate function, so that neither has many values to drop at each return.
 fn explore_machine<T: LinkWrite, G: SearchObserver>(
     alloc: Global,
@@ -84,9 +87,9 @@ fn explore_machine<T: LinkWrite, G: SearchObserver>(
     }
 }
 
-/// The lines of the results of a machine that has just opened, and the exit status. Writes the trace of a witness, if
-/// one is asked for.
-#[tactic(auto, using(crate::proofs::NotFound::not_searched, crate::proofs::NotFound::not_saved))]
+/// The lines of the results of a machine that has just opened, and the exit status. Writes the trace of a witness or a
+/// lasso, if one is asked for.
+#[tactic(auto, using(crate::proofs::NotFound::not_searched))]
 fn explore_all<T: LinkWrite, G: SearchObserver>(
     alloc: Global,
     machine: &Machine,
@@ -110,7 +113,7 @@ fn explore_all<T: LinkWrite, G: SearchObserver>(
     let results = found.results.as_slice();
     let classes = found.classes.as_slice();
     let mut text = results_text(alloc, results, classes, found.states, found.termination)?;
-    push_fairness(&mut text, asked.fair, found.fairness)?;
+    push_fairness(&mut text, asked.fair, &found.fairness)?;
     save_witness(alloc, machine.image(), config, &found, asked, trace)?;
     Ok((text, exit_status(results, found.termination)))
 }
@@ -124,7 +127,7 @@ pub(crate) fn search_of(asked: Asked<'_>, is_wanted: bool) -> Search
         limit: asked.limit,
         exchanged: !asked.each,
         fair: asked.fair,
-        wanted: if is_wanted { Some(asked.witness) } else { None },
+        wanted: if is_wanted { asked.witness } else { None },
     }
 }
 
@@ -166,7 +169,7 @@ fn fault_of_search(refusal: Refusal) -> Fault
     }
 }
 
-/// Writes the trace of a witness, if a trace is asked for.
+/// Writes the trace of a witness or a lasso, if a trace is asked for.
 fn save_witness<T: LinkWrite>(
     alloc: Global,
     image: &Image,
@@ -177,20 +180,46 @@ fn save_witness<T: LinkWrite>(
 ) -> Result<(), Refused>
     requires words { image.now.shared_words ≡ config.shared_words }
     requires works { IsWorking T.has_failed trace.old }
-    ensures saved { OnOk result (IsWitnessed None (problem_of config image.now asked.entry) found.now.results.items
+    ensures saved { OnOk result (IsWitnessed None (problem_of config image.now asked.entry)
+        (search_result found.now.classes.items found.now.results.items found.now.termination found.now.fairness
+        found.now.states)
         (trace_output T.contents trace.old trace.new)) }
     ensures refused { IfErr result (IsNotSaved None (problem_of config image.now asked.entry)
         (search_result found.now.classes.items found.now.results.items found.now.termination found.now.fairness
         found.now.states)
         (trace_output T.contents trace.old trace.new)) }
     ensures unknown { trace.old ≢ None
-        → (HasWitness (length found.now.results.items) found.now.termination asked.entry.witness → ⊥)
+        → (HasWanted (length found.now.results.items) found.now.termination found.now.fairness asked.entry.witness → ⊥)
         → IsErrOf result Refused.Unknown }
 {
     if trace.is_none() {
         return Ok(());
     }
-    let log = witness_of(alloc, image, config, found, asked.witness, asked.limit)?;
+    let log = wanted_log(alloc, image, config, found, asked)?;
     save(trace, &config, log.steps())?;
     Ok(())
+}
+
+/// The log of a witness, or, if no number is given, that of a lasso.
+fn wanted_log(
+    alloc: Global,
+    image: &Image,
+    config: Config,
+    found: &Explored,
+    asked: Asked<'_>,
+) -> Result<Logged, Refused>
+    requires words { image.now.shared_words ≡ config.shared_words }
+    ensures wanted { IfOk result (λ log. IsWanted None (problem_of config image.now asked.entry)
+        (search_result found.now.classes.items found.now.results.items found.now.termination found.now.fairness
+        found.now.states) log.steps) }
+    ensures trace { IfOk result (λ log. IsTrace (trace_of config log.steps)) }
+    ensures refused { IfErr result (IsNoneWanted config (length found.now.results.items) found.now.termination
+        found.now.fairness asked.entry.witness) }
+    ensures unknown { (HasWanted (length found.now.results.items) found.now.termination found.now.fairness
+        asked.entry.witness → ⊥) → IsErrOf result Refused.Unknown }
+{
+    match asked.witness {
+        Some(number) => witness_of(alloc, image, config, found, number, asked.limit),
+        None => round_of(alloc, image, config, &found.fairness),
+    }
 }

@@ -124,7 +124,7 @@ fn check(
 }
 
 /// Whether none of the steps is a poke.
-fn has_no_poke(steps: &[Step]) -> bool
+pub(crate) fn has_no_poke(steps: &[Step]) -> bool
     ensures { result ≡ no_poke steps.now }
 {
     steps.iter().all(|step| !step.is_poke())

@@ -82,7 +82,15 @@ const POSSIBLE: Part = Field(
 
 const FAIR_ALWAYS: Part = Field("every fair schedule ends", "end", Is("always"));
 
+const FAIR_NEVER: Part = Field("some fair schedule never ends", "end", Is("never"));
+
 const FAIR_UNKNOWN: Part = Field("some fair schedule may never end", "end", Is("unknown"));
+
+const STEM: Part = Field("stem ", "processors", List);
+
+const NO_STEM: Part = Literal("stem");
+
+const CYCLE: Part = Field("cycle ", "processors", List);
 
 const FROM: Part = Field("from ", "end", Is("unreachable"));
 
@@ -149,6 +157,10 @@ const SERVES: Part = Field(" serves ", "serves", Number);
 const GROUPS: Part = Field(" ", "groups", List);
 
 // ---- latencies
+
+const OF_STAGE: Part = Field(" stage ", "stage", Number);
+
+const WAITED: Part = Field("waited stage ", "stage", Number);
 
 const LATENCY_OF_ALL: Part = Literal("latency all");
 
@@ -321,7 +333,7 @@ static HUNT_SHAPES: [Shape; 7] = [
     Shape("unfinished", &[UNFINISHED]),
 ];
 
-static RESULTS_SHAPES: [Shape; 15] = [
+static RESULTS_SHAPES: [Shape; 19] = [
     Shape("processor", &[PROCESSOR, PC, HALT, HALT_BYTE, CONSOLE]),
     Shape("processor", &[PROCESSOR, PC, FAULT, FAULT_NO, CONSOLE]),
     Shape("result", &[RESULT]),
@@ -331,7 +343,11 @@ static RESULTS_SHAPES: [Shape; 15] = [
     Shape("schedules", &[POSSIBLE]),
     Shape("schedules", &[FROM, FROM_COUNT, NO_END]),
     Shape("fairness", &[FAIR_ALWAYS]),
+    Shape("fairness", &[FAIR_NEVER]),
     Shape("fairness", &[FAIR_UNKNOWN]),
+    Shape("stem", &[STEM]),
+    Shape("stem", &[NO_STEM]),
+    Shape("cycle", &[CYCLE]),
     Shape("word", &[WORD, HOLDS]),
     Shape("comparison", &[ALL, IS_AMONG, OF_SPEC]),
     Shape("comparison", &[ALL, ARE_AMONG, OF_SPEC]),
@@ -393,7 +409,7 @@ static SIZES_SHAPES: [Shape; 10] = [
     Shape("size", &[STAGES, PROCESSORS, UNEXPLORED]),
 ];
 
-static COUNTS_SHAPES: [Shape; 9] = [
+static COUNTS_SHAPES: [Shape; 11] = [
     Shape("machine", &[K, C, B, R]),
     Shape("steps", &[STEPS, TURNS, UP, SERVE, DOWN, POKE, ROUNDS]),
     Shape(
@@ -436,6 +452,8 @@ static COUNTS_SHAPES: [Shape; 9] = [
             ROUNDS_TAKEN,
         ],
     ),
+    Shape("queues", &[ROUND, OF_STAGE, REQUESTS, RECORDS, REPLIES]),
+    Shape("waited", &[WAITED, REQUESTS, RECORDS, REPLIES]),
 ];
 
 static STORY_SHAPES: [Shape; 14] = [

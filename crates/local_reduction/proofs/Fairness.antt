@@ -4,10 +4,8 @@ use Rattle.std.proofs.Common.{length, refl, sym, ap, subst, ◌∙◌, arith}
 use Rattle.std.specs.Prelude.{slice_get}
 use Rattle.std.proofs.lemmas.Bool.{cases_eq, cases_lt}
 use Rattle.flat_machine.specs.declared.setting.Setting.{Setting}
-use Rattle.flat_machine.specs.declared.poke.Entry.TheVariants as entry
 use Rattle.flat_machine.specs.State.{FlatState, Processor, is_running}
 use Rattle.flat_machine.specs.Turns.{Turn, Retires, Reaches, Stops, turn_of}
-use Rattle.flat_machine.specs.Flat.{flat_step}
 use Rattle.flat_machine.proofs.Lemmas.{set_other}
 use Rattle.local_reduction.specs.LocalStates.{LocalState, alone, consoles_after}
 use Rattle.local_reduction.specs.Closing.{HasSpinner, HasStopped, IsForgetful, MacroState, MayMove, ReachesMacroState, local_state_of}
@@ -39,6 +37,30 @@ some_runs (q ∷ qs) = by (is_running q.status) refl (some_runs qs)
     by true runs rest = inl (0, q, refl, runs)
     by false stopped (inl x) = inl (suc x.0, x.1, x.2, x.3)
     by false stopped (inr none) = inr (all stopped none)
+
+-- A processor that may move in the state that the flat machine reaches runs.
+pub runs_in : (at : ℕ → Setting) (code : List ℕ) (kept : LocalState → LocalState) → IsForgetful at code kept → (m : FlatState) (consoles : ℕ → List ℕ)
+    (counts : ℕ → ℕ) (s : MacroState) → ReachesIn at code kept m consoles counts s → (k : ℕ) → MayMove at code s k →
+    (p : Processor) × (slice_get m.processors k ≡ Some p) × (is_running p.status ≡ true)
+runs_in at code kept f m consoles counts s h k w =
+    by (found_there m.processors k (subst (λ c. k < c) h.all (found_within s.local_states k w.local_state w.there)))
+  where
+    by : (p : Processor) × (slice_get m.processors k ≡ Some p) → (p : Processor) × (slice_get m.processors k ≡ Some p) × (is_running p.status ≡ true)
+    by x = (x.0, x.1, by_running (is_running x.0.status) refl)
+      where
+        here : LocalState
+        here = local_state_of x.0 (consoles k)
+
+        runs : is_running (alone (counts k) (at k) code here).processor.status ≡ true
+        runs =
+            sym (f.running (alone (counts k) (at k) code here))
+            ∙ (ap (λ (a : LocalState). is_running a.processor.status) (some_inj _ w.local_state (sym (h.each k x.0 x.1).0 ∙ w.there)) ∙ w.runs)
+
+        by_running : (b : Bool) → is_running x.0.status ≡ b → is_running x.0.status ≡ true
+        by_running true e = e
+        by_running false e =
+            let stood = standing_stays (counts k) (at k) code here (λ running. let both : true ≡ false = sym running ∙ e in absurd (cc)) in
+            sym (ap (λ (a : LocalState). is_running a.processor.status) stood) ∙ runs
 
 module _ (at : ℕ → Setting) (code : List ℕ) (kept : LocalState → LocalState) (f : IsForgetful at code kept)
     (state : ℕ → MacroState) (count : ℕ) (rank helper : ℕ → ℕ) (right : AreFairlyRanked at code kept state count rank helper)
@@ -164,24 +186,7 @@ module _ (at : ℕ → Setting) (code : List ℕ) (kept : LocalState → LocalSt
 
     -- A processor that may move in the state runs.
     runs_of : (k : ℕ) → MayMove at code (state i) k → Runs n k
-    runs_of k w = by (found_there (now n).processors k (subst (λ c. k < c) h.reaches.all (found_within (state i).local_states k w.local_state w.there)))
-      where
-        by : (p : Processor) × (slice_get (now n).processors k ≡ Some p) → Runs n k
-        by x = (x.0, x.1, by_running (is_running x.0.status) refl)
-          where
-            here : LocalState
-            here = local_state_of x.0 (h.consoles k)
-
-            runs : is_running (alone (counts k) (at k) code here).processor.status ≡ true
-            runs =
-                sym (f.running (alone (counts k) (at k) code here))
-                ∙ (ap (λ (a : LocalState). is_running a.processor.status) (some_inj _ w.local_state (sym (h.reaches.each k x.0 x.1).0 ∙ w.there)) ∙ w.runs)
-
-            by_running : (b : Bool) → is_running x.0.status ≡ b → is_running x.0.status ≡ true
-            by_running true e = e
-            by_running false e =
-                let stood = standing_stays (counts k) (at k) code here (λ running. let both : true ≡ false = sym running ∙ e in absurd (cc)) in
-                sym (ap (λ (a : LocalState). is_running a.processor.status) stood) ∙ runs
+    runs_of k w = runs_in at code kept f (now n) h.consoles counts (state i) h.reaches k w
 
   -- ---- the helper moves at last
 

@@ -6,6 +6,8 @@ pub mod Reaching
 pub mod Stopping
 pub mod Bounding
 pub mod Fairness
+pub mod FairWays
+pub mod FairCycles
 pub mod Moving
 pub mod Numbers
 pub mod Returning

@@ -12,6 +12,7 @@ use Rattle.local_reduction.specs.Closing.{IsForgetful, if_running, MacroState, g
 use Rattle.local_reduction.specs.Closing.{HaveNoSpinner}
 use Rattle.local_reduction.specs.Closing.{IsShort, IsWay, ReachesMacroState, IsKeptOf, AreAtReference, HasStopped}
 use Rattle.local_reduction.specs.Termination.{turns_taken, AreFairlyRanked, EveryFairScheduleEnds, EveryScheduleEnds}
+use Rattle.local_reduction.specs.Termination.{IsEndlessBy, IsFairCycle, IsWalk}
 use Rattle.local_reduction.specs.Exchanging.{AskNot, NeverAsks, IsBeside, Exchange, IsExchanged, IsExchangeOf}
 use Rattle.local_reduction.specs.Exchanging.{IsUniform}
 use Rattle.local_reduction.specs.Exchanging.{IsMoveOfAny, IsClosedUpTo, IsShortUpTo, IsWayUpTo}
@@ -93,6 +94,15 @@ FairlyRankedSchedulesEnd =
     (rank helper : ℕ → ℕ) (m : FlatState) (consoles : ℕ → List ℕ) →
     IsForgetful at code kept → 0 < count → ReachesMacroState at code kept m consoles (state 0) →
     AreFairlyRanked at code kept state count rank helper → EveryFairScheduleEnds m
+
+-- If a walk leads to a fair cycle, some fair schedule never ends: its references are those of the walk, and then those
+-- of the cycle, again and again.
+abbrev pub FairCyclesNeverEnd : Type 0
+FairCyclesNeverEnd =
+    (at : ℕ → Setting) (code : List ℕ) (kept : LocalState → LocalState) (m : FlatState) (consoles : ℕ → List ℕ)
+    (s : MacroState) (stem : List ℕ) (t : MacroState) (cycle : List ℕ) →
+    IsForgetful at code kept → ReachesMacroState at code kept m consoles s → IsWalk at code kept s stem t →
+    IsFairCycle at code kept t cycle → IsEndlessBy m stem cycle
 
 -- The registers and the local memory of processors that have stopped can be forgotten.
 abbrev pub StoppedAreForgotten : Type 0

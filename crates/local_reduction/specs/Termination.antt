@@ -1,10 +1,12 @@
 -- Whether the schedules of the flat machine end. Schedules are orders of turns.
-use Rattle.std.specs.Prelude.{◌≡◌, ◌⊎◌, ℕ, zero, suc, ◌<◌, ◌≤◌, true, List, Some, length, slice_get}
+use Rattle.std.specs.Prelude.{◌≡◌, ◌⊎◌, ℕ, zero, suc, ◌<◌, ◌≤◌, true, List, [], ◌∷◌, Contains, Some, length}
+use Rattle.std.specs.Prelude.{slice_get}
 use Rattle.flat_machine.specs.declared.setting.Setting.{Setting}
 use Rattle.flat_machine.specs.declared.poke.Entry.TheVariants as entry
-use Rattle.flat_machine.specs.State.{FlatState, Processor, is_running}
+use Rattle.flat_machine.specs.State.{FlatState, Processor, is_running, setting_of}
+use Rattle.flat_machine.specs.Turns.{turn_of}
 use Rattle.flat_machine.specs.Flat.{flat_run, flat_events, flat_step}
-use Rattle.local_reduction.specs.LocalStates.{LocalState, turns}
+use Rattle.local_reduction.specs.LocalStates.{IsReference, LocalState, turns}
 use Rattle.local_reduction.specs.Closing.{HasSpinner, HasStopped, IsMove, MacroState, MayMove}
 
 -- ---- ends
@@ -59,6 +61,60 @@ IsFair m schedule = (n k : ℕ) → RunsAfter m schedule n k → (i : ℕ) × (n
 abbrev pub EveryFairScheduleEnds : FlatState → Type 0
 EveryFairScheduleEnds m =
     (schedule : ℕ → ℕ) → IsFair m schedule → (n : ℕ) × HasStopped (after_turns m schedule n)
+
+-- After none of the turns of the schedule have all processors stopped.
+abbrev pub NeverEnds : FlatState → (schedule : ℕ → ℕ) → Type 0
+NeverEnds m schedule = (n : ℕ) → HasStopped (after_turns m schedule n) → ⊥
+
+-- Some fair schedule never ends.
+abbrev pub SomeFairScheduleNeverEnds : FlatState → Type 0
+SomeFairScheduleNeverEnds m = (schedule : ℕ → ℕ) × IsFair m schedule × NeverEnds m schedule
+
+-- ---- lassos by which fair schedules never end
+
+-- The turn that follows this many turns is a reference.
+pub record RefersAfter (m : FlatState) (schedule : ℕ → ℕ) (count : ℕ) : Type 0 where
+  pub processor : Processor
+  pub there : slice_get (after_turns m schedule count).processors (schedule count) ≡ Some processor
+  pub runs : is_running processor.status ≡ true
+  pub refers :
+      IsReference (turn_of (setting_of (after_turns m schedule count) (schedule count))
+      (after_turns m schedule count).code processor)
+
+-- The references of the schedule, which are endless, are made by these processors, one after another: `made` says how
+-- many of its first turns are references.
+pub record AreReferencesOf (m : FlatState) (schedule mover : ℕ → ℕ) : Type 0 where
+  pub made : ℕ → ℕ
+  pub none : made 0 ≡ 0
+  pub refers : (n : ℕ) → RefersAfter m schedule n → (schedule n ≡ mover (made n)) × (made (suc n) ≡ suc (made n))
+  pub alone : (n : ℕ) → (RefersAfter m schedule n → ⊥) → made (suc n) ≡ made n
+  pub endless : (i : ℕ) → (n : ℕ) × (made n ≡ i)
+
+-- the processor at a place of the stem with the cycle after it again and again
+abbrev pub mover_of : (stem cycle : List ℕ) → (place : ℕ) → ℕ
+mover_of (k ∷ stem) cycle zero = k
+mover_of (k ∷ stem) cycle (suc i) = mover_of stem cycle i
+mover_of [] (k ∷ cycle) zero = k
+mover_of [] (k ∷ cycle) (suc i) = mover_of cycle (k ∷ cycle) i
+mover_of [] [] i = 0
+
+-- Some fair schedule never ends in which the processors of the stem make one reference each, in this order, and then
+-- those of the cycle, again and again.
+abbrev pub IsEndlessBy : FlatState → (stem cycle : List ℕ) → Type 0
+IsEndlessBy m stem cycle =
+    (schedule : ℕ → ℕ) × IsFair m schedule × NeverEnds m schedule × AreReferencesOf m schedule (mover_of stem cycle)
+
+module _ (at : ℕ → Setting) (code : List ℕ) (kept : LocalState → LocalState) where
+  -- Moves of these processors, one after another, lead from s to t, through states in which no processor spins.
+  abbrev pub IsWalk : (s : MacroState) → (movers : List ℕ) → (t : MacroState) → Type 0
+  IsWalk s [] t = s ≡ t
+  IsWalk s (k ∷ ks) t = (HasSpinner at code s → ⊥) × (u : MacroState) × IsMove at code kept s k u × IsWalk u ks t
+
+  -- The walk leads from the state back to it, and each processor that may move in the state makes one of its moves.
+  pub record IsFairCycle (s : MacroState) (movers : List ℕ) : Type 0 where
+    pub some : 0 < length movers
+    pub back : IsWalk s movers s
+    pub fair : (k : ℕ) → MayMove at code s k → Contains movers k
 
 -- ---- ranks by which fair schedules end
 

@@ -1,7 +1,8 @@
 //! Laws of states between references. Each law is the contract of a function that does nothing.
 
 ghost use Rattle.local_reduction.specs.Laws.{ClosedSetsAreNotLeft, ClosedSetsContainAllFinalStates, MovesAreTurns};
-ghost use Rattle.local_reduction.specs.Laws.{FairlyRankedSchedulesEnd, MovesOfWhatIsKept, ShortSchedulesEnd};
+ghost use Rattle.local_reduction.specs.Laws.{FairCyclesNeverEnd, FairlyRankedSchedulesEnd, MovesOfWhatIsKept};
+ghost use Rattle.local_reduction.specs.Laws.{ShortSchedulesEnd};
 ghost use Rattle.local_reduction.specs.Laws.{StoppedAreForgotten};
 ghost use Rattle.local_reduction.specs.Laws.{WhatComesBackNeverAsks, WhatComesBackSpins};
 
@@ -55,4 +56,11 @@ pub fn short_schedules_end()
 /// ends.
 pub fn fairly_ranked_schedules_end()
     ensures ends { FairlyRankedSchedulesEnd }
+{}
+
+/// If references lead from the state that a flat machine reaches to another, and from there back to it, and each
+/// processor that is about to refer to a word there makes one of the latter, some fair schedule never ends: its
+/// references are these, and then those that lead back, again and again.
+pub fn fair_cycles_never_end()
+    ensures endless { FairCyclesNeverEnd }
 {}

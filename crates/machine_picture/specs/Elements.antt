@@ -1,9 +1,26 @@
--- The SVG elements of a picture. Texts have letters, digits and marks that XML spells as they are.
-use Rattle.std.specs.Prelude.{ℕ, List, ◌++◌, codes}
+-- The SVG elements of a picture.
+use Rattle.std.specs.Prelude.{ℕ, ◌==◌, List, ◌++◌, codes, if◌then◌else◌}
+use Rattle.std.specs.Char.{encode_utf8}
 use Rattle.std.specs.Fmt.{decimal}
+use Rattle.std.specs.List.{flat_map}
+use Rattle.std.specs.Str.{chars}
 use Rattle.machine_views.specs.command_io.Digits.{line_feed}
 use Rattle.machine_views.specs.declared.cell.Kind.{Kind}
 use Rattle.machine_views.specs.declared.cell.Kind.TheVariants as kind
+
+-- ---- texts
+
+-- A character of a text as XML spells it (XML 1.0, 2.4 and 4.6): `&`, `<`, `>` and `"` by their entities.
+abbrev pub escaped_char : ℕ → List ℕ
+escaped_char c =
+    if c == 38 then codes "&amp;" else
+    if c == 60 then codes "&lt;" else
+    if c == 62 then codes "&gt;" else
+    if c == 34 then codes "&quot;" else encode_utf8 c
+
+-- a text as XML spells it
+unfoldable pub escaped : List ℕ → List ℕ
+escaped text = flat_map escaped_char (chars text)
 
 -- ---- attributes
 
@@ -42,13 +59,14 @@ wire_text x y x' y' = codes "<line" ++ ends_text x y x' y' ++ codes "/>" ++ line
 -- a text of this class that begins at this point
 unfoldable pub label_text : (x y : ℕ) → (class text : List ℕ) → List ℕ
 label_text x y class text =
-    codes "<text" ++ corner_text x y ++ class_text class ++ codes ">" ++ text ++ codes "</text>" ++ line_feed
+    codes "<text" ++ corner_text x y ++ class_text class ++ codes ">" ++ escaped text ++ codes "</text>"
+    ++ line_feed
 
 -- a part of a text of several lines, at this distance below the part before it
 unfoldable pub span_text : (x down : ℕ) → (class text : List ℕ) → List ℕ
 span_text x down class text =
-    codes "<tspan" ++ attribute (codes "x") x ++ attribute (codes "dy") down ++ class_text class ++ codes ">" ++ text
-    ++ codes "</tspan>"
+    codes "<tspan" ++ attribute (codes "x") x ++ attribute (codes "dy") down ++ class_text class ++ codes ">"
+    ++ escaped text ++ codes "</tspan>"
 
 -- the class of a line
 abbrev pub class_of : Kind → List ℕ

@@ -2,7 +2,7 @@
 
 ghost use Rattle.std.specs.Prelude.{◌≡◌, ◌++◌, OnOk, string_bytes};
 ghost use Rattle.machine_picture.specs.Elements.{attribute, box_text, class_of, class_text, corner_text, ends_text};
-ghost use Rattle.machine_picture.specs.Elements.{label_text, size_text, span_text, wire_text};
+ghost use Rattle.machine_picture.specs.Elements.{escaped, escaped_char, label_text, size_text, span_text, wire_text};
 
 use machine_views::Kind;
 use std::alloc::AllocError;
@@ -109,7 +109,7 @@ pub fn push_label(text: &mut String, at: Point, class: &str, shown: &str) -> Res
     push_corner(text, at)?;
     push_class(text, class)?;
     text.push('>')?;
-    text.push_str(shown)?;
+    push_escaped(text, shown)?;
     text.push_str("</text>")?;
     text.push('\n')
 }
@@ -130,8 +130,32 @@ pub fn push_span(
     push_attribute(text, "dy", down)?;
     push_class(text, class)?;
     text.push('>')?;
-    text.push_str(shown)?;
+    push_escaped(text, shown)?;
     text.push_str("</tspan>")
+}
+
+/// Appends a text as XML spells it.
+#[tactic(auto, unfolding(crate::specs::Elements::escaped))]
+fn push_escaped(text: &mut String, shown: &str) -> Result<(), AllocError>
+    ensures { OnOk result (string_bytes text.new ≡ string_bytes text.old ++ escaped shown.now) }
+{
+    for letter in shown.chars() {
+        push_escaped_char(text, letter)?;
+    }
+    Ok(())
+}
+
+/// Appends a character as XML spells it.
+fn push_escaped_char(text: &mut String, letter: char) -> Result<(), AllocError>
+    ensures { OnOk result (string_bytes text.new ≡ string_bytes text.old ++ escaped_char letter) }
+{
+    match letter {
+        '&' => text.push_str("&amp;"),
+        '<' => text.push_str("&lt;"),
+        '>' => text.push_str("&gt;"),
+        '"' => text.push_str("&quot;"),
+        _ => text.push(letter),
+    }
 }
 
 /// The class of a line.

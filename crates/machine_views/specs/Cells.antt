@@ -6,6 +6,7 @@ use Rattle.std.specs.List.{fold, list_any}
 use Rattle.std.specs.Option.{option_and_then}
 use Rattle.messages.specs.declared.message.Record.{Record}
 use Rattle.omega_wires.specs.Wires.{rotated_right}
+use Rattle.machine_views.specs.Names.{Naming}
 use Rattle.machine_views.specs.Places.{each_below, place_at}
 use Rattle.machine_views.specs.Texts.{processor_text, record_text, reply_text, request_text, word_text}
 use Rattle.machine_views.specs.declared.cell.Cell.{Cell}
@@ -21,8 +22,8 @@ use Rattle.machine_views.specs.declared.view.SharedWord.{SharedWord}
 
 -- ---- lines
 
-abbrev pub request_line : RequestView → Line
-request_line x = record { kind = kind.Request; text = request_text x }
+abbrev pub request_line : Naming → RequestView → Line
+request_line n x = record { kind = kind.Request; text = request_text n x }
 
 abbrev pub record_line : Record → Line
 record_line e = record { kind = kind.Record; text = record_text e }
@@ -30,13 +31,13 @@ record_line e = record { kind = kind.Record; text = record_text e }
 abbrev pub reply_line : ReplyView → Line
 reply_line y = record { kind = kind.Reply; text = reply_text y }
 
-abbrev pub word_line : SharedWord → Line
-word_line w = record { kind = kind.Word; text = word_text w }
+abbrev pub word_line : Naming → SharedWord → Line
+word_line n w = record { kind = kind.Word; text = word_text n w }
 
 -- the requests of a place, the first to go on first
-abbrev pub request_lines : Option PlaceView → List Line
-request_lines None = []
-request_lines (Some place) = map request_line place.requests
+abbrev pub request_lines : Naming → Option PlaceView → List Line
+request_lines n None = []
+request_lines n (Some place) = map (request_line n) place.requests
 
 -- the wait buffer before a place, the oldest record first
 abbrev pub record_lines : Option PlaceView → List Line
@@ -80,49 +81,49 @@ abbrev pub wires_of : MachineView → ℕ
 wires_of v = 2 ^ stages_of v
 
 -- the title of a processor's cell
-abbrev pub processor_title : (processor : ℕ) → Option ProcessorView → List ℕ
-processor_title p None = decimal p
-processor_title p (Some v) = processor_text p v
+abbrev pub processor_title : Naming → (processor : ℕ) → Option ProcessorView → List ℕ
+processor_title n p None = decimal p
+processor_title n p (Some v) = processor_text n p v
 
 -- a processor, with the request in its slot
-abbrev pub processor_cell : MachineView → (processor : ℕ) → Cell
-processor_cell v p = record {
-  title = processor_title p (slice_get v.processors p);
-  lines = request_lines (place_at v.places 0 p);
+abbrev pub processor_cell : Naming → MachineView → (processor : ℕ) → Cell
+processor_cell n v p = record {
+  title = processor_title n p (slice_get v.processors p);
+  lines = request_lines n (place_at v.places 0 p);
 }
 
 -- the replies at an input of a switch, and the wait buffer and the requests of the output beside it
-abbrev pub switch_lines : MachineView → (stage wire : ℕ) → List Line
-switch_lines v s w =
+abbrev pub switch_lines : Naming → MachineView → (stage wire : ℕ) → List Line
+switch_lines n v s w =
     reply_lines (place_at v.places s (rotated_right (stages_of v) w)) ++ record_lines (place_at v.places (suc s) w)
-    ++ request_lines (place_at v.places (suc s) w)
+    ++ request_lines n (place_at v.places (suc s) w)
 
 -- the output of a switch to a wire, and the input beside it
-abbrev pub switch_cell : MachineView → (stage wire : ℕ) → Cell
-switch_cell v s w = record { title = codes "wire " ++ decimal w; lines = switch_lines v s w }
+abbrev pub switch_cell : Naming → MachineView → (stage wire : ℕ) → Cell
+switch_cell n v s w = record { title = codes "wire " ++ decimal w; lines = switch_lines n v s w }
 
 -- the words of a module, and the reply in its slot
-abbrev pub module_lines : MachineView → (number : ℕ) → List Line
-module_lines v m =
-    map word_line (words_of (wires_of v) m v.processors) ++ reply_lines (place_at v.places (stages_of v) m)
+abbrev pub module_lines : Naming → MachineView → (number : ℕ) → List Line
+module_lines n v m =
+    map (word_line n) (words_of (wires_of v) m v.processors) ++ reply_lines (place_at v.places (stages_of v) m)
 
-abbrev pub module_cell : MachineView → (number : ℕ) → Cell
-module_cell v m = record { title = codes "module " ++ decimal m; lines = module_lines v m }
+abbrev pub module_cell : Naming → MachineView → (number : ℕ) → Cell
+module_cell n v m = record { title = codes "module " ++ decimal m; lines = module_lines n v m }
 
 -- the cell of a column and a row: column 0 has the processors, the next ones have the stages, the last has the modules
-abbrev pub cell_of : MachineView → (column row : ℕ) → Cell
-cell_of v zero row = processor_cell v row
-cell_of v (suc s) row = if nat_le (suc s) (stages_of v) then switch_cell v s row else module_cell v row
+abbrev pub cell_of : Naming → MachineView → (column row : ℕ) → Cell
+cell_of n v zero row = processor_cell n v row
+cell_of n v (suc s) row = if nat_le (suc s) (stages_of v) then switch_cell n v s row else module_cell n v row
 
 -- ---- the cells
 
 -- the cells of a column, from the top
-abbrev pub column_of : MachineView → (column : ℕ) → List Cell
-column_of v column = each_below (cell_of v column) (wires_of v)
+abbrev pub column_of : Naming → MachineView → (column : ℕ) → List Cell
+column_of n v column = each_below (cell_of n v column) (wires_of v)
 
--- all cells, column by column
-unfoldable pub cells_of : MachineView → Cells
-cells_of v = record { stages = stages_of v; columns = each_below (column_of v) (stages_of v + 2) }
+-- all cells, column by column, with these names
+unfoldable pub cells_of : Naming → MachineView → Cells
+cells_of n v = record { stages = stages_of v; columns = each_below (column_of n v) (stages_of v + 2) }
 
 -- the cell of a column and a row, if there is such a cell
 abbrev pub cell_at : Cells → (column row : ℕ) → Option Cell

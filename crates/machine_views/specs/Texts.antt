@@ -8,6 +8,7 @@ use Rattle.messages.specs.declared.message.Record.{Record}
 use Rattle.phi_algebra.specs.declared.phi.Phi.{Phi}
 use Rattle.phi_algebra.specs.Functions.{is_identity}
 use Rattle.trace_lines.specs.Functions.{function_text}
+use Rattle.machine_views.specs.Names.{Naming, pc_text, shared_word_text}
 use Rattle.machine_views.specs.declared.view.ProcessorView.{ProcessorView}
 use Rattle.machine_views.specs.declared.view.ReplyView.{ReplyView}
 use Rattle.machine_views.specs.declared.view.RequestView.{RequestView}
@@ -40,12 +41,12 @@ group_text (p ∷ ps) = led_text p ps
 
 -- what leads from a function to its word
 abbrev pub link_text : Phi → List ℕ
-link_text f = if is_identity f then codes " word " else codes " to word "
+link_text f = if is_identity f then codes " " else codes " to "
 
--- `add V to word N {P P ..}`, or `load word N {P P ..}`
-unfoldable pub request_text : RequestView → List ℕ
-request_text x =
-    function_text x.request.phi ++ link_text x.request.phi ++ decimal x.request.word ++ group_text x.group
+-- `add V to word N {P P ..}`, or `load word N {P P ..}`; a word that has a name has it in place of `word N`
+unfoldable pub request_text : Naming → RequestView → List ℕ
+request_text n x =
+    function_text x.request.phi ++ link_text x.request.phi ++ shared_word_text n x.request.word ++ group_text x.group
 
 -- `Q waits for P: add V`: processor Q finds what this function makes of the value that P finds
 unfoldable pub record_text : Record → List ℕ
@@ -58,15 +59,15 @@ reply_text y = codes "reply " ++ hex_of_word y.reply.value ++ group_text y.group
 -- ---- processors and words
 
 -- ` word N`: the word of an open reference
-abbrev pub referred_text : Option SharedWord → List ℕ
-referred_text None = []
-referred_text (Some w) = codes " word " ++ decimal w.number
+abbrev pub referred_text : Naming → Option SharedWord → List ℕ
+referred_text n None = []
+referred_text n (Some w) = codes " " ++ shared_word_text n w.number
 
--- `P STATUS AAAAAAAA word N`
-unfoldable pub processor_text : (processor : ℕ) → ProcessorView → List ℕ
-processor_text p v =
-    decimal p ++ codes " " ++ status_text v.status ++ codes " " ++ hex_of_word v.pc ++ referred_text v.word
+-- `P STATUS AAAAAAAA word N`, with the names of the `pc` and of the word in their places
+unfoldable pub processor_text : Naming → (processor : ℕ) → ProcessorView → List ℕ
+processor_text n p v =
+    decimal p ++ codes " " ++ status_text v.status ++ codes " " ++ pc_text n v.pc ++ referred_text n v.word
 
--- `word N = V`
-unfoldable pub word_text : SharedWord → List ℕ
-word_text w = codes "word " ++ decimal w.number ++ codes " = " ++ hex_of_word w.value
+-- `word N = V`, or `NAME = V`
+unfoldable pub word_text : Naming → SharedWord → List ℕ
+word_text n w = shared_word_text n w.number ++ codes " = " ++ hex_of_word w.value

@@ -10,6 +10,7 @@ ghost use Rattle.machine_views.specs.Cells.{request_lines, cells_of, stages_of, 
 
 use crate::cell::{Cell, Cells, Kind, Line, Text};
 use crate::module_words::words_of;
+use crate::names::Names;
 use crate::row::Row;
 use crate::texts::{processor_text, record_text, reply_text, request_text, word_text};
 use crate::view::{MachineView, PlaceView, ProcessorView, ReplyView, RequestView, SharedWord};
@@ -17,65 +18,90 @@ use messages::Record;
 use omega_wires::rotate_right;
 use std::alloc::{AllocError, Global};
 
-/// All cells of a view.
+/// All cells of a view, with these names.
+///
+/// # Errors
+///
+/// [`AllocError`] if there is no memory for the cells.
 #[tactic(auto, unfolding(crate::specs::Cells::cells_of))]
-pub fn cells_of(alloc: Global, view: &MachineView) -> Result<Cells, AllocError>
-    ensures exact { IfOk result (λ cells. cells ≡ cells_of view.now) }
+pub fn cells_of(alloc: Global, names: &Names<'_>, view: &MachineView) -> Result<Cells, AllocError>
+    ensures exact { IfOk result (λ cells. cells ≡ cells_of names.now view.now) }
     ensures few { IfOk result (λ cells. cells.stages ≤ 6) }
 {
     let stages = view.config.k.min(6);
-    let columns = columns_of(alloc, view, stages)?;
+    let columns = columns_of(alloc, names, view, stages)?;
     Ok(Cells { stages, columns })
 }
 
 /// The columns of a view that has this many stages.
-fn columns_of(alloc: Global, view: &MachineView, stages: u8) -> Result<Row<Row<Cell>>, AllocError>
+fn columns_of(
+    alloc: Global,
+    names: &Names<'_>,
+    view: &MachineView,
+    stages: u8,
+) -> Result<Row<Row<Cell>>, AllocError>
     requires { stages ≤ 6 }
-    ensures { IfOk result (λ columns. columns ≡ each_below (column_of view.now) (stages + 2)) }
+    ensures { IfOk result (λ columns. columns ≡ each_below (column_of names.now view.now) (stages + 2)) }
 {
     let mut columns = Vec::new(alloc);
     for column in 0..stages + 2 {
-        columns.push(column_of(alloc, view, column)?)?;
+        columns.push(column_of(alloc, names, view, column)?)?;
     }
     Ok(Row::of(columns))
 }
 
 /// The cells of a column.
-fn column_of(alloc: Global, view: &MachineView, column: u8) -> Result<Row<Cell>, AllocError>
-    ensures { IfOk result (λ cells. cells ≡ column_of view.now column) }
+fn column_of(
+    alloc: Global,
+    names: &Names<'_>,
+    view: &MachineView,
+    column: u8,
+) -> Result<Row<Cell>, AllocError>
+    ensures { IfOk result (λ cells. cells ≡ column_of names.now view.now column) }
 {
     let mut cells = Vec::new(alloc);
     for row in 0..wires_of(view.config.k.min(6)) {
-        cells.push(cell_of(alloc, view, column, row)?)?;
+        cells.push(cell_of(alloc, names, view, column, row)?)?;
     }
     Ok(Row::of(cells))
 }
 
 /// The cell of a column and a row.
-fn cell_of(alloc: Global, view: &MachineView, column: u8, row: u8) -> Result<Cell, AllocError>
+fn cell_of(
+    alloc: Global,
+    names: &Names<'_>,
+    view: &MachineView,
+    column: u8,
+    row: u8,
+) -> Result<Cell, AllocError>
     requires { row < wires_of view.now }
-    ensures { IfOk result (λ cell. cell ≡ cell_of view.now column row) }
+    ensures { IfOk result (λ cell. cell ≡ cell_of names.now view.now column row) }
 {
     match column.checked_sub(1) {
-        None => processor_cell(alloc, view, row),
+        None => processor_cell(alloc, names, view, row),
         Some(stage) => {
             if column <= view.config.k.min(6) {
-                switch_cell(alloc, view, stage, row)
+                switch_cell(alloc, names, view, stage, row)
             } else {
-                module_cell(alloc, view, row)
+                module_cell(alloc, names, view, row)
             }
         }
     }
 }
 
 /// A processor, with the request in its slot.
-fn processor_cell(alloc: Global, view: &MachineView, processor: u8) -> Result<Cell, AllocError>
-    ensures { IfOk result (λ cell. cell ≡ processor_cell view.now processor) }
+fn processor_cell(
+    alloc: Global,
+    names: &Names<'_>,
+    view: &MachineView,
+    processor: u8,
+) -> Result<Cell, AllocError>
+    ensures { IfOk result (λ cell. cell ≡ processor_cell names.now view.now processor) }
 {
     let shown = view.processors.as_slice().get(usize::from(processor));
-    let title = processor_title(alloc, processor, shown)?;
+    let title = processor_title(alloc, names, processor, shown)?;
     let mut lines = Vec::new(alloc);
-    push_requests(alloc, &mut lines, view.place(0, processor))?;
+    push_requests(alloc, names, &mut lines, view.place(0, processor))?;
     Ok(Cell {
         title: Text::of(title),
         lines: Row::of(lines),
@@ -85,25 +111,33 @@ fn processor_cell(alloc: Global, view: &MachineView, processor: u8) -> Result<Ce
 /// The title of a processor.
 fn processor_title(
     alloc: Global,
+    names: &Names<'_>,
     processor: u8,
     shown: Option<&ProcessorView>,
 ) -> Result<String, AllocError>
-    ensures { IfOk result (λ title. string_bytes title ≡ processor_title processor (option_copied shown.entry)) }
+    ensures { IfOk result (λ title. string_bytes title
+        ≡ processor_title names.now processor (option_copied shown.entry)) }
 {
     match shown {
-        Some(shown) => processor_text(alloc, processor, shown),
+        Some(shown) => processor_text(alloc, names, processor, shown),
         None => format!(in alloc; "{processor}"),
     }
 }
 
 /// An output of a switch, with the input beside it.
-fn switch_cell(alloc: Global, view: &MachineView, stage: u8, wire: u8) -> Result<Cell, AllocError>
+fn switch_cell(
+    alloc: Global,
+    names: &Names<'_>,
+    view: &MachineView,
+    stage: u8,
+    wire: u8,
+) -> Result<Cell, AllocError>
     requires stage { stage < stages_of view.now }
     requires wire { wire < wires_of view.now }
-    ensures { IfOk result (λ cell. cell ≡ switch_cell view.now stage wire) }
+    ensures { IfOk result (λ cell. cell ≡ switch_cell names.now view.now stage wire) }
 {
     let title = format!(in alloc; "wire {wire}")?;
-    let lines = switch_lines(alloc, view, stage, wire)?;
+    let lines = switch_lines(alloc, names, view, stage, wire)?;
     Ok(Cell {
         title: Text::of(title),
         lines,
@@ -113,29 +147,35 @@ fn switch_cell(alloc: Global, view: &MachineView, stage: u8, wire: u8) -> Result
 /// The lines of an output of a switch and the input beside it.
 fn switch_lines(
     alloc: Global,
+    names: &Names<'_>,
     view: &MachineView,
     stage: u8,
     wire: u8,
 ) -> Result<Row<Line>, AllocError>
     requires stage { stage < stages_of view.now }
     requires wire { wire < wires_of view.now }
-    ensures { IfOk result (λ lines. lines ≡ switch_lines view.now stage wire) }
+    ensures { IfOk result (λ lines. lines ≡ switch_lines names.now view.now stage wire) }
 {
     let before = rotate_right(view.config.k.min(6), wire);
     let after = view.place(stage + 1, wire);
     let mut lines = Vec::new(alloc);
     push_replies(alloc, &mut lines, view.place(stage, before))?;
     push_records(alloc, &mut lines, after)?;
-    push_requests(alloc, &mut lines, after)?;
+    push_requests(alloc, names, &mut lines, after)?;
     Ok(Row::of(lines))
 }
 
 /// The module of this number, with the words to which processors refer, and the reply in its slot.
-fn module_cell(alloc: Global, view: &MachineView, number: u8) -> Result<Cell, AllocError>
-    ensures { IfOk result (λ cell. cell ≡ module_cell view.now number) }
+fn module_cell(
+    alloc: Global,
+    names: &Names<'_>,
+    view: &MachineView,
+    number: u8,
+) -> Result<Cell, AllocError>
+    ensures { IfOk result (λ cell. cell ≡ module_cell names.now view.now number) }
 {
     let title = format!(in alloc; "module {number}")?;
-    let lines = module_lines(alloc, view, number)?;
+    let lines = module_lines(alloc, names, view, number)?;
     Ok(Cell {
         title: Text::of(title),
         lines,
@@ -143,14 +183,19 @@ fn module_cell(alloc: Global, view: &MachineView, number: u8) -> Result<Cell, Al
 }
 
 /// The lines of the module of this number.
-fn module_lines(alloc: Global, view: &MachineView, number: u8) -> Result<Row<Line>, AllocError>
-    ensures { IfOk result (λ lines. lines ≡ module_lines view.now number) }
+fn module_lines(
+    alloc: Global,
+    names: &Names<'_>,
+    view: &MachineView,
+    number: u8,
+) -> Result<Row<Line>, AllocError>
+    ensures { IfOk result (λ lines. lines ≡ module_lines names.now view.now number) }
 {
     let stages = view.config.k.min(6);
     let processors = view.processors.as_slice();
     let words = words_of(alloc, wires_of(stages), number, processors)?;
     let mut lines = Vec::new(alloc);
-    push_words(alloc, &mut lines, words.as_slice())?;
+    push_words(alloc, names, &mut lines, words.as_slice())?;
     push_replies(alloc, &mut lines, view.place(stages, number))?;
     Ok(Row::of(lines))
 }
@@ -158,23 +203,30 @@ fn module_lines(alloc: Global, view: &MachineView, number: u8) -> Result<Row<Lin
 /// Appends the requests of a place.
 fn push_requests(
     alloc: Global,
+    names: &Names<'_>,
     lines: &mut Vec<Line>,
     place: Option<&PlaceView>,
 ) -> Result<(), AllocError>
-    ensures { OnOk result (lines.new.items ≡ lines.old.items ++ request_lines (option_copied place.entry)) }
+    ensures { OnOk result (lines.new.items
+        ≡ lines.old.items ++ request_lines names.now (option_copied place.entry)) }
 {
     match place {
-        Some(place) => push_sent(alloc, lines, place.requests.as_slice()),
+        Some(place) => push_sent(alloc, names, lines, place.requests.as_slice()),
         None => Ok(()),
     }
 }
 
 /// Appends requests.
-fn push_sent(alloc: Global, lines: &mut Vec<Line>, all: &[RequestView]) -> Result<(), AllocError>
-    ensures { OnOk result (lines.new.items ≡ lines.old.items ++ map request_line all.now) }
+fn push_sent(
+    alloc: Global,
+    names: &Names<'_>,
+    lines: &mut Vec<Line>,
+    all: &[RequestView],
+) -> Result<(), AllocError>
+    ensures { OnOk result (lines.new.items ≡ lines.old.items ++ map (request_line names.now) all.now) }
 {
     for shown in all {
-        let text = Text::of(request_text(alloc, shown)?);
+        let text = Text::of(request_text(alloc, names, shown)?);
         lines.push(Line {
             kind: Kind::Request,
             text,
@@ -240,11 +292,16 @@ fn push_answers(alloc: Global, lines: &mut Vec<Line>, all: &[ReplyView]) -> Resu
 }
 
 /// Appends words.
-fn push_words(alloc: Global, lines: &mut Vec<Line>, words: &[SharedWord]) -> Result<(), AllocError>
-    ensures { OnOk result (lines.new.items ≡ lines.old.items ++ map word_line words.now) }
+fn push_words(
+    alloc: Global,
+    names: &Names<'_>,
+    lines: &mut Vec<Line>,
+    words: &[SharedWord],
+) -> Result<(), AllocError>
+    ensures { OnOk result (lines.new.items ≡ lines.old.items ++ map (word_line names.now) words.now) }
 {
     for word in words {
-        let text = Text::of(word_text(alloc, word)?);
+        let text = Text::of(word_text(alloc, names, word)?);
         lines.push(Line {
             kind: Kind::Word,
             text,

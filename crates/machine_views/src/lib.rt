@@ -6,7 +6,8 @@
 //! served.
 //!
 //! [`cells_of`] makes the [`Cells`] of a view: the lines of text of each processor, of each output of a switch with the
-//! input beside it, and of each module (`specs/Cells.antt`). A picture lays them out (crate `machine_picture`).
+//! input beside it, and of each module (`specs/Cells.antt`). A picture lays them out (crate `machine_picture`). Program
+//! counters and shared words have their [`Names`], if a table of symbols is given (`specs/Names.antt`).
 //!
 //! For stories, [`subject_of`] says which message and which shared word a step is about, and [`values_of`] which values
 //! it tells.
@@ -16,6 +17,7 @@ mod cell;
 mod cells;
 mod groups;
 mod module_words;
+mod names;
 mod places;
 mod processors;
 mod row;
@@ -26,6 +28,7 @@ mod view;
 
 pub use cell::{Cell, Cells, Kind, Line, Text};
 pub use cells::{cells_of, wires_of};
+pub use names::Names;
 pub use processors::view_of;
 pub use row::Row;
 pub use subjects::subject_of;

@@ -5,6 +5,7 @@ ghost use Rattle.machine_views.specs.Texts.{cut_text, group_text, led_text, link
 ghost use Rattle.machine_views.specs.Texts.{processor_text, record_text, referred_text, reply_text, request_text};
 ghost use Rattle.machine_views.specs.Texts.{word_text};
 
+use crate::names::{Names, push_pc, push_shared_word};
 use crate::view::{ProcessorView, ReplyView, RequestView, SharedWord};
 use command_io::{push_status, push_word};
 use messages::Record;
@@ -15,14 +16,17 @@ use trace_lines::push_function;
 
 /// A request: its function, its word and its group.
 #[tactic(auto, unfolding(crate::specs::Texts::request_text))]
-pub fn request_text(alloc: Global, shown: &RequestView) -> Result<String, AllocError>
-    ensures { IfOk result (λ text. string_bytes text ≡ request_text shown.now) }
+pub fn request_text(
+    alloc: Global,
+    names: &Names<'_>,
+    shown: &RequestView,
+) -> Result<String, AllocError>
+    ensures { IfOk result (λ text. string_bytes text ≡ request_text names.now shown.now) }
 {
     let mut text = String::new(alloc);
     push_function(alloc, &mut text, &shown.request.phi)?;
     push_link(&mut text, &shown.request.phi)?;
-    let word = shown.request.word;
-    write!(text, "{word}")?;
+    push_shared_word(alloc, &mut text, names, shown.request.word)?;
     push_group(&mut text, shown.group.as_slice())?;
     Ok(text)
 }
@@ -32,9 +36,9 @@ fn push_link(text: &mut String, function: &Phi) -> Result<(), AllocError>
     ensures { OnOk result (string_bytes text.new ≡ string_bytes text.old ++ link_text function.now) }
 {
     if function.is_identity() {
-        text.push_str(" word ")
+        text.push_str(" ")
     } else {
-        text.push_str(" to word ")
+        text.push_str(" to ")
     }
 }
 
@@ -126,38 +130,47 @@ fn push_members(text: &mut String, members: &[u8]) -> Result<(), AllocError>
 #[tactic(auto, unfolding(crate::specs::Texts::processor_text))]
 pub fn processor_text(
     alloc: Global,
+    names: &Names<'_>,
     processor: u8,
     shown: &ProcessorView,
 ) -> Result<String, AllocError>
-    ensures { IfOk result (λ text. string_bytes text ≡ processor_text processor shown.now) }
+    ensures { IfOk result (λ text. string_bytes text ≡ processor_text names.now processor shown.now) }
 {
     let mut text = String::new(alloc);
     write!(text, "{processor} ")?;
     push_status(alloc, &mut text, shown.status)?;
     text.push(' ')?;
-    push_word(alloc, &mut text, shown.pc)?;
-    push_referred(&mut text, &shown.word)?;
+    push_pc(alloc, &mut text, names, shown.pc)?;
+    push_referred(alloc, &mut text, names, &shown.word)?;
     Ok(text)
 }
 
 /// Appends the word of an open reference, if one is open.
-fn push_referred(text: &mut String, word: &Option<SharedWord>) -> Result<(), AllocError>
-    ensures { OnOk result (string_bytes text.new ≡ string_bytes text.old ++ referred_text word.now) }
+fn push_referred(
+    alloc: Global,
+    text: &mut String,
+    names: &Names<'_>,
+    word: &Option<SharedWord>,
+) -> Result<(), AllocError>
+    ensures { OnOk result (string_bytes text.new ≡ string_bytes text.old ++ referred_text names.now word.now) }
 {
     match *word {
-        Some(SharedWord { number, .. }) => write!(text, " word {number}"),
+        Some(SharedWord { number, .. }) => {
+            text.push(' ')?;
+            push_shared_word(alloc, text, names, number)
+        }
         None => Ok(()),
     }
 }
 
 /// A shared word, with its value.
 #[tactic(auto, unfolding(crate::specs::Texts::word_text))]
-pub fn word_text(alloc: Global, word: &SharedWord) -> Result<String, AllocError>
-    ensures { IfOk result (λ text. string_bytes text ≡ word_text word.now) }
+pub fn word_text(alloc: Global, names: &Names<'_>, word: &SharedWord) -> Result<String, AllocError>
+    ensures { IfOk result (λ text. string_bytes text ≡ word_text names.now word.now) }
 {
     let mut text = String::new(alloc);
-    let number = word.number;
-    write!(text, "word {number} = ")?;
+    push_shared_word(alloc, &mut text, names, word.number)?;
+    text.push_str(" = ")?;
     push_word(alloc, &mut text, word.value)?;
     Ok(text)
 }

@@ -6,3 +6,4 @@ pub mod Rounds
 pub mod Lines
 pub mod Latencies
 pub mod LatencyLines
+pub mod QueueLengths

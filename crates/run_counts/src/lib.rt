@@ -5,6 +5,9 @@
 //!
 //! `specs/Latencies.antt` says how many rounds a reference takes, and `specs/LatencyLines.antt` which lines are
 //! printed. [`Latencies`] observes each step, and [`latencies_text`] makes the lines.
+//!
+//! `specs/QueueLengths.antt` says which lines are printed of [`StageLengths`]: of what waits at a stage when a round
+//! ends.
 #![tactic(auto)]
 
 mod counters;
@@ -15,6 +18,7 @@ mod latency_lines;
 pub mod laws;
 mod lines;
 mod longest;
+mod queue_lengths;
 mod rounds;
 mod sample;
 mod samples;
@@ -24,4 +28,5 @@ pub use latencies::Latencies;
 pub use latency_lines::latencies_text;
 pub use lines::counts_text;
 pub use longest::{Held, Longest};
+pub use queue_lengths::{LengthsFormat, StageLengths, lengths_text};
 pub use rounds::{Begun, rounds_after, rounds_of};

@@ -272,7 +272,7 @@ flags_on_files OfAsm = codes "course" ∷ []
 flags_on_files OfReplay = codes "decimal" ∷ codes "json" ∷ []
 flags_on_files OfOrder = codes "abi" ∷ codes "decimal" ∷ codes "json" ∷ []
 flags_on_files OfStory = codes "rounds" ∷ codes "decimal" ∷ codes "json" ∷ []
-flags_on_files OfStats = codes "latency" ∷ codes "csv" ∷ codes "json" ∷ []
+flags_on_files OfStats = codes "latency" ∷ codes "queues" ∷ codes "csv" ∷ codes "json" ∷ []
 flags_on_files OfPicture = []
 flags_on_files OfSteps = []
 
@@ -333,12 +333,18 @@ files_are OfStory one other words named (asked.Story s) said =
     )
 files_are OfStats one other words named (asked.Stats n) said =
     let files = said.1.0 in
-    let shared = files.2 in
-    (trace_read one other n.replay words named files.0 files.1 shared.0, unset n.latency said.1.1.0, unset n.csv said.1.2.0, unset n.json said.1.3.0)
+    let shared = files.2 in (
+      trace_read one other n.replay words named files.0 files.1 shared.0,
+      unset n.latency said.1.1.0,
+      unset n.queues said.1.2.0,
+      unset n.csv
+          said.1.3.0,
+      unset n.json said.1.4.0,
+    )
 files_are OfPicture one other words named (asked.Picture p) said =
     let files = said.1.0 in
     let shared = files.2 in
-    (trace_read one other p.replay words named files.0 files.1 shared.0, said.1.1)
+    (trace_read one other p.replay words named files.0 files.1 shared.0, said.1.1, no_text p.symbols said.1.2)
 files_are c one other words named chosen said = apart (name_of chosen) (name_on_files c) refl said.0
 
 -- The words give both files of the command, 1,024 shared words, no names, no choice, and no flag.

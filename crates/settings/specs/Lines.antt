@@ -122,10 +122,10 @@ GivesStory rows s = GivesLines rows s.lines × IsFlag (codes "rounds") rows s.ro
 
 abbrev pub GivesCounts : List Row → Counts → Type 0
 GivesCounts rows c = GivesReplay rows c.replay × IsFlag (codes "latency") rows c.latency
-    × IsFlag (codes "csv") rows c.csv × IsFlag (codes "json") rows c.json
+    × IsFlag (codes "queues") rows c.queues × IsFlag (codes "csv") rows c.csv × IsFlag (codes "json") rows c.json
 
 abbrev pub GivesPicture : List Row → Picture → Type 0
-GivesPicture rows p = GivesReplay rows p.replay × IsChoice step rows p.step
+GivesPicture rows p = GivesReplay rows p.replay × IsChoice step rows p.step × IsOption (codes "symbols") rows p.symbols
 
 abbrev pub GivesTrace : List Row → Trace → Type 0
 GivesTrace rows t = IsPath (codes "TRACE") rows t.trace.now

@@ -72,9 +72,9 @@ IsPlain (asked.Explore x) words = HasFile (codes "explore") x.file.now words
 IsPlain (asked.Replay r) words = HasTrace (codes "replay") r.replay words × IsAsItIs r.style
 IsPlain (asked.Order o) words = HasTrace (codes "order") o.lines.replay words × TakesAll o.lines × (o.abi ≡ false)
 IsPlain (asked.Story s) words = HasTrace (codes "story") s.lines.replay words × TakesAll s.lines × (s.rounds ≡ false)
-IsPlain (asked.Stats c) words = HasTrace (codes "stats") c.replay words × (c.latency ≡ false) × (c.csv ≡ false)
-    × (c.json ≡ false)
-IsPlain (asked.Picture p) words = HasTrace (codes "picture") p.replay words × (p.step ≡ None)
+IsPlain (asked.Stats c) words = HasTrace (codes "stats") c.replay words × (c.latency ≡ false)
+    × (c.queues ≡ false) × (c.csv ≡ false) × (c.json ≡ false)
+IsPlain (asked.Picture p) words = HasTrace (codes "picture") p.replay words × (p.step ≡ None) × (p.symbols ≡ None)
 IsPlain (asked.Trace t) words = HasFile (codes "trace") t.trace.now words
 IsPlain (asked.Steps s) words = HasFiles (codes "steps") s.file.now s.out.now words
 IsPlain (asked.Debug d) words = HasFile (codes "debug") d.file.now words

@@ -144,6 +144,8 @@ pub struct Counts<'a> {
     pub replay: Replay<'a>,
     /// Whether latencies are printed, too.
     pub latency: bool,
+    /// Whether the lengths of queues are printed, too.
+    pub queues: bool,
     /// Whether counts are printed as CSV.
     pub csv: bool,
     /// Whether lines are printed as JSON.
@@ -199,6 +201,8 @@ pub struct Picture<'a> {
     pub replay: Replay<'a>,
     /// How many steps the machine takes before it is drawn; None for all.
     pub step: Option<u32>,
+    /// The file with the names that are drawn in place of addresses and words, if given.
+    pub symbols: Option<&'a str>,
 }
 
 /// `trace TRACE`.
@@ -239,7 +243,7 @@ pub struct Session<'a> {
 pub struct Explore<'a> {
     /// The image.
     pub file: &'a str,
-    /// Where to write the trace of a witness, if anywhere.
+    /// Where to write the trace of a witness or a lasso, if anywhere.
     pub trace: Option<&'a str>,
     /// The list of the words by which results are observed, if given. It may be no list.
     pub observe: Option<&'a str>,

@@ -240,6 +240,7 @@ fn counts<'a>(matches: &ArgMatches<'a>) -> Counts<'a>
     Counts {
         replay: replay(matches),
         latency: flag(matches, "latency"),
+        queues: flag(matches, "queues"),
         csv: flag(matches, "csv"),
         json: flag(matches, "json"),
     }
@@ -318,6 +319,7 @@ fn picture<'a>(matches: &ArgMatches<'a>) -> Picture<'a>
     Picture {
         replay: replay(matches),
         step: choice(matches, STEP),
+        symbols: option(matches, "symbols"),
     }
 }
 

@@ -1,5 +1,6 @@
 pub mod Cutting
 pub mod Ranking
+pub mod Walking
 pub mod Scheduling
 pub mod Resulting
 pub mod Shortest

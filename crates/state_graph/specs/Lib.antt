@@ -2,6 +2,8 @@ pub mod Cutting
 pub mod Paths
 pub mod Ranks
 pub mod Fairness
+pub mod Lassos
+pub mod Certificates
 pub mod Termination
 pub mod Search
 pub mod Laws

@@ -4,10 +4,10 @@
 //! processor as its helper, so that no move raises the rank, and each move of the helper lowers it. [`fair_ranks_of`]
 //! looks for such ranks, by rounds: of the states that have none yet, it ranks those from which moves can lead to no
 //! state without a rank in which a certain processor stays without a rank when it moves. In model checking, the others
-//! are the states from which fair cycles can be reached (Emerson and Lei). Then it checks what it has found
-//! ([`are_fair`]), so that nothing rests on how it was found.
+//! are the states from which fair cycles can be reached (Emerson and Lei). [`are_fair`] checks what was found, so that
+//! nothing rests on how it was found.
 
-ghost use Rattle.std.specs.Prelude.{◌≡◌, ◌↔◌, ◌≤◌, ◌<◌, All, length, IfOk, IfSome, IsTrue};
+ghost use Rattle.std.specs.Prelude.{◌≡◌, ◌≤◌, length, IsTrue};
 ghost use Rattle.state_graph.specs.Fairness.{AreFairRanks, IsFairFor, IsFairMove, MayLead, helper_at, no_move};
 ghost use Rattle.state_graph.specs.Fairness.{target_in};
 ghost use Rattle.state_graph.specs.Ranks.{no_rank, rank_at};
@@ -26,20 +26,13 @@ pub struct FairRanks {
     pub helpers: Vec<u8>,
 }
 
-/// Finds ranks by which every fair schedule ends, given the targets of each state: for each of this many processors,
-/// the place of the state to which its move leads, or [`NO_MOVE`]. None if it finds no such ranks.
-///
-/// # Errors
-///
-/// [`AllocError`] if there is no memory for them.
-pub fn fair_ranks_of(
+/// Ranks as many states as it can, given the targets of each state: for each of this many processors, the place of the
+/// state to which its move leads, or [`NO_MOVE`].
+pub(crate) fn fair_ranks_of(
     alloc: Global,
     processors: u8,
     targets: &Successors,
-) -> Result<Option<FairRanks>, AllocError>
-    requires few { length targets.now ≤ no_rank }
-    ensures { IfOk result (λ found. IfSome found (λ f. AreFairRanks targets.now f.ranks.items f.helpers.items)) }
-{
+) -> Result<FairRanks, AllocError> {
     let mut ranking = Ranking::new(alloc, targets.len())?;
     let mut marks = Vec::new(alloc);
     marks.resize(targets.len(), false)?;
@@ -51,17 +44,13 @@ pub fn fair_ranks_of(
         }
     }
     let Ranking { ranks, helpers, .. } = ranking;
-    if are_fair(targets, ranks.as_slice(), helpers.as_slice()) {
-        Ok(Some(FairRanks { ranks, helpers }))
-    } else {
-        Ok(None)
-    }
+    Ok(FairRanks { ranks, helpers })
 }
 
 // ---- the check
 
 /// Whether each state may have its rank and helper.
-fn are_fair(targets: &Successors, ranks: &[u32], helpers: &[u8]) -> bool
+pub(crate) fn are_fair(targets: &Successors, ranks: &[u32], helpers: &[u8]) -> bool
     requires few { length targets.now ≤ no_rank }
     ensures { IsTrue result → AreFairRanks targets.now ranks.now helpers.now }
 {
@@ -113,7 +102,7 @@ fn may_lead(ranks: &[u32], helpers: &[u8], rank: u32, helper: u8, k: usize, targ
 }
 
 /// The target of a processor in a list.
-fn target_in(list: &[u32], k: usize) -> u32
+pub(crate) fn target_in(list: &[u32], k: usize) -> u32
     ensures is { result ≡ target_in list.now k }
     ensures most { result ≤ no_move }
 {

@@ -8,4 +8,5 @@ pub mod StorySteps
 pub mod LatencyRuns
 mod Growing
 mod Passing
+pub mod QueueRuns
 pub mod StatsSteps

@@ -52,7 +52,7 @@ most_met f (suc n) before = by (cases_lt (most_of f n before) (f n)) (most_met f
 -- ---- one more step
 
 -- The network after the steps that a machine has taken is the machine's.
-stands : (opening mid : MachineLists) (done : List Step) → IsRun opening done mid → net_after opening done ≡ net_of mid.network
+pub stands : (opening mid : MachineLists) (done : List Step) → IsRun opening done mid → net_after opening done ≡ net_of mid.network
 unfolding machine_of_parts
 stands opening mid done run = sym (ap (λ (M : theory.Machine ObservedCore). M.net) (run.after (λ p. [])))
 

@@ -34,12 +34,13 @@ next_step rounds c code r M (x ∷ done) s =
     ap (λ xs. story_step_on rounds c code r M x ∷ xs) (next_step rounds c code (begun_at r x) (after c code M x) done s)
 
 -- The rounds begun by a step that is taken next are begun last.
-next_begun : (r : Begun) (done : List Step) (s : Step) → begun_from r (done ++ s ∷ []) ≡ begun_at (begun_from r done) s
+pub next_begun : (r : Begun) (done : List Step) (s : Step) → begun_from r (done ++ s ∷ []) ≡ begun_at (begun_from r done) s
 unfolding begun_from
 next_begun r [] s = refl
 next_begun r (x ∷ done) s = next_begun (begun_at r x) done s
 
-none_at_first : none_begun ≡ begun_from none_begun []
+-- Before the first step no round is begun.
+pub none_at_first : none_begun ≡ begun_from none_begun []
 unfolding begun_from
 none_at_first = refl
 

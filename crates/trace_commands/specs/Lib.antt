@@ -7,6 +7,7 @@ pub mod Stories
 pub mod Longest
 pub mod Stats
 pub mod Latencies
+pub mod QueueLengths
 pub mod Pictures
 pub mod Choices
 -- Definitions of reports, passed on to the crates above.

@@ -60,7 +60,7 @@ fn most(network: &Network, held: Held, stage: u8, wires: u8, before: usize) -> u
 }
 
 /// How many messages or records are at a wire of a stage.
-fn count(network: &Network, held: Held, stage: u8, wire: u8) -> usize
+pub(crate) fn count(network: &Network, held: Held, stage: u8, wire: u8) -> usize
     requires stage { stage < network.now.k }
     requires wire { wire < 2 ^ network.now.k }
     ensures { result ≡ count_of held (net_of network.now) stage wire }

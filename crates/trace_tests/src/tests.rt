@@ -11,6 +11,7 @@ mod latencies;
 mod order_lines;
 mod orders;
 mod pictures;
+mod queues;
 mod stories;
 mod story_lines;
 mod texts;
@@ -22,7 +23,9 @@ use std::fmt::Debug;
 use std::io::{self, Read, Write};
 use std::process::Abort;
 use test_support::metered;
-use trace_commands::{LatencyStats, Order, Stats, Story, lines_command, trace_command};
+use trace_commands::{
+    LatencyStats, Order, QueueStats, QueueTable, Stats, Story, lines_command, trace_command,
+};
 use trace_lines::Choice;
 
 /// Fails the test if the two differ, and prints both and their case ([`assert_same!`]).
@@ -49,15 +52,19 @@ enum Asked {
     Rounds(Choice),
     Stats,
     LatencyStats,
+    QueueStats,
+    QueueTable,
 }
 
 /// Each kind of report, with all lines.
-const WHOLE: [Asked; 5] = [
+const WHOLE: [Asked; 7] = [
     Asked::Order(ALL),
     Asked::Story(ALL),
     Asked::Rounds(ALL),
     Asked::Stats,
     Asked::LatencyStats,
+    Asked::QueueStats,
+    Asked::QueueTable,
 ];
 
 /// Carries out the command for a report.
@@ -87,6 +94,12 @@ fn ask<T: Read + Drop, R: Read + Drop, W: LinkWrite, E: Write>(
         Asked::Stats => trace_command(alloc, trace, file, shared_words, &Stats, out, err),
         Asked::LatencyStats => {
             trace_command(alloc, trace, file, shared_words, &LatencyStats, out, err)
+        }
+        Asked::QueueStats => {
+            trace_command(alloc, trace, file, shared_words, &QueueStats, out, err)
+        }
+        Asked::QueueTable => {
+            trace_command(alloc, trace, file, shared_words, &QueueTable, out, err)
         }
     }
 }

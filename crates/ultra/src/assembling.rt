@@ -2,11 +2,12 @@
 
 ghost use Rattle.std.specs.Prelude.{◌≡◌, false};
 
-use crate::files::{STANDARD, Source, are_one_file, create, open_beside, writer_to};
 use crate::refusal::Refusal;
-use crate::reports::{Explained, Reason};
 use asm_commands::{asm_command, course_asm_command, course_symbol_map, read_text, symbol_map};
 use command_io::{DONE, Fault, print, report_fault};
+use host_files::{
+    Explained, FileRefusal, Reason, STANDARD, Source, are_one_file, create, open_beside, writer_to,
+};
 use link::{Link, LinkRead, LinkWrite, Meter};
 use settings::Asm;
 use std::alloc::Global;
@@ -43,7 +44,7 @@ fn open_text<'a, 'r, R: Files + Input>(
     } else {
         Some(asm.out)
     };
-    open_beside(rt, asm.file, out, reason)
+    Ok(open_beside(rt, asm.file, out, reason)?)
 }
 
 /// Assembles the text that a file has to OUT.
@@ -144,7 +145,7 @@ fn write_map<'a, R: Files, W: LinkWrite, E: Write>(
         Ok(()) => Ok(DONE),
         Err(_) => {
             let error = reason.get().unwrap_or(ErrorKind::Other.into());
-            Err(Refusal::Closed(map, error))
+            Err(Refusal::File(FileRefusal::Closed(map, error)))
         }
     }
 }

@@ -2,8 +2,8 @@
 
 ghost use Rattle.std.specs.Prelude.{◌≡◌, false, IfOk, ⊤};
 
-use crate::reports::Reason;
 use debug_session::{Connect, announce, loopback};
+use host_files::Reason;
 use link::{Failed, Meter};
 use std::io;
 use std::io::{ErrorKind, Write};

@@ -5,7 +5,6 @@ ghost use Rattle.std.specs.Prelude.{◌≡◌, false};
 ghost use Rattle.trace_commands.specs.run_reports.RunReports.{IsWorking};
 
 mod assembling;
-mod files;
 mod loopback_port;
 mod output;
 mod properties;
@@ -16,29 +15,14 @@ mod symbols;
 mod traces;
 
 use crate::assembling::asm_file;
-use crate::files::STANDARD;
-use crate::files::look_for_folder;
-use crate::files::open;
-use crate::files::open_beside;
-use crate::files::open_beside_trace;
-use crate::files::open_image;
-use crate::files::read_once;
-use crate::files::trace_to;
-use crate::files::writer_to;
 use crate::loopback_port::LoopbackPort;
 use crate::output::Output;
 use crate::output::format_of;
 use crate::properties::judge_file;
 use crate::properties::property_of;
 use crate::refusal::Refusal;
-use crate::refusal::refuse;
-use crate::reports::Explained;
-use crate::reports::Place;
-use crate::reports::Reason;
 use crate::reports::Reports;
 use crate::reports::place_of;
-use crate::reports::report_place;
-use crate::reports::text_or_place;
 use crate::standard_streams::StandardStreams;
 use crate::symbols::symbol_bytes;
 use crate::traces::TraceFiles;
@@ -63,6 +47,22 @@ use explore_command::SearchProgress;
 use explore_command::explore_command;
 use explore_command::explore_every_size;
 use flat_machine::Config;
+use host_files::Explained;
+use host_files::FileRefusal;
+use host_files::Place;
+use host_files::Reason;
+use host_files::STANDARD;
+use host_files::look_for_folder;
+use host_files::open;
+use host_files::open_beside;
+use host_files::open_beside_trace;
+use host_files::open_image;
+use host_files::read_once;
+use host_files::refuse;
+use host_files::report_place;
+use host_files::text_or_place;
+use host_files::trace_to;
+use host_files::writer_to;
 use hunt_command::Hunt as Hunted;
 use hunt_command::HuntProgress;
 use hunt_command::NoHuntProgress;
@@ -80,6 +80,7 @@ use run_command::Progress;
 use run_command::run_command;
 use run_command::threaded_run_command;
 use run_command::unlogged_run_command;
+use settings::Counts;
 use settings::Explore;
 use settings::Hunt;
 use settings::Lines;
@@ -111,6 +112,8 @@ use symbol_table::SymbolTable;
 use trace_commands::LatencyStats;
 use trace_commands::Order;
 use trace_commands::Picture;
+use trace_commands::QueueStats;
+use trace_commands::QueueTable;
 use trace_commands::Report;
 use trace_commands::Stats;
 use trace_commands::Story;
@@ -178,6 +181,9 @@ fn execute_in_format<
         Ok(bytes) => bytes,
         Err(refusal) => return refusal.report_fault(err),
     };
+    if let Settings::Picture(_) = settings {
+        return draw_with_names(rt, settings, &bytes, terminal, reason, stdout, err);
+    }
     let Ok(symbols) = symbols_in(rt.alloc(), &bytes) else {
         return report_fault(Fault::Memory, err);
     };
@@ -186,7 +192,31 @@ fn execute_in_format<
         device: Output::new(rt.alloc(), format, stdout),
         reason,
     });
-    execute_and_report(rt, settings, terminal, reason, &mut out, err)
+    execute_and_report(rt, settings, &None, terminal, reason, &mut out, err)
+}
+
+/// Draws a picture, with the names that a file has if there is one. They stand in the texts of the picture.
+fn draw_with_names<
+    R: Files + Input + Net + Threads + Wait + Clock + Eprint + Print + Sync + AllocGlobal,
+    W: Write + Drop,
+    E: Write,
+>(
+    rt: &R,
+    settings: &Settings<'_>,
+    file: &Option<Vec<u8>>,
+    terminal: bool,
+    reason: &Reason,
+    stdout: W,
+    err: &mut E,
+) -> u8 {
+    let Ok(names) = symbols_in(rt.alloc(), file) else {
+        return report_fault(Fault::Memory, err);
+    };
+    let mut out = Meter::new(Explained {
+        device: stdout,
+        reason,
+    });
+    execute_and_report(rt, settings, &names, terminal, reason, &mut out, err)
 }
 
 /// The symbols of a file, if there is one.
@@ -200,16 +230,25 @@ fn symbols_in(
     }
 }
 
-/// Does what settings ask for, and reports in a second line which file is at fault.
+/// Does what settings ask for, with these names if a picture is to be drawn, and reports in a second line which file is
+/// at fault.
 fn execute_and_report<
     R: Files + Input + Net + Threads + Wait + Clock + Eprint + Print + Sync + AllocGlobal,
     W: LinkWrite,
     E: Write,
->(rt: &R, settings: &Settings<'_>, terminal: bool, reason: &Reason, out: &mut W, err: &mut E) -> u8
+>(
+    rt: &R,
+    settings: &Settings<'_>,
+    names: &Option<SymbolTable<'_>>,
+    terminal: bool,
+    reason: &Reason,
+    out: &mut W,
+    err: &mut E,
+) -> u8
     requires works { W.has_failed out.old ≡ false }
 {
     let mut reports = Reports { err, letter: None };
-    let done = execute(rt, settings, terminal, reason, out, &mut reports);
+    let done = execute(rt, settings, names, terminal, reason, out, &mut reports);
     let Reports { err, letter } = reports;
     let status = match done {
         Ok(status) => status,
@@ -232,7 +271,7 @@ fn execute_and_report<
     status
 }
 
-/// Does what settings ask for.
+/// Does what settings ask for, with these names if a picture is to be drawn.
 fn execute<
     'a,
     R: Files + Input + Net + Threads + Wait + Clock + Eprint + Print + Sync + AllocGlobal,
@@ -241,6 +280,7 @@ fn execute<
 >(
     rt: &R,
     settings: &Settings<'a>,
+    names: &Option<SymbolTable<'_>>,
     terminal: bool,
     reason: &Reason,
     out: &mut W,
@@ -286,6 +326,7 @@ fn execute<
                 err,
             )
         }
+        Settings::Stats(counts) if counts.queues => tell_queues(rt, counts, reason, out, err),
         Settings::Stats(counts) if counts.latency => {
             tell_steps(rt, &counts.replay, &LatencyStats, reason, out, err)
         }
@@ -293,7 +334,9 @@ fn execute<
         Settings::Picture(asked) => {
             let picture = Picture {
                 step: asked.step,
-                drawing: Svg,
+                drawing: Svg {
+                    names: names.as_ref(),
+                },
             };
             tell_steps(rt, &asked.replay, &picture, reason, out, err)
         }
@@ -342,7 +385,7 @@ fn tell_steps<'a, A: TraceReport, R: Files + Input + AllocGlobal, W: LinkWrite, 
 ) -> Result<u8, Refusal<'a>>
     requires works { W.has_failed out.old ≡ false }
 {
-    read_once(replay)?;
+    read_once(replay.trace, replay.file)?;
     let mut trace = Meter::new(open(rt, replay.trace, reason)?);
     let mut file = open_image(rt, replay.file, reason);
     let words = replay.words;
@@ -355,6 +398,26 @@ fn tell_steps<'a, A: TraceReport, R: Files + Input + AllocGlobal, W: LinkWrite, 
         out,
         err,
     ))
+}
+
+/// Does what `stats --queues TRACE FILE` asks for.
+fn tell_queues<'a, R: Files + Input + AllocGlobal, W: LinkWrite, E: Write>(
+    rt: &R,
+    counts: &Counts<'a>,
+    reason: &Reason,
+    out: &mut W,
+    err: &mut E,
+) -> Result<u8, Refusal<'a>>
+    requires works { W.has_failed out.old ≡ false }
+{
+    if counts.latency {
+        return Err(Refusal::Queues);
+    }
+    if counts.csv {
+        tell_steps(rt, &counts.replay, &QueueTable, reason, out, err)
+    } else {
+        tell_steps(rt, &counts.replay, &QueueStats, reason, out, err)
+    }
 }
 
 /// The choice of lines that a command is asked for.
@@ -386,7 +449,7 @@ fn tell_lines<'a, A: TraceReport, R: Files + Input + AllocGlobal, W: LinkWrite, 
 ) -> Result<u8, Refusal<'a>>
     requires works { W.has_failed out.old ≡ false }
 {
-    read_once(&lines.replay)?;
+    read_once(lines.replay.trace, lines.replay.file)?;
     let mut trace = Meter::new(open(rt, lines.replay.trace, reason)?);
     let mut file = open_image(rt, lines.replay.file, reason);
     Ok(lines_command(
@@ -539,7 +602,7 @@ fn explore_file<'a, R: Files + Input + Clock + Eprint + AllocGlobal, W: LinkWrit
     if explore.every && (explore.fair || explore.witness.is_some() || explore.trace.is_some()) {
         return Err(Refusal::Every);
     }
-    if explore.witness.is_some() != explore.trace.is_some() {
+    if is_half(explore) {
         return Err(Refusal::Half);
     }
     let words = words_of(rt.alloc(), explore.observe, &explore.sizes)?;
@@ -550,13 +613,22 @@ fn explore_file<'a, R: Files + Input + Clock + Eprint + AllocGlobal, W: LinkWrit
         limit: explore.states,
         each: explore.each,
         fair: explore.fair,
-        witness: explore.witness.unwrap_or(0),
+        witness: explore.witness,
         observed: words.as_ref(),
     };
     let every = explore.every;
     Ok(explore_image(
         rt, &mut file, config, asked, every, shown, &mut trace, out, err,
     ))
+}
+
+/// Whether a witness is asked for without a trace, or a trace without a witness or fair schedules.
+fn is_half(explore: &Explore<'_>) -> bool {
+    if explore.trace.is_some() {
+        explore.witness.is_none() && !explore.fair
+    } else {
+        explore.witness.is_some()
+    }
 }
 
 /// Does what `explore FILE --against SPEC` asks for.
@@ -575,7 +647,7 @@ fn compare_files<'a, R: Files + Input + Clock + Eprint + AllocGlobal, W: LinkWri
         return Err(Refusal::Against);
     }
     if explore.file == STANDARD && against == STANDARD {
-        return Err(Refusal::InputTwice);
+        return Err(Refusal::File(FileRefusal::InputTwice));
     }
     let words = compared_words(rt.alloc(), explore.observe, &explore.sizes)?;
     let mut program = Meter::new(open(rt, explore.file, reason)?);
@@ -835,7 +907,7 @@ fn debug_file<'a, R: Files + Input + Print + Net + Wait + AllocGlobal, W: Write,
 ) -> Result<u8, Refusal<'a>> {
     if session.stdio {
         if session.file == STANDARD {
-            return Err(Refusal::InputTwice);
+            return Err(Refusal::File(FileRefusal::InputTwice));
         }
         let mut streams = StandardStreams { rt, reason };
         return debug_over(rt, session, &mut streams, reason, err);

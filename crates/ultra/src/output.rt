@@ -76,7 +76,8 @@ pub(crate) fn format_of<'a>(
 /// Whether counts are to be printed as CSV.
 fn prints_csv(settings: &Settings<'_>) -> bool {
     match settings {
-        Settings::Stats(counts) => counts.csv,
+        // A table of lengths is CSV already.
+        Settings::Stats(counts) => counts.csv && !counts.queues,
         _ => false,
     }
 }

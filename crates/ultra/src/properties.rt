@@ -3,10 +3,9 @@
 ghost use Rattle.std.specs.Prelude.{◌≡◌, false};
 
 use crate::config_of;
-use crate::files::open;
 use crate::refusal::Refusal;
-use crate::reports::Reason;
 use explore_command::{NoProgress, SearchProgress};
+use host_files::{Reason, open};
 use link::{LinkWrite, Meter};
 use property_command::{Asked, property_command};
 use settings::Explore;

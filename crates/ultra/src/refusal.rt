@@ -1,24 +1,21 @@
 //! Why a command does not begin.
 
-use crate::reports::{Place, report_place, text_or_place};
+ghost use Rattle.std.specs.Prelude.{⊤};
+
 use crate::symbols::MAX_SYMBOL_BYTES;
 use command_io::{Fault, LINK_FAILED, REFUSED, report_fault};
+use host_files::{FileRefusal, Place, refuse, report_place, text_or_place};
 use state_conditions::{Kind, wrong_part};
 use std::io::{self, Write};
-use trace_file::TraceError;
 
 /// Why a command does not begin.
 #[derive(Clone, Copy, Debug, Drop)]
 pub(crate) enum Refusal<'a> {
-    /// The file at this path cannot be opened or written, with this error of the system.
-    Closed(&'a str, io::Error),
-    /// A trace cannot be written at this path: its folder cannot be found, with this error of the system.
-    NoFolder(&'a str, io::Error),
-    /// OUT is the same file as the one to read. Neither is opened.
-    SameFile,
+    /// A file cannot be had.
+    File(FileRefusal<'a>),
     /// The map of labels is the same file as the text or the image. None is opened.
     SameMap,
-    /// A witness is asked for without a file for its trace, or the other way round.
+    /// A witness is asked for without a file for its trace, or a trace without a witness or fair schedules.
     Half,
     /// A witness or fair schedules, and every size, are asked for.
     Every,
@@ -36,12 +33,10 @@ pub(crate) enum Refusal<'a> {
     NoCondition(Kind, &'a str, u32),
     /// There is no memory for what the command line asks for.
     Memory,
-    /// Standard input is to be read for two purposes.
-    InputTwice,
-    /// A trace is to be written to standard output.
-    PrintedTrace,
     /// Lines are asked for as JSON and in another format.
     Formats,
+    /// Lengths of queues are asked for, and latencies.
+    Queues,
     /// The file of symbols at this path is too long.
     LongSymbols(&'a str),
 }
@@ -50,19 +45,12 @@ impl Refusal<'_> {
     /// Reports the refusal on standard error, and returns the exit status.
     pub(crate) fn report_fault<E: Write>(self, err: &mut E) -> u8 {
         match self {
-            Refusal::Closed(path, error) => {
-                let status = report_fault(Fault::Link, err);
-                report_place(Place::File(path), Some(error), err);
-                status
-            }
-            Refusal::NoFolder(path, error) => {
-                let status = report_fault(Fault::Trace(TraceError::Link), err);
-                report_place(Place::File(path), Some(error), err);
-                status
-            }
-            Refusal::SameFile => refuse("OUT is the same file as FILE", err),
+            Refusal::File(refusal) => refusal.report_fault(err),
             Refusal::SameMap => refuse("MAP is the same file as FILE or OUT", err),
-            Refusal::Half => refuse("--witness and --trace go together", err),
+            Refusal::Half => refuse(
+                "--witness goes with --trace, and --trace with --witness or --fair",
+                err,
+            ),
             Refusal::Every => refuse(
                 "--every goes with none of --fair, --witness and --trace",
                 err,
@@ -87,16 +75,24 @@ impl Refusal<'_> {
             }
             Refusal::NoCondition(kind, text, words) => refuse_condition(kind, text, words, err),
             Refusal::Memory => report_fault(Fault::Memory, err),
-            Refusal::InputTwice => refuse("standard input is asked for twice", err),
-            Refusal::PrintedTrace => refuse("a trace is not written to standard output", err),
             Refusal::Formats => {
                 refuse(
                     "--json goes with none of --symbols, --abi, --decimal and --csv",
                     err,
                 )
             }
+            Refusal::Queues => refuse("--queues and --latency exclude each other", err),
             Refusal::LongSymbols(path) => refuse_symbols(path, err),
         }
+    }
+}
+
+impl<'a> From<FileRefusal<'a>> for Refusal<'a> {
+    // No contract speaks of why a command does not begin.
+    ghost from_gives = { λ file own. ⊤ };
+
+    fn from(refusal: FileRefusal<'a>) -> Self {
+        Refusal::File(refusal)
     }
 }
 
@@ -155,12 +151,5 @@ fn refuse_symbols<E: Write>(path: &str, err: &mut E) -> u8 {
         err,
         "error: '{path}' has more than {MAX_SYMBOL_BYTES} bytes"
     );
-    REFUSED
-}
-
-/// Reports what is wrong with the command line, and returns the exit status.
-pub(crate) fn refuse<E: Write>(what: &str, err: &mut E) -> u8 {
-    // If standard error fails too, the exit status alone reports it.
-    let _ = writeln!(err, "error: {what}");
     REFUSED
 }

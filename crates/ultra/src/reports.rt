@@ -1,58 +1,8 @@
-//! What is reported of files: which of them is at fault, and the system's error.
+//! Which file an error names.
 
-use crate::files::STANDARD;
+use host_files::Place;
 use settings::{Replay, Settings};
-use std::cell::Cell;
-use std::fmt::{self, Display};
-use std::io::{self, ErrorKind, Read, Write};
-
-/// The system's error of the last call on a file that failed.
-pub(crate) type Reason = Cell<Option<io::Error>>;
-
-/// A file or standard output. A call on it that fails leaves its error in `reason`.
-#[derive(Drop)]
-pub(crate) struct Explained<'a, T> {
-    pub(crate) device: T,
-    pub(crate) reason: &'a Reason,
-}
-
-impl<T: Read> Read for Explained<'_, T> {
-    fn read(&mut self, buf: &mut [u8]) -> io::Result<usize> {
-        match self.device.read(buf) {
-            Ok(count) => Ok(count),
-            Err(error) => {
-                self.reason.set(Some(error));
-                Err(error)
-            }
-        }
-    }
-}
-
-impl<T: Write> Write for Explained<'_, T> {
-    fn write(&mut self, buf: &[u8]) -> io::Result<usize> {
-        match self.device.write(buf) {
-            Ok(0) if !buf.is_empty() => {
-                self.reason.set(Some(ErrorKind::WriteZero.into()));
-                Ok(0)
-            }
-            Ok(count) => Ok(count),
-            Err(error) => {
-                self.reason.set(Some(error));
-                Err(error)
-            }
-        }
-    }
-
-    fn flush(&mut self) -> io::Result<()> {
-        match self.device.flush() {
-            Ok(()) => Ok(()),
-            Err(error) => {
-                self.reason.set(Some(error));
-                Err(error)
-            }
-        }
-    }
-}
+use std::io::{self, Write};
 
 /// Standard error. It keeps the first letter of the code that a command reports there.
 #[derive(Drop)]
@@ -72,55 +22,6 @@ impl<E: Write> Write for Reports<'_, E> {
 
     fn flush(&mut self) -> io::Result<()> {
         self.err.flush()
-    }
-}
-
-/// What is at fault.
-#[derive(Clone, Copy, Debug, PartialEq, Eq, Drop)]
-pub(crate) enum Place<'a> {
-    /// The file at this path, or standard input.
-    File(&'a str),
-    /// The file at this path, whose name is that of a text, where an image is wanted.
-    Text(&'a str),
-    Port(u16),
-    StandardOutput,
-    /// Standard input and output, between which a session's error does not tell.
-    StandardStreams,
-    /// The budget of a run that is not reported. Its line says by which option it is.
-    Budget,
-}
-
-impl Display for Place<'_> {
-    fn fmt<W: fmt::Write>(&self, f: &mut fmt::Formatter<W>) -> fmt::Result {
-        match self {
-            Place::File(path) if *path == STANDARD => write!(f, "standard input"),
-            Place::File(path) => write!(f, "{path}"),
-            Place::Text(path) => write!(
-                f,
-                "{path}: a text, which `ultra asm {path} OUT` makes an image"
-            ),
-            Place::Port(number) => write!(f, "port {number}"),
-            Place::StandardOutput => write!(f, "standard output"),
-            Place::StandardStreams => write!(f, "standard input or output"),
-            Place::Budget => write!(f, "--unfinished prints where the processors stand"),
-        }
-    }
-}
-
-/// Reports in a second line what is at fault, with the system's error if there is one.
-pub(crate) fn report_place<E: Write>(place: Place<'_>, reason: Option<io::Error>, err: &mut E) {
-    // If standard error fails, the exit status alone reports the fault.
-    let _ = match reason {
-        Some(error) => writeln!(err, "  {place}: {error}"),
-        None => writeln!(err, "  {place}"),
-    };
-}
-
-/// The same place, said to be a text if its name is that of one.
-pub(crate) fn text_or_place(place: Place<'_>) -> Place<'_> {
-    match place {
-        Place::File(path) if path.ends_with(".s") => Place::Text(path),
-        _ => place,
     }
 }
 

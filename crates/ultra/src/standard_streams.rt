@@ -2,8 +2,8 @@
 
 ghost use Rattle.std.specs.Prelude.{◌≡◌, false, IfOk, ⊤};
 
-use crate::reports::{Explained, Reason};
 use debug_session::Connect;
+use host_files::{Explained, Reason};
 use link::{Failed, Meter};
 use std::io::{self, Input, Print, Printer};
 

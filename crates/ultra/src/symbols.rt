@@ -1,8 +1,7 @@
 //! The names that `--symbols` asks for.
 
-use crate::files::{STANDARD, are_one_file, open};
 use crate::refusal::Refusal;
-use crate::reports::Reason;
+use host_files::{FileRefusal, Reason, STANDARD, are_one_file, open};
 use link::{Meter, ReadError, read_within};
 use settings::{LineStyle, Settings};
 use std::io::{ErrorKind, Input};
@@ -24,18 +23,18 @@ pub(crate) fn symbol_bytes<'a, R: Files + Input + AllocGlobal>(
         return Ok(None);
     };
     if path == STANDARD && reads_standard_input(settings) {
-        return Err(Refusal::InputTwice);
+        return Err(Refusal::File(FileRefusal::InputTwice));
     }
     let out = trace_of(settings);
     if path != STANDARD && out.is_some_and(|out| are_one_file(rt, path, out)) {
-        return Err(Refusal::SameFile);
+        return Err(Refusal::File(FileRefusal::SameFile));
     }
     let mut file = Meter::new(open(rt, path, reason)?);
     match read_within(rt.alloc(), &mut file, MAX_SYMBOL_BYTES) {
         Ok(bytes) => Ok(Some(bytes)),
         Err(ReadError::Link) => {
             let error = reason.get().unwrap_or(ErrorKind::Other.into());
-            Err(Refusal::Closed(path, error))
+            Err(Refusal::File(FileRefusal::Closed(path, error)))
         }
         Err(ReadError::Memory) => Err(Refusal::Memory),
         Err(ReadError::TooLong) => Err(Refusal::LongSymbols(path)),
@@ -52,6 +51,7 @@ fn symbols_of<'a>(settings: &Settings<'a>) -> Option<&'a str> {
         Settings::Replay(report) => report.style.symbols,
         Settings::Order(order) => order.lines.style.symbols,
         Settings::Story(story) => story.lines.style.symbols,
+        Settings::Picture(picture) => picture.symbols,
         _ => None,
     }
 }
@@ -109,6 +109,9 @@ fn reads_standard_input(settings: &Settings<'_>) -> bool {
         }
         Settings::Story(story) => {
             story.lines.replay.trace == STANDARD || story.lines.replay.file == STANDARD
+        }
+        Settings::Picture(picture) => {
+            picture.replay.trace == STANDARD || picture.replay.file == STANDARD
         }
         _ => false,
     }

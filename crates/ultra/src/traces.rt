@@ -2,8 +2,8 @@
 
 ghost use Rattle.std.specs.Prelude.{◌≡◌, ⊤, false, IfOk};
 
-use crate::files::are_one_file;
 use command_io::{OnFirstWrite, Open};
+use host_files::are_one_file;
 use hunt_command::Traces;
 use link::Meter;
 use std::alloc::{AllocError, Global};

@@ -4,6 +4,7 @@
 mod comparisons;
 mod devices;
 mod ends;
+mod lassos;
 mod properties;
 mod sizes;
 mod witnesses;
@@ -36,7 +37,7 @@ const fn up_to_exchanges(limit: u32) -> Asked<'static> {
         limit,
         each: false,
         fair: false,
-        witness: 0,
+        witness: None,
         observed: None,
     }
 }
@@ -47,7 +48,7 @@ const fn each(limit: u32) -> Asked<'static> {
         limit,
         each: true,
         fair: false,
-        witness: 0,
+        witness: None,
         observed: None,
     }
 }

@@ -93,7 +93,7 @@ DisplayHelp
 --against <SPEC>       Print only the results that the image SPEC does not have; not with --every or --witness
 $ ultra explore --help
 DisplayHelp
---fair                 Also tell whether every fair schedule ends; alike processors are not exchanged
+--fair                 Also tell whether every fair schedule ends, and show one that never does;\
 $ ultra explore --help
 DisplayHelp
 --every                Explore every k from 0 to 6,\

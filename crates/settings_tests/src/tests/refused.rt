@@ -219,7 +219,7 @@ fn twice(rt: &(impl Abort + AllocGlobal), most: usize) -> bool {
 }
 
 /// Command lines with an option that has no value.
-static WITHOUT_VALUE: [(&str, &str); 13] = [
+static WITHOUT_VALUE: [(&str, &str); 14] = [
     ("run a.elf --k", "--k <NUMBER>"),
     ("run a.elf --c", "--c <NUMBER>"),
     ("run a.elf --b", "--b <NUMBER>"),
@@ -233,6 +233,7 @@ static WITHOUT_VALUE: [(&str, &str); 13] = [
     ("order a.trace a.elf --word", "--word <NUMBER>"),
     ("explore a.elf --trace", "--trace <OUT>"),
     ("picture a.trace a.elf --step", "--step <NUMBER>"),
+    ("picture a.trace a.elf --symbols", "--symbols <FILE>"),
 ];
 
 fn without_value(rt: &(impl Abort + AllocGlobal), most: usize) -> bool {
@@ -247,7 +248,7 @@ fn without_value(rt: &(impl Abort + AllocGlobal), most: usize) -> bool {
 }
 
 /// Command lines with an unknown argument.
-static UNKNOWN: [(&str, &str); 23] = [
+static UNKNOWN: [(&str, &str); 24] = [
     ("words --fast a.hex", "--fast"),
     ("run --k -1 a.elf", "-1"),
     ("run --fast a.elf", "--fast"),
@@ -266,6 +267,7 @@ static UNKNOWN: [(&str, &str); 23] = [
     ("picture a.trace a.elf --json", "--json"),
     ("replay a.trace a.elf --csv", "--csv"),
     ("replay a.trace a.elf --latency", "--latency"),
+    ("story a.trace a.elf --queues", "--queues"),
     ("story a.trace a.elf --abi", "--abi"),
     ("stats a.trace a.elf --symbols a.elf", "--symbols"),
     ("debug a.elf --symbols a.elf", "--symbols"),

@@ -16,13 +16,15 @@ Replay(Report { replay: Replay { trace: "--words", file: "1", words: 1024 }, sty
 $ ultra replay --symbols names.txt a.trace a.elf
 Replay(Report { replay: Replay { trace: "a.trace", file: "a.elf", words: 1024 }, style: LineStyle { symbols: Some("names.txt"), decimal: false, json: false } })
 $ ultra stats a.trace a.elf
-Stats(Counts { replay: Replay { trace: "a.trace", file: "a.elf", words: 1024 }, latency: false, csv: false, json: false })
+Stats(Counts { replay: Replay { trace: "a.trace", file: "a.elf", words: 1024 }, latency: false, queues: false, csv: false, json: false })
 $ ultra stats --words=8 a.trace --json a.elf
-Stats(Counts { replay: Replay { trace: "a.trace", file: "a.elf", words: 8 }, latency: false, csv: false, json: true })
+Stats(Counts { replay: Replay { trace: "a.trace", file: "a.elf", words: 8 }, latency: false, queues: false, csv: false, json: true })
 $ ultra stats a.trace a.elf --csv
-Stats(Counts { replay: Replay { trace: "a.trace", file: "a.elf", words: 1024 }, latency: false, csv: true, json: false })
+Stats(Counts { replay: Replay { trace: "a.trace", file: "a.elf", words: 1024 }, latency: false, queues: false, csv: true, json: false })
 $ ultra stats --latency a.trace a.elf --csv
-Stats(Counts { replay: Replay { trace: "a.trace", file: "a.elf", words: 1024 }, latency: true, csv: true, json: false })
+Stats(Counts { replay: Replay { trace: "a.trace", file: "a.elf", words: 1024 }, latency: true, queues: false, csv: true, json: false })
+$ ultra stats a.trace --queues a.elf
+Stats(Counts { replay: Replay { trace: "a.trace", file: "a.elf", words: 1024 }, latency: false, queues: true, csv: false, json: false })
 "#;
 
 /// Parts of the help.
@@ -42,6 +44,9 @@ DisplayHelp
 $ ultra stats --help
 DisplayHelp
 --latency         Print how many rounds of the sweep references took:\
+$ ultra stats --help
+DisplayHelp
+--queues          Print how much waits at each stage at the end of each round\
 $ ultra replay --help
 DisplayHelp
 `ultra: X1` TRACE is cut short\

@@ -11,7 +11,8 @@ fn stopped(asked: Asked) -> &'static [u8] {
         Asked::Order(_) => b"0 0 00010000 fault 8\n",
         Asked::Story(_) => b"0 turn 0: stops fault 8\n",
         Asked::Rounds(_) => b"round 1\n0 turn 0: stops fault 8\n",
-        Asked::Stats | Asked::LatencyStats => {
+        Asked::QueueTable => b"round,stage,requests,records,replies\n",
+        Asked::Stats | Asked::LatencyStats | Asked::QueueStats => {
             b"machine k 0 c 4 b 4 r 1
 steps 1 turns 1 up 0 serve 0 down 0 poke 0 rounds 1
 module 0 serves 0

@@ -2,6 +2,7 @@
 //! reported if no picture is drawn.
 
 mod ends;
+mod names;
 mod summaries;
 mod travelling;
 
@@ -11,6 +12,7 @@ use machine_picture::Svg;
 use std::alloc::Global;
 use std::io;
 use std::test::Fail;
+use symbol_table::SymbolTable;
 use test_support::metered;
 use trace_commands::{Picture, trace_command};
 
@@ -22,7 +24,7 @@ struct Ran {
     err: Vec<u8>,
 }
 
-/// The picture of a trace on an image, with this many shared words, after this many steps.
+/// The picture of a trace on an image, with this many shared words, after this many steps, without names.
 fn run(
     alloc: Global,
     trace: &[u8],
@@ -30,9 +32,24 @@ fn run(
     shared_words: u32,
     step: Option<u32>,
 ) -> Ran {
+    run_named(alloc, trace, file, shared_words, step, None)
+}
+
+/// The same picture, with the names of a table, if there is one.
+fn run_named(
+    alloc: Global,
+    trace: &[u8],
+    file: io::Result<&[u8]>,
+    shared_words: u32,
+    step: Option<u32>,
+    names: Option<&SymbolTable<'_>>,
+) -> Ran {
     let mut out = Meter::new(Vec::new(alloc));
     let mut err = Vec::new(alloc);
-    let picture = Picture { step, drawing: Svg };
+    let picture = Picture {
+        step,
+        drawing: Svg { names },
+    };
     let status = trace_command(
         alloc,
         &mut Meter::new(trace),

@@ -116,14 +116,14 @@ complete -c ultra -n '__ultra_has_command hunt' -l start -x -d 'Number of the fi
 complete -c ultra -n '__ultra_has_command hunt' -l help -d 'Print help'
 complete -c ultra -n '__ultra_wants_more hunt 1 --trace --observe --symbols --k --c --b --r --words --budget --runs --start' -F
 
-complete -c ultra -n '__ultra_has_command explore' -l trace -r -F -d 'Where to write the steps to the result that --witness names, for `ultra replay`; opened after they are found'
+complete -c ultra -n '__ultra_has_command explore' -l trace -r -F -d 'Where to write the steps to the result that --witness names, or with --fair those of a lasso, for `ultra replay`; opened then'
 complete -c ultra -n '__ultra_has_command explore' -l observe -x -d 'Words by which results differ, as `0-3,8`; they are printed without others [default: all]'
 complete -c ultra -n '__ultra_has_command explore' -l against -r -F -d 'Print only the results that the image SPEC does not have; not with --every or --witness'
 complete -c ultra -n '__ultra_has_command explore' -l never -r -F -d 'Print instead whether no state between references satisfies the condition, as `at 0x10010-0x10020 > 1`'
 complete -c ultra -n '__ultra_has_command explore' -l always -r -F -d 'Print instead whether each state does'
 complete -c ultra -n '__ultra_has_command explore' -l finally -r -F -d 'Print instead whether each state does in which no processor runs'
 complete -c ultra -n '__ultra_has_command explore' -l each -d 'Print every result by itself; alike processors are not exchanged'
-complete -c ultra -n '__ultra_has_command explore' -l fair -d 'Also tell whether every fair schedule ends; alike processors are not exchanged'
+complete -c ultra -n '__ultra_has_command explore' -l fair -d 'Also tell whether every fair schedule ends, and show one that never does; alike processors are not exchanged'
 complete -c ultra -n '__ultra_has_command explore' -l every -d 'Explore every k from 0 to 6, and print a line for each; not with --witness'
 complete -c ultra -n '__ultra_has_command explore' -l quiet -d 'Show no progress line on a terminal'
 complete -c ultra -n '__ultra_has_command explore' -l symbols -r -F -d 'Print names beside addresses and words, from the symbol table of an ELF file or from what `nm` prints; not with --json'
@@ -172,6 +172,7 @@ complete -c ultra -n '__ultra_wants_more story 2 --words --processor --word --fr
 
 complete -c ultra -n '__ultra_has_command stats' -l words -x -d 'Shared words of four bytes that the machine has, 1 to 262144 [default: 1024]'
 complete -c ultra -n '__ultra_has_command stats' -l latency -d 'Print how many rounds of the sweep references took: all, each processor\'s, and those to each word'
+complete -c ultra -n '__ultra_has_command stats' -l queues -d 'Print how much waits at each stage at the end of each round of the sweep; not with --latency'
 complete -c ultra -n '__ultra_has_command stats' -l csv -d 'Print the counts as CSV, a row for each number; not with --json'
 complete -c ultra -n '__ultra_has_command stats' -l json -d 'Print each line as a JSON object'
 complete -c ultra -n '__ultra_has_command stats' -l help -d 'Print help'
@@ -179,8 +180,9 @@ complete -c ultra -n '__ultra_wants_more stats 2 --words' -F
 
 complete -c ultra -n '__ultra_has_command picture' -l words -x -d 'Shared words of four bytes that the machine has, 1 to 262144 [default: 1024]'
 complete -c ultra -n '__ultra_has_command picture' -l step -x -d 'Draw the machine after this many steps, 0 to 4294967295 [default: after all]'
+complete -c ultra -n '__ultra_has_command picture' -l symbols -r -F -d 'Draw names in place of addresses and words, from the symbol table of an ELF file or from what `nm` prints'
 complete -c ultra -n '__ultra_has_command picture' -l help -d 'Print help'
-complete -c ultra -n '__ultra_wants_more picture 2 --words --step' -F
+complete -c ultra -n '__ultra_wants_more picture 2 --words --step --symbols' -F
 
 complete -c ultra -n '__ultra_has_command trace' -l help -d 'Print help'
 complete -c ultra -n '__ultra_wants_more trace 1' -F

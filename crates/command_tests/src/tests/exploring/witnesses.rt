@@ -21,22 +21,30 @@ const GLIMPSE: &str =
 /// An instruction that jumps to itself.
 const SPIN: &str = "spin: jal x0, spin";
 
-/// The outcome of a search for a witness.
+/// The outcome of a search whose trace is written.
 #[derive(Drop)]
-struct Ran {
-    status: u8,
-    trace: Vec<u8>,
-    err: Vec<u8>,
+pub(super) struct Traced {
+    pub status: u8,
+    pub trace: Vec<u8>,
+    pub err: Vec<u8>,
     /// The results.
-    out: Vec<u8>,
+    pub out: Vec<u8>,
 }
 
 /// Searches an image on 2^k processors for the result of this number.
-fn explored(alloc: Global, file: &[u8], k: u8, search: Asked<'_>, witness: u32) -> Ran {
+fn explored(alloc: Global, file: &[u8], k: u8, search: Asked<'_>, witness: u32) -> Traced {
+    let asked = Asked {
+        witness: Some(witness),
+        ..search
+    };
+    search_with_trace(alloc, file, k, asked)
+}
+
+/// Searches an image on 2^k processors, with a trace.
+pub(super) fn search_with_trace(alloc: Global, file: &[u8], k: u8, asked: Asked<'_>) -> Traced {
     let mut out = Meter::new(Vec::new(alloc));
     let mut err = Vec::new(alloc);
     let mut trace = Some(Meter::new(Vec::new(alloc)));
-    let asked = Asked { witness, ..search };
     let status = explore_command(
         alloc,
         &mut Meter::new(file),
@@ -51,7 +59,7 @@ fn explored(alloc: Global, file: &[u8], k: u8, search: Asked<'_>, witness: u32) 
         Some(meter) => meter.device,
         None => Vec::new(alloc),
     };
-    Ran {
+    Traced {
         status,
         trace,
         err,
@@ -60,7 +68,7 @@ fn explored(alloc: Global, file: &[u8], k: u8, search: Asked<'_>, witness: u32) 
 }
 
 /// The report of a trace's replay.
-fn replayed(alloc: Global, trace: &[u8], file: &[u8]) -> Vec<u8> {
+pub(super) fn replayed(alloc: Global, trace: &[u8], file: &[u8]) -> Vec<u8> {
     let mut out = Meter::new(Vec::new(alloc));
     let mut err = Vec::new(alloc);
     let (mut trace, mut file) = (Meter::new(trace), metered(Ok(file)));
@@ -164,7 +172,7 @@ fn observed_results_are_come_to(rt: HostRuntime) -> Result<(), Fail> {
         limit: 100,
         each: true,
         fair: false,
-        witness: 0,
+        witness: None,
         observed: Some(&words),
     };
     leads_to(&rt, alloc, file.as_slice(), search, 1, "00000002")?;

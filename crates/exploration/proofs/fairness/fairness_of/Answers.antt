@@ -1,17 +1,17 @@
-use Rattle.std.proofs.Common.{Some, length, subst}
+use Rattle.std.proofs.Common.{length, sym, subst}
 use Rattle.std.specs.Prelude.{IfSome}
 use Rattle.state_search.specs.Targets.{AreTargets}
-use Rattle.state_graph.specs.Fairness.{AreFairRanks}
-use Rattle.exploration.proofs.FairRanking.{fairly_ranked}
+use Rattle.exploration.specs.Fairness.{IsFairnessAt}
+use Rattle.exploration.proofs.FairCertificates.{certified}
 use Rattle.exploration.proofs.fairness.fairness_of.Goals as goal
 
-pub returns-in-Ok-Some-clause-fairness : goal.returns-in-Ok-Some-clause-fairness
-returns-in-Ok-Some-clause-fairness g c =
+pub returns-clause-fairness : goal.returns-clause-fairness
+returns-clause-fairness g c =
     let e = c.args.extent in
+    let code = c.args.code.now in
     let t = c.args.state_tables.now in
     let rows = c.args.found.now.rows.keys in
-    let are = subst (λ o. IfSome o (λ targets. AreTargets e c.args.code.now c.args.classes.now t rows targets (length rows)))
+    let are = subst (λ o. IfSome o (λ targets. AreTargets e code c.args.classes.now t rows targets (length rows)))
     c.in-Some.is c.in_ok-targets.ensures.targets in
-    let fair = subst (λ o. IfSome o (λ f. AreFairRanks c.in-Some.targets f.ranks.items f.helpers.items)) c.in-Ok-Some.field-0-is c.in-Ok-Some.ensures in
-    fairly_ranked e c.args.code.now c.args.classes.now t rows c.in-Some.targets are c.in-Ok-Some.field-0-0.ranks.items
-    c.in-Ok-Some.field-0-0.helpers.items fair
+    subst (IsFairnessAt e code t rows) (sym c.fairness_by.ensures)
+    (certified e code c.args.classes.now t rows c.in-Some.targets are c.requires.few c.in-Ok.certificate c.in-Ok.ensures)

@@ -120,7 +120,7 @@ returns-clause-fairness g c =
     flat_fairness e code c.in-Ok-classes_of.classes.items t c.in_ok-found.found.rows.keys c.in_ok-found.found.moves first m f
     (subst (λ cs. AreFound e code cs t c.in_ok-found.found.rows.keys c.in_ok-found.found.moves first) c.as_slice.ensures.value
     c.in_ok-found.ensures.found) reaches c.in_ok-explored.explored.results.items c.fairly_ranked_schedules_end.ensures.ends
-    c.in_ok-explored.explored.fairness c.in_ok-explored.ensures.fairness
+    c.fair_cycles_never_end.ensures.endless c.in_ok-explored.explored.fairness c.in_ok-explored.ensures.fairness
 
 pub returns-clause-states : goal.returns-clause-states
 returns-clause-states g c =

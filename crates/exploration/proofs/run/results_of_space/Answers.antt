@@ -1,4 +1,4 @@
-use Rattle.std.proofs.Common.{ℕ, ◌<◌, List, [], ◌∷◌, All, Contains, inl, inr, length, sym, subst, arith}
+use Rattle.std.proofs.Common.{ℕ, ◌<◌, List, [], All, Contains, length, sym, subst, arith}
 use Rattle.std.specs.Prelude.{slice_index_or}
 use Rattle.local_reduction.specs.Live.{HasAllLive}
 use Rattle.local_reduction.specs.Results.{HaveStopped, result_at}

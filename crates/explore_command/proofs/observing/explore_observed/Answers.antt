@@ -2,7 +2,8 @@ use Rattle.std.proofs.Common.{◌<◌, ◌^◌, ◌++◌, not, subst, ap, ◌∙
 use Rattle.std.proofs.lemmas.Result.{err_from_is_err_and}
 use Rattle.flat_machine.specs.declared.config.Config.{Config}
 use Rattle.exploration.specs.Endings.{AreSingle}
-use Rattle.explore_command.specs.Explorations.{IsExitOf, fairness_text}
+use Rattle.explore_command.specs.Explorations.{IsExitOf}
+use Rattle.explore_command.specs.Lassos.{fairness_text}
 use Rattle.observed_results.specs.Lines.{parts_lines}
 use Rattle.observed_results.specs.Parts.{AreParts}
 use Rattle.explore_command.proofs.observing.explore_observed.Goals as goal

@@ -3,7 +3,7 @@ use Rattle.std.proofs.lemmas.Result.{err_from_is_err_and}
 use Rattle.steps.specs.declared.step.Step.{Step}
 use Rattle.trace_file.specs.Traces.{trace_bytes, trace_of}
 use Rattle.run_reports.specs.RunReports.{HasPartSaved, HasSaved, trace_output}
-use Rattle.explore_command.specs.Explorations.{problem_of}
+use Rattle.explore_command.specs.Explorations.{problem_of, search_result}
 use Rattle.explore_command.proofs.Wanted.{not_led_to, witnessed}
 use Rattle.explore_command.proofs.observing.save_wanted.Goals as goal
 
@@ -25,9 +25,9 @@ returns-in_err-save-clause-refused g c =
       record {
         opening = c.args.machine.now;
         opens = c.requires.opens;
-        classes = found.classes.items;
-        results = found.results.items;
+        found = search_result found.classes.items found.results.items found.termination found.fairness found.states;
         all = c.requires.all;
+        fair = c.requires.fair;
         part = record {
           steps = c.in_ok-log.log.steps;
           witness = c.in_ok-log.ensures.wanted marks parts;
@@ -39,7 +39,9 @@ returns-in_err-save-clause-refused g c =
 
 pub returns-clause-saved : goal.returns-clause-saved
 returns-clause-saved g c = λ marks parts.
-    witnessed (Some marks) (problem_of c.args.config c.args.machine.now.image c.args.asked) c.args.found.now.results.items g.T.Write.contents
+    let found = c.args.found.now in
+    witnessed (Some marks) (problem_of c.args.config c.args.machine.now.image c.args.asked)
+    (search_result found.classes.items found.results.items found.termination found.fairness found.states) g.T.Write.contents
     c.args.trace.now c.save.new.trace c.in_ok-log.log.steps (c.in_ok-log.ensures.wanted marks parts)
     (subst (λ (steps : List Step). HasSaved (trace_output g.T.Write.contents c.args.trace.now c.save.new.trace) (trace_bytes (trace_of c.args.config steps)))
     c.steps.ensures.steps c.in_ok-save.ensures.saved)

@@ -5,4 +5,4 @@ use Rattle.machine_views.proofs.cells.column_of.Given as goal
 
 abbrev pub invariant-loop-row : goal.invariant-loop-row
 invariant-loop-row l =
-    l.cells.items ≡ each_below (cell_of l.view l.column) l.row
+    l.cells.items ≡ each_below (cell_of l.names l.view l.column) l.row

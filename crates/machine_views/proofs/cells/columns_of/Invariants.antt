@@ -5,4 +5,4 @@ use Rattle.machine_views.proofs.cells.columns_of.Given as goal
 
 abbrev pub invariant-loop-column : goal.invariant-loop-column
 invariant-loop-column l =
-    l.columns.items ≡ each_below (column_of l.view) l.column
+    l.columns.items ≡ each_below (column_of l.names l.view) l.column

@@ -4,4 +4,4 @@ use Rattle.machine_views.proofs.cells.push_sent.Given as goal
 
 abbrev pub invariant-loop-shown : goal.invariant-loop-shown
 invariant-loop-shown l =
-    l.lines.items ≡ l.initial.lines.items ++ map request_line (take l.shown-index l.all)
+    l.lines.items ≡ l.initial.lines.items ++ map (request_line l.names) (take l.shown-index l.all)

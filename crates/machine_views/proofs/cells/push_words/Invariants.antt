@@ -4,4 +4,4 @@ use Rattle.machine_views.proofs.cells.push_words.Given as goal
 
 abbrev pub invariant-loop-word : goal.invariant-loop-word
 invariant-loop-word l =
-    l.lines.items ≡ l.initial.lines.items ++ map word_line (take l.word-index l.words)
+    l.lines.items ≡ l.initial.lines.items ++ map (word_line l.names) (take l.word-index l.words)

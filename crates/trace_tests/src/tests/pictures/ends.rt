@@ -11,9 +11,9 @@ use test_support::{Deaf, EBREAK, Sink, Source, assert_same, image_of, metered, t
 use trace_commands::{Picture, trace_command};
 
 /// The picture after all steps.
-const WHOLE: Picture<Svg> = Picture {
+const WHOLE: Picture<Svg<'static>> = Picture {
     step: None,
-    drawing: Svg,
+    drawing: Svg { names: None },
 };
 
 /// A turn of processor 0.

@@ -1,24 +1,23 @@
 //! Files of this machine, and standard input.
 
 ghost use Rattle.std.specs.Prelude.{◌≡◌, false, IfOk};
-ghost use Rattle.trace_commands.specs.run_reports.RunReports.{IsWorking};
+ghost use Rattle.run_reports.specs.RunReports.{IsWorking};
 
-use crate::refusal::Refusal;
-use crate::reports::{Explained, Reason};
+use crate::explained::{Explained, Reason};
+use crate::refusal::FileRefusal;
 use command_io::{CreateAt, OnFirstWrite};
 use link::{Link, Meter};
-use settings::Replay;
 use std::io::{ErrorKind, Input, Read};
 use std::os::unix::fs::MetadataExt;
 use std::rt::Files;
 use std::{fs, io};
 
 /// The path that stands for standard input if it is read, and for standard output if it is written.
-pub(crate) const STANDARD: &str = "-";
+pub const STANDARD: &str = "-";
 
 /// What a command reads.
 #[derive(Drop)]
-pub(crate) enum Source<F, I> {
+pub enum Source<F, I> {
     File(F),
     StandardInput(I),
 }
@@ -41,20 +40,28 @@ fn source_at<R: Files + Input>(rt: &R, path: &str) -> io::Result<Source<R::File,
 }
 
 /// Opens a file to read it. A read that fails leaves its error in `reason`.
-pub(crate) fn open<'a, 'r, R: Files + Input>(
+///
+/// # Errors
+///
+/// [`FileRefusal::Closed`] with the system's error if the file cannot be opened. Standard input always can.
+pub fn open<'a, 'r, R: Files + Input>(
     rt: &R,
     path: &'a str,
     reason: &'r Reason,
-) -> Result<Explained<'r, Source<R::File, R::Reader>>, Refusal<'a>> {
+) -> Result<Explained<'r, Source<R::File, R::Reader>>, FileRefusal<'a>> {
     match source_at(rt, path) {
         Ok(device) => Ok(Explained { device, reason }),
-        Err(error) => Err(Refusal::Closed(path, error)),
+        Err(error) => Err(FileRefusal::Closed(path, error)),
     }
 }
 
 /// Opens the image of a trace's run. If it cannot be opened, the error is left in `reason`, and the command reports it
 /// after what is wrong with the trace.
-pub(crate) fn open_image<'r, R: Files + Input>(
+///
+/// # Errors
+///
+/// The system's error.
+pub fn open_image<'r, R: Files + Input>(
     rt: &R,
     path: &str,
     reason: &'r Reason,
@@ -71,37 +78,49 @@ pub(crate) fn open_image<'r, R: Files + Input>(
     }
 }
 
-/// Refuses to read both a trace and the image of its run from standard input.
-pub(crate) fn read_once<'a>(replay: &Replay<'a>) -> Result<(), Refusal<'a>> {
-    if replay.trace == STANDARD && replay.file == STANDARD {
-        return Err(Refusal::InputTwice);
+/// Refuses to read both of two paths from standard input, since the first reader would take all of it.
+///
+/// # Errors
+///
+/// [`FileRefusal::InputTwice`] exactly if both paths are [`STANDARD`].
+pub fn read_once<'a>(one: &str, other: &str) -> Result<(), FileRefusal<'a>> {
+    if one == STANDARD && other == STANDARD {
+        return Err(FileRefusal::InputTwice);
     }
     Ok(())
 }
 
 /// Opens a file to read it, unless it is OUT, which is to be written.
-pub(crate) fn open_beside<'a, 'r, R: Files + Input>(
+///
+/// # Errors
+///
+/// [`FileRefusal::SameFile`] if both paths name one regular file; else as [`open`].
+pub fn open_beside<'a, 'r, R: Files + Input>(
     rt: &R,
     path: &'a str,
     out: Option<&str>,
     reason: &'r Reason,
-) -> Result<Explained<'r, Source<R::File, R::Reader>>, Refusal<'a>> {
+) -> Result<Explained<'r, Source<R::File, R::Reader>>, FileRefusal<'a>> {
     if path != STANDARD && out.is_some_and(|out| are_one_file(rt, path, out)) {
-        return Err(Refusal::SameFile);
+        return Err(FileRefusal::SameFile);
     }
     open(rt, path, reason)
 }
 
 /// Opens a file to read it, unless it is that of the trace, which is to be written. No trace goes to standard output,
 /// since a report is printed there.
-pub(crate) fn open_beside_trace<'a, 'r, R: Files + Input>(
+///
+/// # Errors
+///
+/// [`FileRefusal::PrintedTrace`] if the trace's path is [`STANDARD`]; else as [`look_for_folder`] and [`open_beside`].
+pub fn open_beside_trace<'a, 'r, R: Files + Input>(
     rt: &R,
     path: &'a str,
     trace: Option<&'a str>,
     reason: &'r Reason,
-) -> Result<Explained<'r, Source<R::File, R::Reader>>, Refusal<'a>> {
+) -> Result<Explained<'r, Source<R::File, R::Reader>>, FileRefusal<'a>> {
     if trace.is_some_and(|trace| trace == STANDARD) {
-        return Err(Refusal::PrintedTrace);
+        return Err(FileRefusal::PrintedTrace);
     }
     if let Some(trace) = trace {
         look_for_folder(rt, trace)?;
@@ -110,7 +129,11 @@ pub(crate) fn open_beside_trace<'a, 'r, R: Files + Input>(
 }
 
 /// Refuses a file that is to be written in a folder that is not there: the first write, after a run, would fail.
-pub(crate) fn look_for_folder<'a, R: Files>(rt: &R, path: &'a str) -> Result<(), Refusal<'a>> {
+///
+/// # Errors
+///
+/// [`FileRefusal::NoFolder`] if the part of the path before its last `/` names nothing, or what is no folder.
+pub fn look_for_folder<'a, R: Files>(rt: &R, path: &'a str) -> Result<(), FileRefusal<'a>> {
     let Some((folder, _)) = path.rsplit_once('/') else {
         return Ok(());
     };
@@ -118,7 +141,7 @@ pub(crate) fn look_for_folder<'a, R: Files>(rt: &R, path: &'a str) -> Result<(),
         return Ok(());
     }
     match fs::metadata(rt, folder) {
-        Err(error) if is_missing(error.kind()) => Err(Refusal::NoFolder(path, error)),
+        Err(error) if is_missing(error.kind()) => Err(FileRefusal::NoFolder(path, error)),
         _ => Ok(()),
     }
 }
@@ -129,19 +152,23 @@ fn is_missing(kind: ErrorKind) -> bool {
 }
 
 /// Creates a file, or empties it. A write that fails leaves its error in `reason`.
-pub(crate) fn create<'a, 'r, R: Files>(
+///
+/// # Errors
+///
+/// [`FileRefusal::Closed`] with the system's error if the file cannot be created.
+pub fn create<'a, 'r, R: Files>(
     rt: &R,
     path: &'a str,
     reason: &'r Reason,
-) -> Result<Explained<'r, R::File>, Refusal<'a>> {
+) -> Result<Explained<'r, R::File>, FileRefusal<'a>> {
     match fs::create(rt, path) {
         Ok(device) => Ok(Explained { device, reason }),
-        Err(error) => Err(Refusal::Closed(path, error)),
+        Err(error) => Err(FileRefusal::Closed(path, error)),
     }
 }
 
 /// A writer to OUT, which the first write opens. A write that fails leaves its error in `reason`.
-pub(crate) fn writer_to<'a, R: Files>(
+pub fn writer_to<'a, R: Files>(
     files: &'a R,
     path: &'a str,
     reason: &'a Reason,
@@ -153,7 +180,7 @@ pub(crate) fn writer_to<'a, R: Files>(
 }
 
 /// A writer to OUT, if a trace is asked for.
-pub(crate) fn trace_to<'a, R: Files>(
+pub fn trace_to<'a, R: Files>(
     files: &'a R,
     path: Option<&'a str>,
     reason: &'a Reason,
@@ -167,7 +194,7 @@ pub(crate) fn trace_to<'a, R: Files>(
 }
 
 /// Whether two paths name the same regular file, so that a write to one would lose what is read at the other.
-pub(crate) fn are_one_file<R: Files>(files: &R, one: &str, other: &str) -> bool {
+pub fn are_one_file<R: Files>(files: &R, one: &str, other: &str) -> bool {
     let (Ok(one), Ok(other)) = (fs::metadata(files, one), fs::metadata(files, other)) else {
         return false;
     };
