@@ -248,7 +248,7 @@ checks_of_results() {
     check "the results of $it are those that were worked out by hand" \
         finds_each_result "$how" "$name" "$stages" "$status" "$states"
     case $name in # their sweeps may end at a fault, or not at all
-        barrier_early | barrier_late | barrier_once | barrier_stuck | signal) ;;
+        barrier_early | barrier_late | barrier_once | barrier_stuck | polite | signal) ;;
         *) then_check "the sweep of $it ends with one of the results" has_the_end_of_the_sweep "$how" "$name" "$stages" ;;
     esac
     if [ "$stages" -le 2 ]; then
