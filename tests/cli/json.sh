@@ -50,6 +50,11 @@ prints_objects_for_lines() {
     done
     prints_both hunt --k 1 --runs 40 --budget 20000 "$room/barrier_phase_late.elf" && prints_both hunt --k 1 --runs 3 "$room/ebreak.elf" &&
         prints_both check examples/broken/several.s && prints_both check examples/broken/register.s && prints_both check "$room/three.s" || return 1
+    # The rows of a study are a table, so that the plain lines are made of its heading and its cells.
+    ./ultra study --k 0..2 --b 0,4 "$room/hot_spot.elf" | awk 'NR == 1 { split($0, names, / +/); next }
+        { for (i = 1; i <= NF; i++) printf "%s %s%s", names[i], $i, i < NF ? " " : "\n" }' >"$room/study.plain" &&
+        ./ultra study --k 0..2 --b 0,4 --json "$room/hot_spot.elf" >"$room/study.json" || return 1
+    pairs+=("$room/study.plain" "$room/study.json")
     tests/tools/json_lines.py "${pairs[@]}" >"$room/kinds" || { cat "$room/kinds" && return 1; }
     diff <(sed -n 's|.*"#/$defs/lines/\(.*\)".*|\1|p' docs/ultra.schema.json | grep -vx text | sort) <(cut -d ' ' -f 1 "$room/kinds")
 }

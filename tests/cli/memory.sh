@@ -117,6 +117,11 @@ refuses_memory_of_a_hunt() {
 }
 check 'a hunt without memory for one request reports memory, status 4, or prints its results' refuses_memory_of_a_hunt
 
+refuses_memory_of_a_study() {
+    ./ultra study --k 0,1 "$room/three.elf" >"$room/rows" && refuses_each_request 0 "$room/rows" /dev/null study --k 0,1 "$room/three.elf"
+}
+check 'a study without memory for one request reports memory, status 4, or prints its rows' refuses_memory_of_a_study
+
 # ---- texts, and words of the command line
 
 # OUT is standard output, so that the image can be compared like a text.

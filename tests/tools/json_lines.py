@@ -170,6 +170,7 @@ PLAIN = {
     "latency": latency,
     "queues": pairs,
     "waited": lambda it: "waited " + pairs(it),
+    "study": lambda it: pairs({**it, "mean": f"{it['mean']:.2f}"}),
     "round": pairs,
     "step": step,
     "entry": lambda it: f"{it['number']} {it['processor']} {it['address']:08x} {event(it)}{reference(it)}",

@@ -11,7 +11,7 @@ use Rattle.assembler.specs.declared.fault.AsmFault.TheVariants.{UnknownWord, For
 use Rattle.assembler.specs.Meaning.{IsPresent}
 use Rattle.asm_lines.specs.Text.{parts_at}
 use Rattle.course_text.specs.Course.{plain_text, origins}
-use Rattle.asm_commands.specs.declared.text_fault.TextFault.{TextFault}
+use Rattle.fault_lists.specs.declared.text_fault.TextFault.{TextFault}
 use Rattle.asm_commands.specs.Courses.{Lines, lines_of, view_of, origin_in, course_fault, course_faults, fault_on, IsCourseRefusal}
 
 -- ---- asm

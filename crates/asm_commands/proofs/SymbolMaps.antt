@@ -13,7 +13,7 @@ use Rattle.assembler.specs.Meaning.{Place}
 use Rattle.assembler.specs.Passes.{nows}
 use Rattle.asm_commands.specs.declared.text_label.TextLabel.{TextLabel}
 use Rattle.asm_commands.specs.SymbolMaps.{LabelRow, end_before, label_line, label_lines, labels_at, row_of}
-use Rattle.asm_commands.proofs.Found.{at_item}
+use Rattle.fault_lists.proofs.Lemmas.{at_item}
 
 -- ---- line by line
 

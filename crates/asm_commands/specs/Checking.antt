@@ -5,9 +5,9 @@ use Rattle.command_io.specs.declared.fault.Fault.{Fault}
 use Rattle.command_io.specs.declared.fault.Fault.TheVariants as fault
 use Rattle.command_io.specs.Files.{IsWhole}
 use Rattle.command_io.specs.Printing.{PrintsPrefix}
-use Rattle.asm_commands.specs.declared.text_fault.TextFault.{TextFault}
-use Rattle.asm_commands.specs.Faults.{AreTheFaults}
-use Rattle.asm_commands.specs.Lines.{IsList}
+use Rattle.fault_lists.specs.declared.text_fault.TextFault.{TextFault}
+use Rattle.fault_lists.specs.Faults.{AreTheFaults}
+use Rattle.fault_lists.specs.Lines.{IsList}
 
 -- the exit status if the list is printed
 abbrev pub status_of : List TextFault → ℕ

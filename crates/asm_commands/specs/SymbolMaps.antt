@@ -15,7 +15,7 @@ use Rattle.assembler.specs.declared.symbol.Symbol.{Symbol}
 use Rattle.assembler.specs.Meaning.{Labels, Place, start, after, base_of, count_of, labels_of, lines_of}
 use Rattle.command_io.specs.Digits.{hex_of_word, line_feed}
 use Rattle.asm_commands.specs.declared.text_label.TextLabel.{TextLabel}
-use Rattle.asm_commands.specs.Words.{shown_byte}
+use Rattle.fault_lists.specs.Words.{shown_byte}
 
 -- ---- the labels of a text
 

@@ -5,11 +5,9 @@ ghost use Rattle.command_io.specs.FaultTexts.{IsReported};
 ghost use Rattle.command_io.specs.Printing.{IsCauseAndUnread, Prints, ReportsFault};
 ghost use Rattle.asm_commands.specs.Checking.{IsCheck, CheckFails, IsCheckOf, CheckOfTextFails, status_of};
 
-use crate::fault_lines::list_of;
-use crate::faults::text_faults;
 use crate::input::{read_text, text_of};
-use crate::text_fault::TextFault;
 use command_io::{DONE, Fault, print, report_fault};
+use fault_lists::{TextFault, list_of, text_faults};
 use link::{LinkRead, LinkWrite};
 use std::alloc::Global;
 use std::io::Write;

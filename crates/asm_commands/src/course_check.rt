@@ -9,13 +9,11 @@ ghost use Rattle.asm_commands.specs.Courses.{lines_of, course_faults, view_of};
 
 use crate::check::status_of;
 use crate::course_faults::{CourseLines, course_faults};
-use crate::fault_lines::list_of;
-use crate::faults::text_faults;
 use crate::input::{read_text, text_of};
-use crate::text_fault::TextFault;
 use asm_lines::parts_at;
 use command_io::{Fault, print, report_fault};
 use course_text::course_text;
+use fault_lists::{TextFault, list_of, text_faults};
 use link::{LinkRead, LinkWrite};
 use std::alloc::{AllocError, Global};
 use std::io::Write;

@@ -6,8 +6,8 @@ ghost use Rattle.asm_commands.specs.Courses.{at_word, course_fault, course_fault
 ghost use Rattle.asm_commands.specs.CourseViews.{lines_view};
 
 use crate::origins::origin;
-use crate::text_fault::TextFault;
 use course_text::{Parts, first_column};
+use fault_lists::TextFault;
 use line_faults::Hint;
 use std::alloc::{AllocError, Global};
 

@@ -12,13 +12,12 @@ ghost use Rattle.asm_commands.specs.SymbolMaps.{IsSymbolMap, end_before, end_of,
 ghost use Rattle.asm_commands.specs.SymbolMaps.{label_rows, labels_at, number_text, row_of, row_of_line, row_with};
 ghost use Rattle.asm_commands.specs.SymbolMaps.{type_text};
 
-use crate::faults::end_place;
 use crate::text_label::TextLabel;
-use crate::words::push_shown;
 use asm_lines::{LineError, Section, parts_at, read_line};
 use assembler::base_of;
 use command_io::push_word;
 use course_text::course_text;
+use fault_lists::{end_place, push_shown};
 use line_faults::{Cursor, Label};
 use std::alloc::{AllocError, Global};
 use std::collections::BTreeMap;

@@ -46,6 +46,10 @@ budget = record { bounds = record { name = codes "budget"; low = 1; high = 42949
 abbrev pub steps : Ranged
 steps = record { bounds = record { name = codes "budget"; low = 1; high = 4000000 }; default = 100000 }
 
+-- the most steps of each run of a study
+abbrev pub sweep_steps : Ranged
+sweep_steps = record { bounds = record { name = codes "budget"; low = 1; high = 4000000 }; default = 4000000 }
+
 -- the port at which the program waits for a debugger
 abbrev pub port : Ranged
 port = record { bounds = record { name = codes "port"; low = 0; high = 65535 }; default = 3333 }
@@ -198,6 +202,11 @@ stats_command = command (codes "stats") (replay
 unfoldable pub picture_command : App
 picture_command = command (codes "picture") (replay ++ (number step ∷ symbols ∷ []))
 
+unfoldable pub study_command : App
+study_command = command (codes "study")
+    (file ∷ option (codes "k") ∷ option (codes "b") ∷ option (codes "r") ∷ option (codes "plot") ∷ flag (codes "csv")
+    ∷ json ∷ number queue.bounds ∷ number shared_words.bounds ∷ number sweep_steps.bounds ∷ [])
+
 unfoldable pub trace_command : App
 trace_command = command (codes "trace") (path (codes "TRACE") ∷ [])
 
@@ -234,6 +243,7 @@ ultra_command = with_subcommands (
     ∷ story_command.top
     ∷ stats_command.top
     ∷ picture_command.top
+    ∷ study_command.top
     ∷ trace_command.top
     ∷ steps_command.top
     ∷ debug_command.top

@@ -5,18 +5,18 @@ ghost use Rattle.command_forms.specs.Forms.{app_of_form, with_forms};
 ghost use Rattle.command_forms.specs.Commands.{asm_command, check_command, debug_command, dis_command};
 ghost use Rattle.command_forms.specs.Commands.{explain_command, explore_command, hunt_command, order_command};
 ghost use Rattle.command_forms.specs.Commands.{picture_command, program, replay_command, run_command, stats_command};
-ghost use Rattle.command_forms.specs.Commands.{steps_command, story_command, trace_command, ultra_command};
-ghost use Rattle.command_forms.specs.Commands.{words_command};
+ghost use Rattle.command_forms.specs.Commands.{steps_command, story_command, study_command, trace_command};
+ghost use Rattle.command_forms.specs.Commands.{ultra_command, words_command};
 
 use crate::help::{
     ASM_ENDS, CHECK_ENDS, DEBUG_ENDS, DIS_ENDS, EXPLAIN_ENDS, EXPLORE_ENDS, HUNT_ENDS, ORDER_ENDS,
-    PICTURE_ENDS, REPLAY_ENDS, RUN_ENDS, STATS_ENDS, STEPS_ENDS, STORY_ENDS, TRACE_ENDS,
-    WORDS_ENDS,
+    PICTURE_ENDS, REPLAY_ENDS, RUN_ENDS, STATS_ENDS, STEPS_ENDS, STORY_ENDS, STUDY_ENDS,
+    TRACE_ENDS, WORDS_ENDS,
 };
 use crate::ranges::{
     BUDGET, COMBINATIONS, ChoiceOption, FIRST_LINE, FIRST_START, LAST_LINE, NumberOption, PORT,
     PROCESSOR, QUEUE, RECORDS, RUN_STEPS, RUNS, SHARED_WORD, SHARED_WORDS, STAGES, START, STATES,
-    STEP, STEPS, WITNESS,
+    STEP, STEPS, SWEEP_STEPS, WITNESS,
 };
 
 /// A command of the program.
@@ -411,6 +411,43 @@ const PICTURE: CommandForm = CommandForm {
     ends: PICTURE_ENDS,
 };
 
+const STUDY: CommandForm = CommandForm {
+    name: "study",
+    about: "Run an image by the sweep on machines of several sizes, and print a row of figures for each",
+    arguments: &[
+        IMAGE,
+        Argument::Text {
+            name: "k",
+            value: "LIST",
+            help: "Stages of the networks, numbers and ranges from 0 to 6 that ascend, as `0..3,6` [default: 0..6]",
+        },
+        Argument::Text {
+            name: "b",
+            value: "LIST",
+            help: "Records that an output of a switch holds, 0 to 16, as `0,4`; with 0 nothing is combined [default: 4]",
+        },
+        Argument::Text {
+            name: "r",
+            value: "LIST",
+            help: "Times that a request in a queue of a switch is combined, 1 to 3, and fewer than --c [default: 1]",
+        },
+        Argument::Text {
+            name: "plot",
+            value: "COLUMN",
+            help: "Draw the numbers of this column by processors, as an SVG; not with --csv or --json",
+        },
+        Argument::Flag {
+            name: "csv",
+            help: "Print the rows as CSV; not with --json",
+        },
+        JSON,
+        Argument::Number(QUEUE),
+        Argument::Number(SHARED_WORDS),
+        Argument::Number(SWEEP_STEPS),
+    ],
+    ends: STUDY_ENDS,
+};
+
 const TRACE_TEXT: CommandForm = CommandForm {
     name: "trace",
     about: "Print a trace as a text, which can be edited and made a trace again by `ultra steps`",
@@ -555,6 +592,13 @@ fn picture() -> CommandForm
     PICTURE
 }
 
+#[tactic(auto, unfolding(crate::specs::Commands::study_command))]
+fn study() -> CommandForm
+    ensures { app_of_form result ≡ study_command }
+{
+    STUDY
+}
+
 #[tactic(auto, unfolding(crate::specs::Commands::trace_command))]
 fn trace_text() -> CommandForm
     ensures { app_of_form result ≡ trace_command }
@@ -585,7 +629,7 @@ fn explain() -> CommandForm
 
 /// All commands, in the order in which the help lists them.
 #[tactic(auto, unfolding(crate::specs::Commands::ultra_command))]
-pub(crate) fn commands() -> [CommandForm; 16]
+pub(crate) fn commands() -> [CommandForm; 17]
     ensures { with_forms result program ≡ ultra_command }
 {
     [
@@ -601,6 +645,7 @@ pub(crate) fn commands() -> [CommandForm; 16]
         story(),
         stats(),
         picture(),
+        study(),
         trace_text(),
         steps_text(),
         debug(),

@@ -217,6 +217,29 @@ Errors are reported on standard error as by `ultra replay`, and then nothing is 
 Exit status: 0 done, 1 a fault has stopped a processor of the machine drawn, 2 a refused trace, image or
 command line, 3 a file or standard output failed, 4 out of memory.";
 
+/// What `study` prints, and its exit statuses.
+pub(crate) const STUDY_ENDS: &str = "\
+Runs FILE as `ultra run --sweep` does, for each k, then each b, then each r, and counts the steps of each
+run, with those that drain the network, as `ultra stats --latency` counts them. The columns:
+
+    k, b, r, processors   the size of the machine
+    end                   over, fault (one stopped a processor) or budget (used up: figures so far)
+    steps, rounds         the steps, and the rounds of the sweep in which they were taken
+    references            the references that were retired
+    serve, combined       services of the modules; requests that were combined, at all stages
+    requests, records, replies   the longest queue of requests, wait buffer and queue of replies
+    mean                  the mean latency of a reference in rounds, rounded down to hundredths
+
+A LIST has numbers and ranges with commas between them; both ends of a range belong to it. Its numbers
+ascend, so each is there once. --plot takes the name of a column but `end`, and draws a line for each b
+and r. `ultra study FILE --b 0,4 --plot steps > FILE.svg` writes a file that browsers show.
+
+A size that the machine does not have is reported before any run (`ultra: K1`); other errors as by
+`ultra run`, and then nothing is printed.
+
+Exit status: the greatest of all runs, 0 over, 1 a fault stopped a processor, 4 the budget is used up; or
+2 a refused image, size or command line, 3 a file or standard output failed, 4 out of memory.";
+
 /// What `trace` prints, and its exit statuses.
 pub(crate) const TRACE_ENDS: &str = "\
 The first line is the machine's size, `machine k K c C b B r R`. Then comes a line for each step, as

@@ -94,6 +94,15 @@ pub const RUN_STEPS: NumberOption = NumberOption {
     help: "Steps that each run may take, 1 to 4000000 [default: 100000]",
 };
 
+/// The most steps of each run of a study.
+pub const SWEEP_STEPS: NumberOption = NumberOption {
+    name: "budget",
+    default: 4_000_000,
+    low: 1,
+    high: 4_000_000,
+    help: "Steps that the sweep may take in each run, 1 to 4000000 [default: 4000000]",
+};
+
 /// The number of runs of a hunt.
 pub const RUNS: NumberOption = NumberOption {
     name: "runs",

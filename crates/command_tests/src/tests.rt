@@ -3,6 +3,7 @@
 
 mod exploring;
 mod running;
+mod studying;
 mod words;
 
 use std::fmt::Debug;

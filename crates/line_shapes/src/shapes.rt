@@ -178,6 +178,16 @@ const GREATEST: Part = Field(" greatest ", "greatest", Number);
 
 const ROUNDS_TAKEN: Part = Field(" rounds ", "rounds", List);
 
+// ---- a study
+
+const OF_K: Part = Field("k ", "k", Number);
+
+const MACHINES: Part = Field(" processors ", "processors", Number);
+
+const END: Part = Field(" end ", "end", Text);
+
+const ITS_STEPS: Part = Field(" steps ", "steps", Number);
+
 // ---- a serial order
 
 const NUMBER: Part = Field("", "number", Number);
@@ -456,6 +466,14 @@ static COUNTS_SHAPES: [Shape; 11] = [
     Shape("waited", &[WAITED, REQUESTS, RECORDS, REPLIES]),
 ];
 
+static STUDY_SHAPES: [Shape; 1] = [Shape(
+    "study",
+    &[
+        OF_K, B, R, MACHINES, END, ITS_STEPS, ROUNDS, REFERENCES, SERVE, COMBINED, REQUESTS,
+        RECORDS, REPLIES, MEAN,
+    ],
+)];
+
 static STORY_SHAPES: [Shape; 14] = [
     Shape("round", &[ROUND]),
     Shape(
@@ -569,6 +587,11 @@ pub fn sizes() -> &'static [Shape] {
 /// Those of `stats`.
 pub fn counts() -> &'static [Shape] {
     &COUNTS_SHAPES
+}
+
+/// Those of `study`.
+pub fn study() -> &'static [Shape] {
+    &STUDY_SHAPES
 }
 
 /// Those of `story`.

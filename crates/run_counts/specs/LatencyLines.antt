@@ -1,6 +1,6 @@
 -- The lines of the latencies.
-use Rattle.std.specs.Prelude.{ℕ, zero, suc, ◌*◌, ◌/◌, ◌%◌, ◌^◌, ◌==◌, min, max, Bool, List, [], ◌++◌, codes, count_by}
-use Rattle.std.specs.Prelude.{fold, length, slice_index, sum, if◌then◌else◌}
+use Rattle.std.specs.Prelude.{ℕ, zero, suc, ◌+◌, ◌*◌, ◌/◌, ◌%◌, ◌^◌, ◌==◌, min, max, Bool, List, [], ◌++◌, codes}
+use Rattle.std.specs.Prelude.{count_by, fold, length, slice_index, sum, if◌then◌else◌}
 use Rattle.std.specs.Fmt.{decimal}
 use Rattle.run_counts.specs.Latencies.{LatencyState, sample_at}
 use Rattle.run_counts.specs.Lines.{first_lines, line_feed, size_text}
@@ -18,6 +18,10 @@ greatest xs = fold (λ n x. max n x) 0 xs
 -- the hundredths of the mean of this many numbers, rounded down, without its whole ones
 abbrev pub hundredths : (total count : ℕ) → ℕ
 hundredths total count = ((total % count) * 100) / count
+
+-- the mean of these latencies in hundredths of a round, rounded down; 0 if there are none
+unfoldable pub mean_of : List ℕ → ℕ
+mean_of xs = if length xs == 0 then 0 else (sum xs / length xs) * 100 + hundredths (sum xs) (length xs)
 
 -- whether a latency is at least this power of 2, and below the next
 abbrev pub is_of_power : (power latency : ℕ) → Bool

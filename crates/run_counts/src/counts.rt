@@ -97,4 +97,18 @@ impl Counts {
     {
         self.kinds.step_count()
     }
+
+    /// How many services were observed, at all modules.
+    pub fn services(&self) -> u64
+        ensures { result ≡ slice_index self.now.kinds 2 }
+    {
+        self.kinds.at(2)
+    }
+
+    /// How many requests were combined at a stage, or 0 if there is no such stage.
+    pub fn combined_at(&self, stage: u8) -> u64
+        ensures { result ≡ slice_index self.now.combined stage }
+    {
+        self.combined.at(u16::from(stage))
+    }
 }

@@ -79,6 +79,13 @@ impl Latencies {
         self.retire(keys::processor_of_retirement(step, outcome), word)
     }
 
+    /// The latencies of all references, in the order in which these retired.
+    pub fn of_all(&self) -> &[usize]
+        ensures { result.now ≡ self.now.all }
+    {
+        self.all.latencies()
+    }
+
     /// How many rounds the observed steps began.
     pub fn rounds(&self) -> usize
         ensures { result ≡ self.now.begun.count }

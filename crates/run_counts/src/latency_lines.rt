@@ -1,9 +1,11 @@
 //! The lines of the latencies.
 
-ghost use Rattle.std.specs.Prelude.{◌≡◌, ◌<◌, ◌++◌, ◌^◌, IfOk, OnOk, count_by, length, string_bytes, sum};
-ghost use Rattle.run_counts.specs.LatencyLines.{all_line, greatest, histogram_text, is_of_power, latency_line};
-ghost use Rattle.run_counts.specs.LatencyLines.{latency_lines, least, least_text, mean_text, numbers_text, powers_text};
-ghost use Rattle.run_counts.specs.LatencyLines.{sample_line, sample_lines, subject_line};
+ghost use Rattle.std.specs.Prelude.{◌≡◌, ◌<◌, ◌+◌, ◌*◌, ◌/◌, ◌++◌, ◌^◌, IfOk, OnOk, count_by, length};
+ghost use Rattle.std.specs.Prelude.{string_bytes, sum};
+ghost use Rattle.run_counts.specs.LatencyLines.{all_line, greatest, histogram_text, hundredths, is_of_power};
+ghost use Rattle.run_counts.specs.LatencyLines.{latency_line};
+ghost use Rattle.run_counts.specs.LatencyLines.{latency_lines, least, least_text, mean_of, mean_text, numbers_text};
+ghost use Rattle.run_counts.specs.LatencyLines.{powers_text, sample_line, sample_lines, subject_line};
 ghost use Rattle.run_counts.specs.Lines.{size_text};
 
 use crate::latencies::Latencies;
@@ -123,6 +125,37 @@ fn push_mean(text: &mut String, total: u128, count: usize) -> Result<(), AllocEr
     let hundredths = total % count * 100 / count;
     let (tens, units) = (hundredths / 10, hundredths % 10);
     write!(text, " mean {whole}.{tens}{units}")
+}
+
+/// The mean of some latencies in hundredths of a round, rounded down as in the lines; 0 if there are none. A mean out
+/// of range, of latencies that no memory can hold, is refused as out of memory.
+///
+/// # Errors
+///
+/// [`AllocError`] if the mean is out of range.
+#[tactic(auto, unfolding(crate::specs::LatencyLines::mean_of))]
+pub fn mean_of(sample: &[usize]) -> Result<u128, AllocError>
+    ensures { IfOk result (λ mean. mean ≡ mean_of sample.now) }
+{
+    if sample.is_empty() {
+        return Ok(0);
+    }
+    hundredths_of(total_of(sample), sample.len())
+}
+
+/// The mean of this many numbers with this sum, in hundredths, rounded down.
+fn hundredths_of(total: u128, count: usize) -> Result<u128, AllocError>
+    requires { 0 < count }
+    ensures { IfOk result (λ mean. mean ≡ (total / count) * 100 + hundredths total count) }
+{
+    let count = count as u128;
+    let Some(whole) = (total / count).checked_mul(100) else {
+        return Err(AllocError);
+    };
+    match whole.checked_add(total % count * 100 / count) {
+        Some(mean) => Ok(mean),
+        None => Err(AllocError),
+    }
 }
 
 /// Appends the greatest latency, and how many there are from each power of 2 to below the next.

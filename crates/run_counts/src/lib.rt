@@ -25,7 +25,7 @@ mod samples;
 
 pub use counts::Counts;
 pub use latencies::Latencies;
-pub use latency_lines::latencies_text;
+pub use latency_lines::{latencies_text, mean_of};
 pub use lines::counts_text;
 pub use longest::{Held, Longest};
 pub use queue_lengths::{LengthsFormat, StageLengths, lengths_text};

@@ -15,11 +15,11 @@ use Rattle.command_forms.specs.Commands.{Bounds, asm_command, budget, check_comm
 use Rattle.command_forms.specs.Commands.{dis_command, explain_command, explore_command, hunt_command, order_command}
 use Rattle.command_forms.specs.Commands.{port, processor, queue, records, picture_command, replay_command, run_command, runs}
 use Rattle.command_forms.specs.Commands.{shared_word, shared_words, stages, start, states, stats_command, step, steps}
-use Rattle.command_forms.specs.Commands.{first_line, last_line, steps_command, story_command, trace_command, ultra_command}
-use Rattle.command_forms.specs.Commands.{witness, words_command}
+use Rattle.command_forms.specs.Commands.{first_line, last_line, steps_command, story_command, study_command, sweep_steps}
+use Rattle.command_forms.specs.Commands.{trace_command, ultra_command, witness, words_command}
 use Rattle.command_forms.proofs.Lemmas.{commands}
 use Rattle.settings.specs.Given.{HasAsm, HasDebug, HasDis, HasExplore, HasHunt, HasLines, HasPath, HasPicture}
-use Rattle.settings.specs.Given.{HasReplay, HasRun, HasSizes, IsComplete, IsOneOf, IsWhole, command_names}
+use Rattle.settings.specs.Given.{HasReplay, HasRun, HasSizes, HasStudy, IsComplete, IsOneOf, IsWhole, command_names}
 use Rattle.settings.proofs.NoHelp.{IsNoHelp, StopsAtNoHelp, walk_stops}
 use Rattle.settings.proofs.Numbers.{is_apart_or_number, number_there}
 use Rattle.settings.proofs.Rows.{gives_value, required_there}
@@ -75,10 +75,11 @@ Has name rows =
     (Where (bytes_eq name (codes "story")) (HasLines rows)
     (Where (bytes_eq name (codes "stats")) (HasReplay rows)
     (Where (bytes_eq name (codes "picture")) (HasPicture rows)
+    (Where (bytes_eq name (codes "study")) (HasStudy rows)
     (Where (bytes_eq name (codes "trace")) (HasPath (codes "TRACE") rows)
     (Where (bytes_eq name (codes "steps")) (HasAsm rows)
     (Where (bytes_eq name (codes "debug")) (HasDebug rows)
-    ⊤))))))))))))))
+    ⊤)))))))))))))))
 
 is_one_of : (name : Text) (names : List Text) → list_any (λ x. bytes_eq name x) names ≡ true → IsOneOf name names
 is_one_of name [] e = absurd (true≢false (sym e))
@@ -104,6 +105,7 @@ whole name rows known has = record {
   story = λ is. subst (λ n. Has n rows) is has;
   stats = λ is. subst (λ n. Has n rows) is has;
   picture = λ is. subst (λ n. Has n rows) is has;
+  study = λ is. subst (λ n. Has n rows) is has;
   trace = λ is. subst (λ n. Has n rows) is has;
   steps = λ is. subst (λ n. Has n rows) is has;
   debug = λ is. subst (λ n. Has n rows) is has;
@@ -130,6 +132,15 @@ asm_provided words e = whole (codes "asm") _ refl (
       (λ rows h. (both_required (is_given (codes "FILE") rows) (is_given (codes "OUT") rows) h).0) e,
   required_there (built_leaf asm_command.top) (codes "OUT") words refl
       (λ rows h. (both_required (is_given (codes "FILE") rows) (is_given (codes "OUT") rows) h).1) e,
+)
+
+study_provided : IsProvided (built_leaf study_command.top)
+unfolding commands
+study_provided words e = whole (codes "study") _ refl (
+  required_there (built_leaf study_command.top) (codes "FILE") words refl (λ rows. required (is_given (codes "FILE") rows)) e,
+  number_there (built_leaf study_command.top) queue.bounds words refl e,
+  number_there (built_leaf study_command.top) shared_words.bounds words refl e,
+  number_there (built_leaf study_command.top) sweep_steps.bounds words refl e,
 )
 
 trace_provided : IsProvided (built_leaf trace_command.top)
@@ -302,11 +313,12 @@ enters : (stop : Option (Text × List Text)) → StopsAtNoHelp stop → entered_
 unfolding built_ultra commands
 enters None unhelped e has = absurd (true≢false (sym has))
 enters (Some p) unhelped e has =
-    let provided : AreProvidedFrom p.0 16 = ((λ is. absurd (helped (bytes_eq (codes "help") p.0) (no_help p.0 unhelped) is)), tt) in
-    let provided : AreProvidedFrom p.0 15 = ((λ is. explain_provided), provided) in
-    let provided : AreProvidedFrom p.0 14 = ((λ is. debug_provided), provided) in
-    let provided : AreProvidedFrom p.0 13 = ((λ is. steps_provided), provided) in
-    let provided : AreProvidedFrom p.0 12 = ((λ is. trace_provided), provided) in
+    let provided : AreProvidedFrom p.0 17 = ((λ is. absurd (helped (bytes_eq (codes "help") p.0) (no_help p.0 unhelped) is)), tt) in
+    let provided : AreProvidedFrom p.0 16 = ((λ is. explain_provided), provided) in
+    let provided : AreProvidedFrom p.0 15 = ((λ is. debug_provided), provided) in
+    let provided : AreProvidedFrom p.0 14 = ((λ is. steps_provided), provided) in
+    let provided : AreProvidedFrom p.0 13 = ((λ is. trace_provided), provided) in
+    let provided : AreProvidedFrom p.0 12 = ((λ is. study_provided), provided) in
     let provided : AreProvidedFrom p.0 11 = ((λ is. picture_provided), provided) in
     let provided : AreProvidedFrom p.0 10 = ((λ is. stats_provided), provided) in
     let provided : AreProvidedFrom p.0 9 = ((λ is. story_provided), provided) in

@@ -126,6 +126,7 @@ data OnFile : Type 0 where
   OfRun : OnFile
   OfHunt : OnFile
   OfExplore : OnFile
+  OfStudy : OnFile
   OfTrace : OnFile
   OfDebug : OnFile
 
@@ -136,6 +137,7 @@ name_on_file OfDis = codes "dis"
 name_on_file OfRun = codes "run"
 name_on_file OfHunt = codes "hunt"
 name_on_file OfExplore = codes "explore"
+name_on_file OfStudy = codes "study"
 name_on_file OfTrace = codes "trace"
 name_on_file OfDebug = codes "debug"
 
@@ -146,6 +148,7 @@ flags_on_file OfDis = codes "comments" ∷ codes "abi" ∷ []
 flags_on_file OfRun = codes "sweep" ∷ codes "no-log" ∷ codes "unfinished" ∷ codes "quiet" ∷ codes "decimal" ∷ codes "json" ∷ []
 flags_on_file OfHunt = codes "overwrite" ∷ codes "expect-one" ∷ codes "quiet" ∷ codes "decimal" ∷ codes "json" ∷ []
 flags_on_file OfExplore = codes "each" ∷ codes "fair" ∷ codes "every" ∷ codes "quiet" ∷ codes "decimal" ∷ codes "json" ∷ []
+flags_on_file OfStudy = codes "csv" ∷ codes "json" ∷ []
 flags_on_file OfTrace = []
 flags_on_file OfDebug = codes "stdio" ∷ []
 
@@ -166,6 +169,7 @@ file_met OfDis program file h = rw (no_hyphens file h, no_hyphen file h, no_hyph
 file_met OfRun program file h = rw (no_hyphens file h, no_hyphen file h, no_hyphen file h) (refl, refl)
 file_met OfHunt program file h = rw (no_hyphens file h, no_hyphen file h, no_hyphen file h) (refl, refl)
 file_met OfExplore program file h = rw (no_hyphens file h, no_hyphen file h, no_hyphen file h) (refl, refl)
+file_met OfStudy program file h = rw (no_hyphens file h, no_hyphen file h, no_hyphen file h) (refl, refl)
 file_met OfTrace program file h = rw (no_hyphens file h, no_hyphen file h, no_hyphen file h) (refl, refl)
 file_met OfDebug program file h = rw (no_hyphens file h, no_hyphen file h, no_hyphen file h) (refl, refl)
 
@@ -227,6 +231,21 @@ file_are OfExplore file words named (asked.Explore x) said =
       no_text x.never said.1.12,
       no_text x.always said.1.13,
       no_text x.finally said.1.14,
+    )
+file_are OfStudy file words named (asked.Study s) said =
+    let queue = said.1.7 in
+    let shared = said.1.8 in
+    let budget = said.1.9 in (
+      file_read file s.file.now words named said.1.0,
+      no_text s.ks said.1.1,
+      no_text s.bs said.1.2,
+      no_text s.rs said.1.3,
+      no_text s.plot said.1.4,
+      unset s.csv said.1.5.0,
+      unset s.json said.1.6.0,
+      queue.0,
+      shared.0,
+      budget.0,
     )
 file_are OfTrace file words named (asked.Trace t) said = file_read file t.trace.now words named said.1
 file_are OfDebug file words named (asked.Debug d) said =
@@ -415,6 +434,7 @@ plain_given (asked.Order o) words said = files_given OfOrder o.lines.replay.trac
 plain_given (asked.Story s) words said = files_given OfStory s.lines.replay.trace.now s.lines.replay.file.now words said.0.0
 plain_given (asked.Stats c) words said = files_given OfStats c.replay.trace.now c.replay.file.now words said.0.0
 plain_given (asked.Picture p) words said = files_given OfPicture p.replay.trace.now p.replay.file.now words said.0.0
+plain_given (asked.Study s) words said = file_given OfStudy s.file.now words said.0
 plain_given (asked.Trace t) words said = file_given OfTrace t.trace.now words said
 plain_given (asked.Steps s) words said = files_given OfSteps s.file.now s.out.now words said
 plain_given (asked.Debug d) words said = file_given OfDebug d.file.now words said.0

@@ -3,7 +3,7 @@ use Rattle.std.specs.Prelude.{◌≡◌, ◌⊎◌, pos, true, List, [], ◌∷�
 use Rattle.clap.specs.Words.{IsSignedIn, Row, Text, first_of, one_of, without_minus}
 use Rattle.command_forms.specs.Commands.{Bounds, budget, combinations, first_line, last_line, port, processor}
 use Rattle.command_forms.specs.Commands.{queue, records, runs, shared_word, shared_words, stages, start, states}
-use Rattle.command_forms.specs.Commands.{step, steps, witness}
+use Rattle.command_forms.specs.Commands.{step, steps, sweep_steps, witness}
 
 abbrev pub HasPath : Text → List Row → Type 0
 HasPath id rows = is_some (first_of id rows) ≡ true
@@ -39,6 +39,10 @@ HasLines rows = HasReplay rows × HasNumber processor rows × HasNumber shared_w
 abbrev pub HasPicture : List Row → Type 0
 HasPicture rows = HasReplay rows × HasNumber step rows
 
+abbrev pub HasStudy : List Row → Type 0
+HasStudy rows = HasPath (codes "FILE") rows × HasNumber queue.bounds rows × HasNumber shared_words.bounds rows
+    × HasNumber sweep_steps.bounds rows
+
 abbrev pub HasDebug : List Row → Type 0
 HasDebug rows = HasPath (codes "FILE") rows × HasSizes rows × HasNumber steps.bounds rows × HasNumber port.bounds rows
 
@@ -54,8 +58,8 @@ HasHunt rows =
 abbrev pub command_names : List Text
 command_names =
     codes "words" ∷ codes "check" ∷ codes "asm" ∷ codes "dis" ∷ codes "run" ∷ codes "hunt" ∷ codes "explore"
-    ∷ codes "replay" ∷ codes "order" ∷ codes "story" ∷ codes "stats" ∷ codes "picture" ∷ codes "trace"
-    ∷ codes "steps" ∷ codes "debug" ∷ codes "explain" ∷ []
+    ∷ codes "replay" ∷ codes "order" ∷ codes "story" ∷ codes "stats" ∷ codes "picture" ∷ codes "study"
+    ∷ codes "trace" ∷ codes "steps" ∷ codes "debug" ∷ codes "explain" ∷ []
 
 abbrev pub IsOneOf : Text → List Text → Type 0
 IsOneOf name [] = ⊥
@@ -76,6 +80,7 @@ pub record IsWhole (name : Text) (rows : List Row) : Type 0 where
   pub story : name ≡ codes "story" → HasLines rows
   pub stats : name ≡ codes "stats" → HasReplay rows
   pub picture : name ≡ codes "picture" → HasPicture rows
+  pub study : name ≡ codes "study" → HasStudy rows
   pub trace : name ≡ codes "trace" → HasPath (codes "TRACE") rows
   pub steps : name ≡ codes "steps" → HasAsm rows
   pub debug : name ≡ codes "debug" → HasDebug rows

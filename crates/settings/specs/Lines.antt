@@ -22,6 +22,7 @@ use Rattle.settings.specs.declared.choice.Order.{Order}
 use Rattle.settings.specs.declared.choice.Story.{Story}
 use Rattle.settings.specs.declared.choice.Counts.{Counts}
 use Rattle.settings.specs.declared.choice.Picture.{Picture}
+use Rattle.settings.specs.declared.choice.Study.{Study}
 use Rattle.settings.specs.declared.choice.Trace.{Trace}
 use Rattle.settings.specs.declared.choice.Schedule.{Schedule}
 use Rattle.settings.specs.declared.choice.Session.{Session}
@@ -29,7 +30,7 @@ use Rattle.settings.specs.declared.choice.Explain.{Explain}
 use Rattle.settings.specs.declared.choice.Sizes.{Sizes}
 use Rattle.command_forms.specs.Commands.{Bounds, Ranged, stages, queue, records, combinations, shared_words}
 use Rattle.command_forms.specs.Commands.{budget, steps, port, states, runs, start, processor, shared_word}
-use Rattle.command_forms.specs.Commands.{witness, step, first_line, last_line, ultra_command}
+use Rattle.command_forms.specs.Commands.{witness, step, first_line, last_line, sweep_steps, ultra_command}
 
 abbrev pub IsPath : Text → List Row → Text → Type 0
 IsPath id rows file = first_of id rows ≡ Some file
@@ -127,6 +128,12 @@ GivesCounts rows c = GivesReplay rows c.replay × IsFlag (codes "latency") rows 
 abbrev pub GivesPicture : List Row → Picture → Type 0
 GivesPicture rows p = GivesReplay rows p.replay × IsChoice step rows p.step × IsOption (codes "symbols") rows p.symbols
 
+abbrev pub GivesStudy : List Row → Study → Type 0
+GivesStudy rows s = IsPath (codes "FILE") rows s.file.now
+    × IsOption (codes "k") rows s.ks × IsOption (codes "b") rows s.bs × IsOption (codes "r") rows s.rs
+    × IsOption (codes "plot") rows s.plot × IsFlag (codes "csv") rows s.csv × IsFlag (codes "json") rows s.json
+    × IsNumber queue rows s.c × IsNumber shared_words rows s.words × IsNumber sweep_steps rows s.budget
+
 abbrev pub GivesTrace : List Row → Trace → Type 0
 GivesTrace rows t = IsPath (codes "TRACE") rows t.trace.now
 
@@ -155,6 +162,7 @@ name_of (asked.Order o) = codes "order"
 name_of (asked.Story s) = codes "story"
 name_of (asked.Stats c) = codes "stats"
 name_of (asked.Picture p) = codes "picture"
+name_of (asked.Study s) = codes "study"
 name_of (asked.Trace t) = codes "trace"
 name_of (asked.Steps s) = codes "steps"
 name_of (asked.Debug d) = codes "debug"
@@ -174,6 +182,7 @@ Gives rows (asked.Order o) = GivesOrder rows o
 Gives rows (asked.Story s) = GivesStory rows s
 Gives rows (asked.Stats c) = GivesCounts rows c
 Gives rows (asked.Picture p) = GivesPicture rows p
+Gives rows (asked.Study s) = GivesStudy rows s
 Gives rows (asked.Trace t) = GivesTrace rows t
 Gives rows (asked.Steps s) = GivesSchedule rows s
 Gives rows (asked.Debug d) = GivesSession rows d

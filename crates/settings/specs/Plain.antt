@@ -75,6 +75,9 @@ IsPlain (asked.Story s) words = HasTrace (codes "story") s.lines.replay words ×
 IsPlain (asked.Stats c) words = HasTrace (codes "stats") c.replay words × (c.latency ≡ false)
     × (c.queues ≡ false) × (c.csv ≡ false) × (c.json ≡ false)
 IsPlain (asked.Picture p) words = HasTrace (codes "picture") p.replay words × (p.step ≡ None) × (p.symbols ≡ None)
+IsPlain (asked.Study s) words = HasFile (codes "study") s.file.now words
+    × (s.ks ≡ None) × (s.bs ≡ None) × (s.rs ≡ None) × (s.plot ≡ None) × (s.csv ≡ false) × (s.json ≡ false)
+    × (s.c ≡ 4) × (s.words ≡ 1024) × (s.budget ≡ 4000000)
 IsPlain (asked.Trace t) words = HasFile (codes "trace") t.trace.now words
 IsPlain (asked.Steps s) words = HasFiles (codes "steps") s.file.now s.out.now words
 IsPlain (asked.Debug d) words = HasFile (codes "debug") d.file.now words

@@ -15,6 +15,7 @@ pub enum Settings<'a> {
     Story(Story<'a>),
     Stats(Counts<'a>),
     Picture(Picture<'a>),
+    Study(Study<'a>),
     Trace(Trace<'a>),
     Steps(Schedule<'a>),
     Debug(Session<'a>),
@@ -203,6 +204,31 @@ pub struct Picture<'a> {
     pub step: Option<u32>,
     /// The file with the names that are drawn in place of addresses and words, if given.
     pub symbols: Option<&'a str>,
+}
+
+/// `study FILE`.
+#[derive(Debug, PartialEq, Eq, Drop)]
+pub struct Study<'a> {
+    /// The image.
+    pub file: &'a str,
+    /// The list of the numbers of stages, if given. It may be no list; neither may the next two.
+    pub ks: Option<&'a str>,
+    /// The list of the numbers of records that a switch's wait buffer holds, if given.
+    pub bs: Option<&'a str>,
+    /// The list that says how often an entry of a queue may be combined, if given.
+    pub rs: Option<&'a str>,
+    /// The column that is drawn, if given. It may be no column.
+    pub plot: Option<&'a str>,
+    /// Whether the rows are printed as CSV.
+    pub csv: bool,
+    /// Whether the rows are printed as JSON.
+    pub json: bool,
+    /// How many messages a switch's queue holds, from 2 to 16.
+    pub c: u8,
+    /// How many shared words the machines have, from 1 to 262,144.
+    pub words: u32,
+    /// How many steps the sweep may take in each run, from 1 to 4,000,000.
+    pub budget: u32,
 }
 
 /// `trace TRACE`.

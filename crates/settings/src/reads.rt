@@ -3,23 +3,23 @@ ghost use Rattle.std.specs.Prelude.{◌≡◌, ◌≤◌, ◌<◌, ◌^◌, code
 ghost use Rattle.clap.specs.Words.{all_of, found_of, rows_of, subcommand_rows_of};
 ghost use Rattle.settings.specs.Lines.{AreSizes, GivesAsm, GivesCheck, GivesCounts, GivesDis, GivesExplain};
 ghost use Rattle.settings.specs.Lines.{GivesExplore, GivesHunt, GivesLines, GivesOrder, GivesPicture, GivesReplay};
-ghost use Rattle.settings.specs.Lines.{GivesReport, GivesRun, GivesSchedule, GivesSession, GivesStory, GivesStyle};
-ghost use Rattle.settings.specs.Lines.{GivesTrace, GivesWords, IsChoice, IsChosen, IsFlag, IsNumber, IsOption};
-ghost use Rattle.settings.specs.Lines.{IsPath};
+ghost use Rattle.settings.specs.Lines.{GivesReport, GivesRun, GivesSchedule, GivesSession, GivesStory, GivesStudy};
+ghost use Rattle.settings.specs.Lines.{GivesStyle, GivesTrace, GivesWords, IsChoice, IsChosen, IsFlag, IsNumber};
+ghost use Rattle.settings.specs.Lines.{IsOption, IsPath};
 ghost use Rattle.settings.specs.Plain.{texts_of};
 ghost use Rattle.settings.specs.Given.{HasAsm, HasDebug, HasDis, HasExplore, HasHunt, HasLines, HasNumber};
-ghost use Rattle.settings.specs.Given.{HasPath, HasPicture, HasReplay, HasRun, HasSizes, IsComplete};
+ghost use Rattle.settings.specs.Given.{HasPath, HasPicture, HasReplay, HasRun, HasSizes, HasStudy, IsComplete};
 ghost use Rattle.command_forms.specs.Forms.{bounded, bounds_as, ranged, ranged_as};
 
 use crate::choice::{
     Asm, Check, Counts, Dis, Explain, Explore, Hunt, LineStyle, Lines, Order, Picture, Replay,
-    Report, Run, Schedule, Session, Settings, Sizes, Story, Trace, Words,
+    Report, Run, Schedule, Session, Settings, Sizes, Story, Study, Trace, Words,
 };
 use clap::ArgMatches;
 use command_forms::{
     BUDGET, COMBINATIONS, ChoiceOption, FIRST_LINE, FIRST_START, LAST_LINE, NumberOption, PORT,
     PROCESSOR, QUEUE, RECORDS, RUN_STEPS, RUNS, SHARED_WORD, SHARED_WORDS, STAGES, START, STATES,
-    STEP, STEPS, WITNESS,
+    STEP, STEPS, SWEEP_STEPS, WITNESS,
 };
 use std::alloc::{AllocError, Global};
 
@@ -323,6 +323,24 @@ fn picture<'a>(matches: &ArgMatches<'a>) -> Picture<'a>
     }
 }
 
+fn study<'a>(matches: &ArgMatches<'a>) -> Study<'a>
+    requires { HasStudy (rows_of (found_of matches.now)) }
+    ensures { GivesStudy (rows_of (found_of matches.now)) result }
+{
+    Study {
+        file: path(matches, "FILE"),
+        ks: option(matches, "k"),
+        bs: option(matches, "b"),
+        rs: option(matches, "r"),
+        plot: option(matches, "plot"),
+        csv: flag(matches, "csv"),
+        json: flag(matches, "json"),
+        c: byte(matches, QUEUE),
+        words: number(matches, SHARED_WORDS),
+        budget: number(matches, SWEEP_STEPS),
+    }
+}
+
 fn trace<'a>(matches: &ArgMatches<'a>) -> Trace<'a>
     requires { HasPath (codes "TRACE") (rows_of (found_of matches.now)) }
     ensures { GivesTrace (rows_of (found_of matches.now)) result }
@@ -420,6 +438,7 @@ pub(crate) fn subcommand_settings<'a>(
         "story" => Ok(Settings::Story(story(inner))),
         "stats" => Ok(Settings::Stats(counts(inner))),
         "picture" => Ok(Settings::Picture(picture(inner))),
+        "study" => Ok(Settings::Study(study(inner))),
         "trace" => Ok(Settings::Trace(trace(inner))),
         "steps" => Ok(Settings::Steps(schedule(inner))),
         "debug" => Ok(Settings::Debug(session(inner))),

@@ -14,12 +14,13 @@ mod picture;
 mod refused;
 mod replay;
 mod run;
+mod study;
 
 use clap::Error;
 use clap::error::ErrorKind;
 use command_forms::{
     BUDGET, COMBINATIONS, FIRST_START, PORT, QUEUE, RECORDS, RUN_STEPS, RUNS, SHARED_WORDS, STAGES,
-    START, STATES, STEPS,
+    START, STATES, STEPS, SWEEP_STEPS,
 };
 use settings::{settings, status_of};
 use std::alloc::{AllocError, AllocGlobal};
@@ -77,7 +78,7 @@ const REFUSED: &str = "\
 $ ultra
 MissingSubcommand
 error: 'ultra' requires a subcommand but one was not provided
-  [subcommands: words, check, asm, dis, run, hunt, explore, replay, order, story, stats, picture, trace, steps, debug, explain, help]
+  [subcommands: words, check, asm, dis, run, hunt, explore, replay, order, story, stats, picture, study, trace, steps, debug, explain, help]
 
 Usage: ultra <COMMAND>
 $ ultra frob
@@ -126,7 +127,7 @@ DisplayVersion
 ultra 0.1.0
 ";
 
-static CASES: [&str; 22] = [
+static CASES: [&str; 24] = [
     TAKEN,
     REFUSED,
     run::TAKEN,
@@ -149,6 +150,8 @@ static CASES: [&str; 22] = [
     check::HELP,
     picture::TAKEN,
     picture::REFUSED,
+    study::TAKEN,
+    study::HELP,
 ];
 
 /// Compares an error with the expected answer. Returns an error if out of memory.
@@ -246,6 +249,7 @@ fn help_has_the_defaults(rt: HostRuntime) -> Result<(), Fail> {
         STEPS,
         PORT,
         RUN_STEPS,
+        SWEEP_STEPS,
         RUNS,
         STATES,
         START,

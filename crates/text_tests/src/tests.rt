@@ -6,10 +6,10 @@ mod course_texts;
 mod dis;
 mod disassembling;
 mod door;
-mod fault_lists;
 mod fault_texts;
 mod formats;
 mod lines;
+mod listing_faults;
 mod printing;
 mod symbol_maps;
 

@@ -5,8 +5,4 @@ pub mod Words
 pub mod OrderTelling
 pub mod Orders
 pub mod StorySteps
-pub mod LatencyRuns
-mod Growing
-mod Passing
-pub mod QueueRuns
-pub mod StatsSteps
+pub mod Lemmas

@@ -4,11 +4,9 @@ pub mod Causes
 pub mod Taking
 pub mod Orders
 pub mod Stories
-pub mod Longest
-pub mod Stats
-pub mod Latencies
-pub mod QueueLengths
+pub mod SizeLines
 pub mod Pictures
 pub mod Choices
--- Definitions of reports, passed on to the crates above.
+-- Definitions of lower crates, passed on to those above.
 pub use Rattle.run_reports.specs as run_reports
+pub use Rattle.trace_lines.specs as trace_lines

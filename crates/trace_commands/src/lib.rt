@@ -1,8 +1,8 @@
-//! The commands on a trace, `ultra replay`, `order`, `story`, `stats` and `picture`.
+//! The commands on a trace, `ultra replay`, `order`, `story` and `picture`. Those that count are in `trace_counts`.
 //!
 //! A [`TraceReport`] makes a text from the steps of a trace, on a machine that opens on the image: a [`Report`], an
-//! [`Order`], a [`Story`], [`Stats`], [`LatencyStats`], [`QueueStats`], a [`QueueTable`] or a [`Picture`].
-//! [`trace_command`] reads the trace and the image, makes the whole text, and then prints it.
+//! [`Order`], a [`Story`] or a [`Picture`]. [`trace_command`] reads the trace and the image, makes the whole text, and
+//! then prints it.
 //!
 //! A report is that of `run_reports`. [`lines_command`] prints an [`Order`] or a [`Story`], unless a number of its
 //! choice names nothing on the machine.
@@ -10,49 +10,33 @@
 //! The others list the steps of the trace and those of a drain first ([`drained_steps`]). For a story, a second machine
 //! takes all these steps, and each becomes a line, if it is chosen ([`story_text`]). For an order, a second machine
 //! gives their serial order ([`entries_of`]). Two more machines execute it, one entry at a time: one of them has taken
-//! the entry and the other has not yet, so that its line can say what it changed ([`order_text`]). For stats, a second
-//! machine takes all steps again, and their outcomes are counted ([`count_steps`]). For latencies, a third one takes
-//! them, and tells on which words they act ([`find_latencies`]); for lengths of queues, and shows its network at the
-//! end of each round ([`find_queue_lengths`]). For a picture, a second machine takes as many steps as are asked for,
-//! and its view is drawn ([`picture_text`]).
+//! the entry and the other has not yet, so that its line can say what it changed ([`order_text`]). For a picture, a
+//! second machine takes as many steps as are asked for, and its view is drawn ([`picture_text`]).
 #![tactic(auto)]
 
 mod choosing;
-mod counting;
 mod draining;
 mod drawing;
 mod entries;
 mod input;
-mod latencies;
-mod latency_stats;
 mod lines;
-mod longest;
 mod order;
 mod picture;
-mod queue_lengths;
-mod queue_stats;
 mod replay;
 mod size_line;
-mod stats;
 mod story;
 mod telling;
 mod trace_report;
 
 pub use choosing::lines_command;
-pub use counting::count_steps;
 pub use draining::drained_steps;
 pub use drawing::picture_text;
 pub use input::trace_of;
-pub use latencies::find_latencies;
-pub use latency_stats::LatencyStats;
 pub use lines::order_text;
 pub use order::{Order, entries_of};
 pub use picture::Picture;
-pub use queue_lengths::find_queue_lengths;
-pub use queue_stats::{QueueStats, QueueTable};
 pub use replay::{Report, replay_command};
 pub use size_line::push_size;
-pub use stats::Stats;
 pub use story::Story;
 pub use telling::story_text;
 pub use trace_report::{TraceReport, trace_command};

@@ -1,29 +1,19 @@
 //! The line of a machine's size.
 
-ghost use Rattle.std.specs.Prelude.{◌≡◌, ◌++◌, codes, IfOk, OnOk, string_bytes};
+ghost use Rattle.std.specs.Prelude.{◌≡◌, ◌++◌, codes, OnOk, string_bytes};
 ghost use Rattle.std.specs.Fmt.{decimal};
-ghost use Rattle.trace_commands.specs.Stats.{size_line};
+ghost use Rattle.trace_commands.specs.SizeLines.{size_line};
 
 use flat_machine::Config;
-use std::alloc::{AllocError, Global};
+use std::alloc::AllocError;
 use std::fmt::Write;
-
-/// Lines below the line of a machine's size.
-pub(crate) fn below_size(alloc: Global, config: Config, lines: &str) -> Result<String, AllocError>
-    ensures { IfOk result (λ text. string_bytes text ≡ size_line config ++ lines.now) }
-{
-    let mut text = String::new(alloc);
-    push_size(&mut text, config)?;
-    text.push_str(lines)?;
-    Ok(text)
-}
 
 /// Appends the line of a machine's size, `machine k K c C b B r R`.
 ///
 /// # Errors
 ///
 /// [`AllocError`] if there is no memory for it.
-#[tactic(auto, unfolding(crate::specs::Stats::size_line))]
+#[tactic(auto, unfolding(crate::specs::SizeLines::size_line))]
 pub fn push_size(text: &mut String, config: Config) -> Result<(), AllocError>
     ensures { OnOk result (string_bytes text.new ≡ string_bytes text.old ++ size_line config) }
 {

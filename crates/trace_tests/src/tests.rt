@@ -23,9 +23,8 @@ use std::fmt::Debug;
 use std::io::{self, Read, Write};
 use std::process::Abort;
 use test_support::metered;
-use trace_commands::{
-    LatencyStats, Order, QueueStats, QueueTable, Stats, Story, lines_command, trace_command,
-};
+use trace_commands::{Order, Story, lines_command, trace_command};
+use trace_counts::{LatencyStats, QueueStats, QueueTable, Stats};
 use trace_lines::Choice;
 
 /// Fails the test if the two differ, and prints both and their case ([`assert_same!`]).

@@ -18,7 +18,7 @@ use Rattle.trace_file.specs.Records.{HasRecord, has_poke_record}
 use Rattle.trace_file.specs.Traces.{TraceContents, IsHeader, IsTrace, HaveRecords, config_of, header_of, trace_of}
 use Rattle.trace_lines.specs.OrderTexts.{register_text}
 use Rattle.trace_lines.specs.StoryTexts.{step_text}
-use Rattle.trace_commands.specs.Stats.{size_line}
+use Rattle.trace_commands.specs.SizeLines.{size_line}
 use Rattle.asm_lines.specs.Text.{parts_at}
 use Rattle.trace_text.specs.Texts.{step_line, text_of}
 use Rattle.trace_text.specs.Words.{words_of}

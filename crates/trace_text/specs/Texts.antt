@@ -5,7 +5,7 @@ use Rattle.steps.specs.declared.step.Step.{Step}
 use Rattle.trace_file.specs.Traces.{TraceContents, config_of}
 use Rattle.command_io.specs.Digits.{line_feed}
 use Rattle.trace_lines.specs.StoryTexts.{step_text}
-use Rattle.trace_commands.specs.Stats.{size_line}
+use Rattle.trace_commands.specs.SizeLines.{size_line}
 
 -- the line of a step: what `story` prints of it, without its number and its outcome
 abbrev pub step_line : Step → List ℕ

@@ -11,6 +11,7 @@ mod properties;
 mod refusal;
 mod reports;
 mod standard_streams;
+mod studies;
 mod symbols;
 mod traces;
 
@@ -24,6 +25,7 @@ use crate::refusal::Refusal;
 use crate::reports::Reports;
 use crate::reports::place_of;
 use crate::standard_streams::StandardStreams;
+use crate::studies::study_file;
 use crate::symbols::symbol_bytes;
 use crate::traces::TraceFiles;
 use asm_commands::check_command;
@@ -109,17 +111,17 @@ use std::sync::Wait;
 use std::thread::Threads;
 use std::time::Clock;
 use symbol_table::SymbolTable;
-use trace_commands::LatencyStats;
 use trace_commands::Order;
 use trace_commands::Picture;
-use trace_commands::QueueStats;
-use trace_commands::QueueTable;
 use trace_commands::Report;
-use trace_commands::Stats;
 use trace_commands::Story;
 use trace_commands::TraceReport;
 use trace_commands::lines_command;
 use trace_commands::trace_command;
+use trace_counts::LatencyStats;
+use trace_counts::QueueStats;
+use trace_counts::QueueTable;
+use trace_counts::Stats;
 use trace_lines::Choice;
 use trace_text::steps_command;
 use trace_text::text_command;
@@ -340,6 +342,7 @@ fn execute<
             };
             tell_steps(rt, &asked.replay, &picture, reason, out, err)
         }
+        Settings::Study(study) => study_file(rt, study, reason, out, err),
         Settings::Trace(asked) => {
             let mut trace = Meter::new(open(rt, asked.trace, reason)?);
             Ok(text_command(alloc, &mut trace, out, err))

@@ -112,6 +112,7 @@ fn other_style_of(settings: &Settings<'_>) -> Option<Style> {
         Settings::Check(check) => (shapes::mistakes(), check.json, false),
         Settings::Dis(dis) => (shapes::listing(), false, dis.abi),
         Settings::Stats(counts) => (shapes::counts(), counts.json, false),
+        Settings::Study(study) => (shapes::study(), study.json, false),
         _ => return None,
     };
     Some(Style {

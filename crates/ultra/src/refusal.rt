@@ -2,6 +2,7 @@
 
 ghost use Rattle.std.specs.Prelude.{⊤};
 
+use crate::studies::SizeOption;
 use crate::symbols::MAX_SYMBOL_BYTES;
 use command_io::{Fault, LINK_FAILED, REFUSED, report_fault};
 use host_files::{FileRefusal, Place, refuse, report_place, text_or_place};
@@ -37,6 +38,12 @@ pub(crate) enum Refusal<'a> {
     Formats,
     /// Lengths of queues are asked for, and latencies.
     Queues,
+    /// This text is no list of numbers for an option of a study.
+    NoSizes(SizeOption, &'a str),
+    /// This text is the name of no column of numbers of a study.
+    NoColumn(&'a str),
+    /// The rows of a study are asked for in two formats.
+    StudyFormats,
     /// The file of symbols at this path is too long.
     LongSymbols(&'a str),
 }
@@ -82,6 +89,9 @@ impl Refusal<'_> {
                 )
             }
             Refusal::Queues => refuse("--queues and --latency exclude each other", err),
+            Refusal::NoSizes(option, list) => refuse_sizes(option, list, err),
+            Refusal::NoColumn(name) => refuse_column(name, err),
+            Refusal::StudyFormats => refuse("--csv, --json and --plot exclude each other", err),
             Refusal::LongSymbols(path) => refuse_symbols(path, err),
         }
     }
@@ -121,6 +131,30 @@ fn refuse_list<E: Write>(list: &str, words: u32, err: &mut E) -> u8 {
         err,
         "error: invalid value '{list}' for '--observe <LIST>': not numbers and ranges in 0..={last}, the machine's shared \
          words (--words)"
+    );
+    REFUSED
+}
+
+/// Reports that a text is no list of numbers for an option of a study, as the parser of the command line reports a
+/// wrong number, and returns the exit status.
+fn refuse_sizes<E: Write>(option: SizeOption, list: &str, err: &mut E) -> u8 {
+    let (name, low, high) = (option.name(), option.low(), option.high());
+    // If standard error fails too, the exit status alone reports it.
+    let _ = writeln!(
+        err,
+        "error: invalid value '{list}' for '--{name} <LIST>': not numbers and ranges in {low}..={high} that ascend, as \
+         `{low}..{high}`"
+    );
+    REFUSED
+}
+
+/// Reports that a text is the name of no column of numbers of a study, in the same way, and returns the exit status.
+fn refuse_column<E: Write>(name: &str, err: &mut E) -> u8 {
+    // If standard error fails too, the exit status alone reports it.
+    let _ = writeln!(
+        err,
+        "error: invalid value '{name}' for '--plot <COLUMN>': not a column of numbers, as `steps`; `ultra help study` \
+         lists them"
     );
     REFUSED
 }

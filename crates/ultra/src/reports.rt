@@ -43,6 +43,7 @@ pub(crate) fn place_of<'a>(settings: &Settings<'a>, letter: u8) -> Option<Place<
         (b'b', Settings::Run(run)) if !run.unfinished => Some(Place::Budget),
         (b'I', Settings::Explore(explore)) => Some(Place::File(explore.file)),
         (b'X', Settings::Explore(explore)) => file(explore.trace),
+        (b'I', Settings::Study(study)) => Some(Place::File(study.file)),
         (b'I', Settings::Hunt(hunt)) => Some(Place::File(hunt.file)),
         (b'I', Settings::Debug(session)) => Some(Place::File(session.file)),
         (b'l', Settings::Debug(session)) if session.stdio => Some(Place::StandardStreams),

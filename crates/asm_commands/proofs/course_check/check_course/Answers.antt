@@ -4,8 +4,8 @@ use Rattle.std.proofs.lemmas.Result.{err_from_is_err_and}
 use Rattle.link.specs.Transfer.{AppendsPart}
 use Rattle.asm_commands.specs.Checking.{status_of}
 use Rattle.asm_commands.specs.Courses.{course_faults, lines_of}
-use Rattle.asm_commands.specs.Faults.{AreTheFaults}
-use Rattle.asm_commands.specs.Lines.{IsList}
+use Rattle.fault_lists.specs.Faults.{AreTheFaults}
+use Rattle.fault_lists.specs.Lines.{IsList}
 use Rattle.asm_commands.proofs.course_check.check_course.Goals as goal
 
 pub returns-in_err-print-clause-fault : goal.returns-in_err-print-clause-fault

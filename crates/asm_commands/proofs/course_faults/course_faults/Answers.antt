@@ -1,7 +1,7 @@
 use Rattle.std.proofs.Common.{[], arith, rules}
 use Rattle.assembler.specs.declared.fault.AsmFault.TheVariants.{UnknownWord}
 use Rattle.line_faults.specs.word_faults.declared.hint.Hint.TheVariants.{NoWord}
-use Rattle.asm_commands.specs.declared.text_fault.TextFault.{TextFault}
+use Rattle.fault_lists.specs.declared.text_fault.TextFault.{TextFault}
 use Rattle.asm_commands.specs.CourseViews.{lines_view}
 use Rattle.asm_commands.proofs.Courses.{skipped, listed_more, listed_all}
 use Rattle.asm_commands.proofs.course_faults.course_faults.Goals as goal

@@ -1,4 +1,0 @@
-use Rattle.asm_commands.proofs.advice.push_near.Goals as goal
-
-pub returns : goal.returns
-returns c = c.push_name.ensures

@@ -1,0 +1,4 @@
+pub mod FaultLines
+pub mod Found
+pub mod Present
+pub mod Lemmas

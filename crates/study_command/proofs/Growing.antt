@@ -1,0 +1,11 @@
+-- Rows, one more at a time.
+use Rattle.std.proofs.Common.{List, [], ◌∷◌, ◌++◌}
+use Rattle.std.specs.List.{AllZip}
+
+-- If a relation holds of two lists place by place, and of one more item of each, it holds of both with these items.
+pub zip_more : {A B : Type 0} (R : A → B → Type 0) (xs : List A) (ys : List B) (x : A) (y : B) → AllZip R xs ys → R x y →
+    AllZip R (xs ++ x ∷ []) (ys ++ y ∷ [])
+zip_more R [] [] x y all one = (one, tt)
+zip_more R [] (z ∷ ys) x y all one = absurd all
+zip_more R (z ∷ xs) [] x y all one = absurd all
+zip_more R (z ∷ xs) (w ∷ ys) x y all one = (all.0, zip_more R xs ys x y all.1 one)

@@ -1,0 +1,5 @@
+pub mod Listing
+pub mod Growing
+pub mod WholeRuns
+pub mod Failing
+pub mod Scaling

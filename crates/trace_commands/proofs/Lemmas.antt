@@ -1,0 +1,2 @@
+-- The lemmas that crates above may cite: the steps of a story, one more after another, with the rounds that they begin.
+pub use Rattle.trace_commands.proofs.StorySteps.{all_counted, next_begun, no_step, none_at_first, one_step_more, subject_at, values_at}

@@ -1,6 +1,0 @@
-use Rattle.std.proofs.Common.{take}
-use Rattle.trace_commands.proofs.QueueRuns.{AreLengthsSoFar}
-use Rattle.trace_commands.proofs.queue_lengths.find_queue_lengths.Given as goal
-
-abbrev pub invariant-loop-step : goal.invariant-loop-step
-invariant-loop-step l = AreLengthsSoFar l.initial.machine (take l.step-index l.steps) l.machine l.lengths.items l.begun

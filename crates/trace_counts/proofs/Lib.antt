@@ -1,0 +1,5 @@
+pub mod LatencyRuns
+mod Growing
+mod Passing
+pub mod QueueRuns
+pub mod StatsSteps
