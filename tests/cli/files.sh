@@ -74,26 +74,19 @@ lists_its_crates() {
 }
 check 'crates.txt lists the folders of crates/' lists_its_crates
 
-# For each crate and each library of its line in crates.txt: the crate, the library, and `passed` if another library of
-# the line passes its definitions on, or else `alone`.
+# For each crate and each library of its line in crates.txt: the crate, the library, and `reached` if another library of
+# the line uses it, or else `alone`.
 libraries_of_crates() {
-    awk 'FNR == NR {
-        # FILE:pub use Rattle.LIBRARY, of crates/CRATE/specs/Lib.antt
-        split($0, parts, "/"); sub(/.*Rattle\./, ""); passes[parts[2]] = passes[parts[2]] " " $0
-        next
-    }
-    /^[a-z]/ {
+    awk '/^[a-z]/ {
         at = index($0, ":"); crate = substr($0, 1, at - 1); sub(/ .*/, "", crate)
         n = split(substr($0, at + 1), names, " ")
         for (i = 1; i <= n; i++) {
             way = "alone"
-            for (j = 1; j <= n; j++) if (index(passed[names[j]] " ", " " names[i] " ")) way = "passed"
+            for (j = 1; j <= n; j++) if (index(below[names[j]], " " names[i] " ")) way = "reached"
             print crate, names[i], way
         }
-        # callees come first
-        n = split(passes[crate], names, " ")
-        for (i = 1; i <= n; i++) passed[crate] = passed[crate] " " names[i] passed[names[i]]
-    }' <(grep -HoE '^pub use Rattle\.[a-z0-9_]+' crates/*/specs/Lib.antt) crates.txt
+        for (i = 1; i <= n; i++) below[crate] = below[crate] " " names[i] " " below[names[i]]
+    }' crates.txt
 }
 
 # A crate's code uses each library of its line. A library that no other one of the line passes on may instead be cited
@@ -114,21 +107,6 @@ uses_its_libraries() {
     return "$missing"
 }
 check 'crates.txt has for each crate the libraries that its code uses, and no others' uses_its_libraries
-
-# The toolchain refuses definitions and proofs that cite a library which the line of their crate lacks, but only when it
-# proves them.
-cites_its_libraries() {
-    local missing=0 crate names name
-    while IFS=: read -r crate names; do
-        crate=${crate%% *}
-        while read -r name; do
-            [ "$name" = "$crate" ] || [ ! -d "crates/$name" ] || [[ "$names " = *" $name "* ]] || { echo "$crate: $name"; missing=1; }
-        done < <(grep -rhoE --include='*.rt' --include='*.antt' '\buse Rattle\.[a-z0-9_]+' "crates/$crate"/{src,specs,proofs} 2>/dev/null |
-            sed 's/.*\.//' | sort -u)
-    done < <(grep '^[a-z]' crates.txt)
-    return "$missing"
-}
-check 'no crate cites a library that its line of crates.txt lacks' cites_its_libraries
 
 # `rt verdict` refuses a module that has the name of a library in use; `rt check` does not. Crates of tests use most
 # libraries.

@@ -86,9 +86,9 @@ draws() {
 draws_columns() {
     local column
     for column in k b r processors steps rounds references serve combined requests records replies mean; do
-        draws "$room/hot_spot.elf" "$column" --k 0..4 --b 0,4 --budget 3000 || return 1
+        draws "$room/hot_spot.elf" "$column" --k 0..4 --b 0,4 --budget 20000 || return 1
     done
-    draws "$room/hot_spot.elf" steps --k 0,3,6 --b 0,4 --r 1,3 && draws "$room/three.elf" steps --b 0..16 --r 1..3 --k 0
+    draws "$room/hot_spot.elf" steps --b 0,1,4 --r 1..3 && draws "$room/three.elf" steps --b 0..16 --r 1..3 --k 0,1
 }
 check 'plots have a point for each run, as high as its number, and no text overlaps another' draws_columns
 

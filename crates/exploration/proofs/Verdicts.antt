@@ -22,7 +22,7 @@ use Rattle.state_conditions.specs.Laws.{AreExchanged, ExchangesKeepConditions}
 use Rattle.state_graph.specs.Laws.{EachFoundStateIsReached, EachResultIsStoodFor, EachSpinnerIsReached, EachStateIsStoodFor}
 use Rattle.state_graph.specs.Laws.{IsBetweenReferences, KeepsResults, left_after}
 use Rattle.state_search.proofs.Lemmas.{found_at, listed_there}
-use Rattle.state_search.specs.Ends.{AreFound}
+use Rattle.state_search.specs.Ends.{AreFound, AreSome}
 use Rattle.state_search.specs.Search.{state_at}
 use Rattle.state_search.specs.state_store.declared.state_tables.Extent.{Extent}
 use Rattle.state_search.specs.state_store.Moves.{Spinning}
@@ -100,15 +100,29 @@ is_over condition m order e k p found =
 
 -- ---- verdicts
 
+module _ (e : Extent) (code : List ℕ) (classes : List ℕ) (t : TableLists) (rows : List (List ℕ)) (first : MacroState)
+    (m : FlatState) (f : IsForgetful (setting_at e) code (kept_by t.live)) (some : AreSome e code classes t rows first)
+    (reaches_first : ReachesMacroState (setting_at e) code (kept_by t.live) m (λ k. []) first) (law : ExchangesKeepConditions)
+    (kind : Kind) (condition : List (List Comparison)) where
+  begins : ReachesMacroState (setting_at e) code (kept_by t.live) m (λ k. []) (state_at e t rows 0)
+  begins = subst (ReachesMacroState (setting_at e) code (kept_by t.live) m (λ k. [])) (sym some.begins) reaches_first
+
+  keeps : KeepsResults (kept_by t.live)
+  keeps = kept_result t.live
+
+  -- If the state of a row breaks the property, a state of the flat machine does.
+  pub flat_broken : EachFoundStateIsReached → IsFoundVerdict e code t rows kind condition verdict.Broken →
+      IsVerdict m kind condition verdict.Broken
+  flat_broken each h =
+      let x = each (setting_at e) code (kept_by t.live) classes (state_at e t rows) (length rows) m h.0 f keeps some.reached begins h.1 in
+      (x.0, breaks_alike law kind condition classes (result_at (state_at e t rows h.0)) _ x.1 ∙ h.2, x.2)
+
 module _ (e : Extent) (code : List ℕ) (classes : List ℕ) (t : TableLists) (rows moves : List (List ℕ)) (first : MacroState)
     (m : FlatState) (f : IsForgetful (setting_at e) code (kept_by t.live)) (found : AreFound e code classes t rows moves first)
     (reaches_first : ReachesMacroState (setting_at e) code (kept_by t.live) m (λ k. []) first) (law : ExchangesKeepConditions)
     (kind : Kind) (condition : List (List Comparison)) where
-  begins : ReachesMacroState (setting_at e) code (kept_by t.live) m (λ k. []) (state_at e t rows 0)
-  begins = subst (ReachesMacroState (setting_at e) code (kept_by t.live) m (λ k. [])) (sym found.begins) reaches_first
-
-  keeps : KeepsResults (kept_by t.live)
-  keeps = kept_result t.live
+  from_row : ReachesMacroState (setting_at e) code (kept_by t.live) m (λ k. []) (state_at e t rows 0)
+  from_row = begins e code classes t rows first m f found.some reaches_first law kind condition
 
   -- A verdict that is true of the states of the rows is true of the flat machine.
   pub flat_verdict : EachStateIsStoodFor → EachResultIsStoodFor → EachFoundStateIsReached → EachSpinnerIsReached → (v : Verdict) →
@@ -124,16 +138,14 @@ module _ (e : Extent) (code : List ℕ) (classes : List ℕ) (t : TableLists) (r
           (b : Bool) → breaks_result kind condition (left_after m order) ≡ b → breaks_result kind condition (left_after m order) ≡ false
       by order between _ false eq = eq
       by order between (inr none) true eq =
-          let x = all (setting_at e) code (kept_by t.live) classes (state_at e t rows) (length rows) moves m order f keeps found.successors begins
-          none between in
+          let x = all (setting_at e) code (kept_by t.live) classes (state_at e t rows) (length rows) moves m order f (kept_result t.live)
+          found.successors from_row none between in
           fine order x.0 x.1 x.2
       by order between (inl is) true eq =
           let over = is_over condition m order (subst (λ k. breaks_result k condition (left_after m order) ≡ true) is eq) in
-          let x = ends (setting_at e) code (kept_by t.live) classes (state_at e t rows) (length rows) moves m (left_after m order) f keeps
-          found.successors begins (order, over, refl) in
+          let x = ends (setting_at e) code (kept_by t.live) classes (state_at e t rows) (length rows) moves m (left_after m order) f
+          (kept_result t.live) found.successors from_row (order, over, refl) in
           fine order x.0 x.1 x.3
-  flat_verdict all ends each spins verdict.Broken h =
-      let x = each (setting_at e) code (kept_by t.live) classes (state_at e t rows) (length rows) m h.0 f keeps found.reached begins h.1 in
-      (x.0, breaks_alike law kind condition classes (result_at (state_at e t rows h.0)) _ x.1 ∙ h.2, x.2)
+  flat_verdict all ends each spins verdict.Broken h = flat_broken e code classes t rows first m f found.some reaches_first law kind condition each h
   flat_verdict all ends each spins verdict.Unknown h =
-      spins (setting_at e) code (kept_by t.live) classes (state_at e t rows) (length rows) m h.0 f found.reached begins h.1 h.2
+      spins (setting_at e) code (kept_by t.live) classes (state_at e t rows) (length rows) m h.0 f found.some.reached from_row h.1 h.2

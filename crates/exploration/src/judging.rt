@@ -1,16 +1,18 @@
 //! Properties, judged on every state between references.
 
-ghost use Rattle.std.specs.Prelude.{◌≡◌, ◌<◌, ◌≤◌, length, IfErr, IfOk};
+ghost use Rattle.std.specs.Prelude.{◌≡◌, ◌↔◌, ◌<◌, ◌≤◌, ℕ, length, IfErr, IfOk, IsTrue};
+ghost use Rattle.flat_machine.specs.State.{FlatState};
 ghost use Rattle.local_reduction.specs.Live.{HasAllLive};
 ghost use Rattle.machine_steps.specs.Machines.{AreHome};
 ghost use Rattle.machine_steps.specs.Openings.{flat_state};
 ghost use Rattle.state_graph.specs.Ranks.{no_rank};
 ghost use Rattle.state_search.specs.Ends.{AreRows};
-ghost use Rattle.state_search.specs.Refusals.{IsGivenUpFor};
+ghost use Rattle.state_search.specs.Refusals.{HasFound};
 ghost use Rattle.state_search.specs.state_store.Moves.{AreClasses};
 ghost use Rattle.state_search.specs.state_store.Opening.{AreOfExtent, flat_of};
 ghost use Rattle.state_search.specs.state_store.TransitionCache.{KnowsLists, KnowsLocalStates};
-ghost use Rattle.exploration.specs.States.{HasManyStates, IsGivenUp};
+ghost use Rattle.exploration.specs.Refusals.{refused_by_search};
+ghost use Rattle.exploration.specs.States.{IsGivenUp};
 ghost use Rattle.exploration.specs.Verdicts.{IsFoundVerdict, IsVerdict};
 
 use crate::broken::{first_broken, is_unknown};
@@ -53,12 +55,12 @@ pub struct Judged {
 /// Judges a property on every state between references that a machine can come to, up to exchanges of alike processors.
 /// The search reports the number of states found to `observer`.
 ///
-/// If a processor asks for its own number after a reference, the search starts again without exchanges.
+/// If a processor asks for its own number after a reference, the search starts again without exchanges. If the search
+/// gives up, but a state that it has found breaks the property, this is the verdict.
 ///
 /// # Errors
 ///
-/// Those of [`explore`](crate::explore).
-#[tactic(auto, using(crate::proofs::Exploring::search_gives_up))]
+/// Those of [`explore`](crate::explore), without results.
 pub fn judge<G: SearchObserver>(
     alloc: Global,
     machine: &Machine,
@@ -94,7 +96,7 @@ fn judge_as<G: SearchObserver>(
     requires home { AreHome machine.now }
     ensures verdict { IfOk result (λ judged. IsVerdict (flat_state machine.now) property.now.kind property.now.condition
         judged.verdict) }
-    ensures given_up { IfErr result (IsGivenUpFor (HasManyStates (flat_state machine.now) limit)) }
+    ensures given_up { IfErr result (λ why. IsGivenUp (flat_state machine.now) limit (refused_by_search why)) }
 {
     machine_steps::laws::machine_is_well_formed(machine);
     let extent = extent_of(machine, exchanged);
@@ -126,7 +128,8 @@ fn judge_by_width<G: SearchObserver>(
     requires words { length words ≡ extent.shared_words }
     ensures verdict { IfOk result (λ judged. IsVerdict (flat_of code.now cores.now words) property.now.kind
         property.now.condition judged.verdict) }
-    ensures given_up { IfErr result (IsGivenUpFor (HasManyStates (flat_of code.now cores.now words) limit)) }
+    ensures given_up { IfErr result (λ why.
+        IsGivenUp (flat_of code.now cores.now words) limit (refused_by_search why)) }
 {
     if extent.processors <= 8 {
         judge_from::<9, G>(alloc, code, extent, cores, words, limit, property, observer)
@@ -156,7 +159,8 @@ fn judge_from<const N: usize, G: SearchObserver>(
     requires words { length words ≡ extent.shared_words }
     ensures verdict { IfOk result (λ judged. IsVerdict (flat_of code.now cores.now words) property.now.kind
         property.now.condition judged.verdict) }
-    ensures given_up { IfErr result (IsGivenUpFor (HasManyStates (flat_of code.now cores.now words) limit)) }
+    ensures given_up { IfErr result (λ why.
+        IsGivenUp (flat_of code.now cores.now words) limit (refused_by_search why)) }
 {
     state_graph::laws::each_state_is_stood_for();
     state_graph::laws::each_result_is_stood_for();
@@ -172,7 +176,8 @@ fn judge_from<const N: usize, G: SearchObserver>(
         return Err(SearchRefusal::Memory);
     };
     let mut transition_caches = TransitionCaches::new(alloc);
-    let found = explore_states(
+    let mut found = StateSpace::new(alloc);
+    let searched = explore_states(
         alloc,
         &mut state_tables,
         &mut transition_caches,
@@ -182,18 +187,37 @@ fn judge_from<const N: usize, G: SearchObserver>(
         first,
         limit,
         observer,
-    )?;
-    let judged = judge_space(
-        alloc,
-        &mut state_tables,
-        &mut transition_caches,
-        code,
-        extent,
-        classes.as_slice(),
-        &found,
-        property,
-    )?;
-    Ok(judged)
+        &mut found,
+    );
+    match searched {
+        Ok(()) => {
+            let judged = judge_space(
+                alloc,
+                &mut state_tables,
+                &mut transition_caches,
+                code,
+                extent,
+                classes.as_slice(),
+                &found,
+                property,
+            )?;
+            Ok(judged)
+        }
+        Err(refusal) => {
+            let judged = judge_part(
+                alloc,
+                &mut state_tables,
+                &mut transition_caches,
+                code,
+                extent,
+                classes.as_slice(),
+                &found,
+                property,
+                refusal,
+            )?;
+            Ok(judged)
+        }
+    }
 }
 
 /// Judges a property on the rows that a search found.
@@ -250,4 +274,65 @@ fn judge_space<const N: usize>(
         verdict: Verdict::Broken,
         way,
     })
+}
+
+/// Judges a property on the rows that a search had found when it gave up. If none of them breaks the property, it is
+/// not judged, for the reason why the search gave up.
+fn judge_part<const N: usize>(
+    alloc: Global,
+    state_tables: &mut StateTables,
+    transition_caches: &mut TransitionCaches,
+    code: &Code,
+    extent: Extent,
+    classes: &[u8],
+    found: &StateSpace<N>,
+    property: &Property,
+    refusal: SearchRefusal,
+) -> Result<Judged, SearchRefusal>
+    requires live { HasFound refusal → HasAllLive code.now state_tables.old.live }
+    requires rows { HasFound refusal → AreRows extent state_tables.old found.now.rows.keys }
+    requires classes { AreClasses extent classes.now }
+    requires room { extent.processors < N }
+    requires narrow { N ≤ 65 }
+    requires known { HasFound refusal →
+        KnowsLocalStates extent.exchanged code.now state_tables.old transition_caches.old.local_states
+        × KnowsLists state_tables.old transition_caches.old.lists }
+    ensures found { IfOk result (λ judged. HasFound refusal) }
+    ensures broken { IfOk result (λ judged. judged.verdict ≡ Verdict.Broken) }
+    ensures verdict { IfOk result (λ judged. IsFoundVerdict extent code.now state_tables.old found.now.rows.keys
+        property.now.kind property.now.condition judged.verdict) }
+    ensures given_up { (m : FlatState) (limit : ℕ) → IsGivenUp m limit (refused_by_search refusal) →
+        IfErr result (λ why. IsGivenUp m limit (refused_by_search why)) }
+{
+    if !has_found(refusal) {
+        return Err(refusal);
+    }
+    // The places of rows are numbers of 32 bits.
+    let Ok(_) = u32::try_from(found.rows.len()) else {
+        return Err(SearchRefusal::Memory);
+    };
+    let judged = judge_space(
+        alloc,
+        state_tables,
+        transition_caches,
+        code,
+        extent,
+        classes,
+        found,
+        property,
+    )?;
+    match judged.verdict {
+        Verdict::Broken => Ok(judged),
+        _ => Err(refusal),
+    }
+}
+
+/// Whether a search that gives up for this reason could have gone on, and has found rows.
+fn has_found(refusal: SearchRefusal) -> bool
+    ensures { IsTrue result ↔ HasFound refusal }
+{
+    match refusal {
+        SearchRefusal::States | SearchRefusal::Stopped => true,
+        SearchRefusal::Memory | SearchRefusal::Alone | SearchRefusal::Asks => false,
+    }
 }

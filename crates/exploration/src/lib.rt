@@ -27,7 +27,7 @@ mod way;
 pub use judging::{Judged, Verdict, judge};
 pub use opening::words_of;
 pub use outcome::{Explored, Fairness, FinalResult, ProcessorResult};
-pub use refusal::Refusal;
+pub use refusal::{GivenUp, PartialResults, Refusal};
 pub use run::{Search, explore};
 pub use state_graph::{Lasso, Termination};
 pub use state_search::{NoProgress, NonzeroWord, SearchObserver, SparseWords};

@@ -231,6 +231,7 @@ file_are OfExplore file words named (asked.Explore x) said =
       no_text x.never said.1.12,
       no_text x.always said.1.13,
       no_text x.finally said.1.14,
+      no_text x.filter said.1.15,
     )
 file_are OfStudy file words named (asked.Study s) said =
     let queue = said.1.7 in

@@ -8,8 +8,8 @@ use Rattle.command_io.specs.declared.fault.Fault.{Fault}
 use Rattle.command_io.specs.declared.fault.Fault.TheVariants as fault
 use Rattle.command_io.specs.Files.{IsFaultOfImage, IsFaultOfSize}
 use Rattle.command_io.specs.Links.{Output}
-use Rattle.trace_counts.specs.trace_commands.Causes.{ReportItselfFails}
-use Rattle.study_command.specs.Studies.{IsNoRow, IsNoStudy, IsTextOfSizes, Study}
+use Rattle.trace_commands.specs.Causes.{ReportItselfFails}
+use Rattle.study_command.specs.Studies.{HasWrongSize, IsNoRow, IsNoStudy, IsTextOfSizes, Study}
 use Rattle.study_command.specs.Sizes.{with_size}
 use Rattle.study_command.specs.declared.size.Size.{Size}
 

@@ -1,5 +1,5 @@
 -- Rows, one more at a time.
-use Rattle.std.proofs.Common.{List, [], ◌∷◌, ◌++◌}
+use Rattle.std.proofs.Common.{◌≡◌, List, [], ◌∷◌, ◌++◌}
 use Rattle.std.specs.List.{AllZip}
 
 -- If a relation holds of two lists place by place, and of one more item of each, it holds of both with these items.

@@ -1,7 +1,9 @@
 -- The page of a plot: its elements, in SVG.
-use Rattle.std.specs.Prelude.{ℕ, ◌-◌, ◌*◌, ◌^◌, List, ◌++◌, codes}
+use Rattle.std.specs.Prelude.{ℕ, ◌+◌, ◌-◌, ◌*◌, ◌^◌, List, ◌++◌, codes}
 use Rattle.std.specs.Fmt.{decimal}
-use Rattle.study_command.specs.Columns.{number_text, title_of}
+use Rattle.command_io.specs.Digits.{line_feed}
+use Rattle.run_counts.specs.Lines.{first_lines}
+use Rattle.study_command.specs.Columns.{content_of, number_text, title_of}
 use Rattle.study_command.specs.Scales.{x_of}
 use Rattle.study_command.specs.declared.column.Column.{Column}
 use Rattle.study_command.specs.declared.column.Content.{Content}

@@ -1,5 +1,5 @@
 -- The columns of a study, and what stands in them.
-use Rattle.std.specs.Prelude.{ℕ, ◌/◌, ◌%◌, List, [], ◌∷◌, ◌++◌, codes}
+use Rattle.std.specs.Prelude.{◌≡◌, ℕ, ◌/◌, ◌%◌, List, [], ◌∷◌, ◌++◌, codes}
 use Rattle.std.specs.Fmt.{decimal}
 use Rattle.study_command.specs.declared.column.Column.{Column}
 use Rattle.study_command.specs.declared.column.Column.TheVariants as column

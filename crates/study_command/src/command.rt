@@ -6,7 +6,7 @@ ghost use Rattle.command_io.specs.Links.{input, output};
 ghost use Rattle.command_io.specs.Printing.{Prints, ReportsCause};
 ghost use Rattle.study_command.specs.Studies.{IsNoRow, IsNoStudy, IsTextOfSizes, PrintsStudy, StudyFails, asked_study};
 ghost use Rattle.study_command.specs.Studies.{text_of};
-ghost use Rattle.trace_counts.specs.trace_commands.Causes.{ReportItselfFails};
+ghost use Rattle.trace_commands.specs.Causes.{ReportItselfFails};
 
 use crate::cells::Layout;
 use crate::column::Column;

@@ -7,6 +7,5 @@ pub mod Stories
 pub mod SizeLines
 pub mod Pictures
 pub mod Choices
--- Definitions of lower crates, passed on to those above.
+-- Definitions of reports, passed on to the crates above.
 pub use Rattle.run_reports.specs as run_reports
-pub use Rattle.trace_lines.specs as trace_lines

@@ -9,8 +9,8 @@ use Rattle.machine_steps.specs.Machines.{IsStep, MachineLists}
 use Rattle.machine_steps.specs.Runs.{IsRun}
 use Rattle.run_counts.specs.Rounds.{begun_from, none_begun}
 use Rattle.run_counts.specs.Latencies.{LatenciesGoOn, LatencyState, latencies_after, latencies_of, no_latencies, step_on}
-use Rattle.trace_commands.specs.trace_lines.declared.subject.Subject.{Subject}
-use Rattle.trace_commands.specs.trace_lines.StoryLines.{story_step}
+use Rattle.trace_lines.specs.declared.subject.Subject.{Subject}
+use Rattle.trace_lines.specs.StoryLines.{story_step}
 use Rattle.trace_counts.specs.Latencies.{on_word, on_words}
 use Rattle.trace_commands.specs.Stories.{story_steps_of}
 use Rattle.trace_commands.proofs.Lemmas.{all_counted, no_step, one_step_more, subject_at, values_at}

@@ -7,7 +7,7 @@ use Rattle.machine_steps.specs.Machines.{MachineLists}
 use Rattle.machine_steps.specs.Runs.{IsOpening}
 use Rattle.run_counts.specs.Latencies.{StepOnWord, latencies_of, step_on}
 use Rattle.run_counts.specs.LatencyLines.{latency_lines}
-use Rattle.trace_commands.specs.trace_lines.StoryLines.{StoryStep}
+use Rattle.trace_lines.specs.StoryLines.{StoryStep}
 use Rattle.trace_commands.specs.Explained.{IsDrainedWithSteps}
 use Rattle.trace_counts.specs.Stats.{AreStatsLines}
 use Rattle.trace_commands.specs.Stories.{story_steps_of}

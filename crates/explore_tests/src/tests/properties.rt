@@ -33,7 +33,7 @@ fn judged(
         ..tight_size(k)
     };
     let machine = machine_of(alloc, text, config)?;
-    let Some(condition) = Condition::of_text(alloc, condition, 16)? else {
+    let Some(condition) = Condition::of_text(alloc, condition, 16, &None)? else {
         return Err(Fail::new(format_args!("no condition: {condition}")));
     };
     let property = Property { kind, condition };
@@ -215,7 +215,7 @@ fn a_search_for_a_property_gives_up(rt: HostRuntime) -> Result<(), Fail> {
         ..tight_size(1)
     };
     let machine = machine_of(rt.alloc(), LOST_SUM, config)?;
-    let Some(condition) = Condition::of_text(rt.alloc(), "any fault", 16)? else {
+    let Some(condition) = Condition::of_text(rt.alloc(), "any fault", 16, &None)? else {
         return Err(Fail::new(format_args!("no condition")));
     };
     let property = Property {
@@ -255,9 +255,9 @@ fn other_texts_are_no_conditions(rt: HostRuntime) -> Result<(), Fail> {
         ("faulted == 0", true),
         ("", false),
     ] {
-        let read = Condition::of_text(rt.alloc(), text, 16)?;
+        let read = Condition::of_text(rt.alloc(), text, 16, &None)?;
         assert_same!(rt; read.is_some(), is_condition, text);
-        assert_same!(rt; wrong_part(text, 16).is_none(), is_condition, text);
+        assert_same!(rt; wrong_part(text, 16, &None).is_none(), is_condition, text);
     }
     Ok(())
 }

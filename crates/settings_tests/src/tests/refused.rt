@@ -107,6 +107,12 @@ static OUT_OF_RANGE: [(&str, &str, &str, &str); 36] = [
         "1..=4294967295",
     ),
     (
+        "explore a.elf --seconds 0",
+        "--seconds",
+        "0",
+        "1..=4294967295",
+    ),
+    (
         "explore a.elf --states 4294967296",
         "--states",
         "4294967296",
@@ -199,6 +205,7 @@ static TWICE: [(&str, &str); 16] = [
     ),
     ("order --word 1 a.trace --word 1 a.elf", "--word <NUMBER>"),
     ("explore a.elf --states 1 --states 1", "--states <NUMBER>"),
+    ("explore a.elf --seconds 1 --seconds 1", "--seconds <NUMBER>"),
     ("explore --every a.elf --every", "--every"),
     (
         "explore a.elf --witness 1 --witness 2 --trace t",

@@ -2,9 +2,9 @@ use Rattle.std.proofs.Common.{◌≡◌, ap, subst, ◌∙◌, arith}
 use Rattle.flat_machine.specs.State.{FlatState}
 use Rattle.std.proofs.lemmas.Result.{err_from_is_err_and}
 use Rattle.machine_steps.specs.Openings.{flat_state}
-use Rattle.exploration.specs.States.{HasManyStates}
+use Rattle.exploration.specs.Refusals.{refused_by_search}
+use Rattle.exploration.specs.States.{IsGivenUp}
 use Rattle.exploration.specs.Verdicts.{IsVerdict}
-use Rattle.state_search.proofs.Lemmas.{given_up_on}
 use Rattle.state_search.specs.state_store.Opening.{flat_of}
 use Rattle.exploration.proofs.Exploring.{are_read, few_processors, flat_is, of_extent, wide}
 use Rattle.exploration.proofs.judging.judge_as.Goals as goal
@@ -35,4 +35,4 @@ returns-in_err-judged-clause-given_up g c =
     ap (λ k. flat_of k c.as_slice-all.result.now c.in-Ok-words_of.words) (c.deref-code.ensures ∙ c.code.ensures) ∙ flat_is seen in
     let p = err_from_is_err_and c.from_residual.result c.from_residual.ensures.1 in
     rw (p.1, p.2)
-    (given_up_on _ _ (subst (λ (n : FlatState). HasManyStates n c.args.limit) flat) _ c.in_err-judged.ensures.given_up)
+    (subst (λ (n : FlatState). IsGivenUp n c.args.limit (refused_by_search c.in_err-judged.field-0.0)) flat c.in_err-judged.ensures.given_up)

@@ -2,6 +2,7 @@ use Rattle.std.proofs.Common.{◌≡◌, ℕ, subst}
 use Rattle.flat_machine.specs.declared.config.Config.{Config}
 use Rattle.schedules.specs.Sweeps.{IsWholeRun, most_of}
 use Rattle.study_command.specs.Rows.{IsRow, IsRowOf}
+use Rattle.study_command.specs.declared.row.Row.{Row}
 use Rattle.study_command.proofs.WholeRuns.{both_ok}
 use Rattle.study_command.proofs.running.row_of.Goals as goal
 
