@@ -540,17 +540,50 @@ check 'a processor that never stops is a verdict, with status 1' finds_a_spinner
 
 # ---- searches that are given up
 
-# A search that is given up says why, with its status.
+# gives_up_with CODE RESULTS OPTION ..: a search that is given up reports CODE. Before that it prints so many results, and says that they are
+# incomplete. Results come in the order of their discovery, so with those options the first lines of $room/full are the same.
+gives_up_with() {
+    local code=$1 results=$2 ended=0 lines
+    shift 2
+    ./ultra explore "$@" >"$room/out" 2>"$room/err" || ended=$?
+    lines=$(($(wc -l <"$room/out") - 2))
+    diff <(echo "ultra: $code") "$room/err" && diff <(echo 4) <(echo "$ended") &&
+        diff <(tail -n 1 "$room/out") <(echo 'incomplete: there may be more results') &&
+        tail -n 2 "$room/out" | head -n 1 | grep -Ex "$results results?, [0-9]+ states" &&
+        diff <(seq "$results") <(sed -n 's/^result //p' "$room/out") &&
+        diff <(head -n "$lines" "$room/full") <(head -n "$lines" "$room/out")
+}
+
+# A search that is given up says why, with its status. Four processors that add three times have 256 states; the end is the last. Two that add
+# by a load and a store have 12 states; an end comes after four references, so more than five states come before it.
 gives_up_exploring() {
     local ended=0
-    ends 4 'ultra: states' ./ultra explore --states 30 "$room/counter.elf" &&
-        ends 4 'ultra: states' ./ultra explore --each --states 100 "$room/counter.elf" &&
+    ./ultra explore --each "$room/counter.elf" >"$room/full" || return 1
+    gives_up_with states 0 --each --states 100 "$room/counter.elf" &&
+        gives_up_with states 1 --each --states 256 "$room/counter.elf" &&
+        ./ultra asm examples/explore/lost_adds.s "$room/lost_adds.elf" &&
+        ./ultra explore --each --k 1 "$room/lost_adds.elf" >"$room/full" &&
+        gives_up_with states 0 --each --k 1 --states 5 "$room/lost_adds.elf" &&
+        gives_up_with states 2 --each --k 1 --states 12 "$room/lost_adds.elf" &&
         printf 'loop: addi x3, x3, 1\njal x0, loop\n' >"$room/count.s" && assembles_to "$room/count.s" "$room/count.elf" &&
         ends 4 'ultra: alone' ./ultra explore "$room/count.elf" || return 1
     ./ultra explore --k 7 "$room/counter.elf" >"$room/out" 2>"$room/err" || ended=$?
     [ "$ended" -eq 2 ] && [ ! -s "$room/out" ] && grep "invalid value '7' for '--k <NUMBER>': 7 is not in 0..=6" "$room/err"
 }
 check 'explore reports that it gives up: states or alone, status 4; and refuses too many processors, with status 2' gives_up_exploring
+
+# Eight processors that take this lock twice have millions of states if none is exchanged.
+gives_up_in_time() {
+    local began=$SECONDS ended=0
+    ./ultra asm examples/explore/ticket_lock_twice.s "$room/search.elf" || return 1
+    ./ultra explore --seconds 1 --states 4294967295 --each --k 3 "$room/search.elf" >"$room/out" 2>"$room/err" || ended=$?
+    diff <(echo 'ultra: budget') "$room/err" && diff <(echo 4) <(echo "$ended") && [ $((SECONDS - began)) -le 10 ] &&
+        diff <(tail -n 1 "$room/out") <(echo 'incomplete: there may be more results') || return 1
+    # A search that ends in time is complete.
+    ./ultra explore --each "$room/counter.elf" >"$room/full" && ./ultra explore --each --seconds 100 "$room/counter.elf" >"$room/out" &&
+        diff "$room/full" "$room/out"
+}
+check 'explore --seconds gives up in time, with what it has found: budget, status 4' gives_up_in_time
 
 # ---- processors that can be exchanged
 

@@ -120,7 +120,11 @@ fails_a_search() {
     fails_each_call "89r:I9 $(stat -c %s "$room/ample")w:link" "$room/ample" study --k 0 "$room/ebreak.elf" || return 1
     ./ultra hunt --k 0 --runs 2 --trace "$room/ample" "$room/ebreak.elf" >"$room/ample"
     mv "$room/ample1.trace" "$room/ample.trace" &&
-        fails_each_call "89r:I9 24t:X5 $(stat -c %s "$room/ample")w:link" "$room/ample" hunt --k 0 --runs 2 --trace "$room/saved" "$room/ebreak.elf"
+        fails_each_call "89r:I9 24t:X5 $(stat -c %s "$room/ample")w:link" "$room/ample" hunt --k 0 --runs 2 --trace "$room/saved" "$room/ebreak.elf" || return 1
+    # The steps to the fault, which breaks a property, are those of the run.
+    saved=$room/saved.trace
+    printf 'never any fault: broken\nway\n' >"$room/ample"
+    fails_each_call "89r:I9 24t:X5 $(stat -c %s "$room/ample")w:link" "$room/ample" explore --k 0 --never 'any fault' --trace "$saved" "$room/ebreak.elf"
 }
 check 'explore, study and hunt report any call that fails, and keep the bytes written before it: I9, X5 or link, status 3' fails_a_search
 

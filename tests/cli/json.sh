@@ -30,9 +30,13 @@ prints_objects_for_lines() {
         ./ultra asm "examples/explore/$name.s" "$room/$name.elf" && prints_both explore --k 1 "$room/$name.elf" || return 1
     done
     prints_both explore --every --states 40 "$room/barrier_once.elf" &&
+        prints_both explore --each --k 1 --states 12 "$room/lost_adds.elf" &&
         prints_both explore --fair --k 1 "$room/barrier_once.elf" &&
         prints_both explore --fair --k 1 "$room/polite.elf" &&
         prints_both explore --fair --k 1 "$room/signal.elf" &&
+        prints_both explore --k 1 --filter 'word 0 == 2' "$room/lost_adds.elf" &&
+        prints_both explore --k 1 --filter 'word 0 > 0' --observe 1 "$room/lost_adds.elf" &&
+        prints_both explore --k 1 --filter 'any fault' "$room/lost_adds.elf" &&
         prints_both explore --k 1 --against "$room/counter.elf" "$room/lost_adds.elf" &&
         prints_both explore --k 0 --against "$room/counter.elf" "$room/lost_adds.elf" &&
         prints_both explore --k 1 --observe 1 --against "$room/counter.elf" "$room/lost_adds.elf" &&

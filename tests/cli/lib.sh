@@ -89,17 +89,22 @@ start_group() {
     run_group "$room.$started" "$@" </dev/null &
 }
 
+# Copies the lines of the checks that failed, at most forty lines of each.
+what_failed() {
+    awk '/^        / { if (left-- > 0) print; next }
+        { left = 0 }
+        /^FAILED  / { print; left = 40 }'
+}
+
 # Prints the lines of the next group, which has ended. A group without counts was killed, which is a failure.
 print_next() {
     local own counts=(0 1)
     printed=$((printed + 1))
     own=$room.$printed
+    [ -s "$own.counts" ] || echo 'FAILED  the other checks of this group were killed' >>"$own.printed"
+    [ ! -s "$own.counts" ] || read -ra counts <"$own.counts"
     cat "$own.printed"
-    if [ -s "$own.counts" ]; then
-        read -ra counts <"$own.counts"
-    else
-        echo 'FAILED  the other checks of this group were killed'
-    fi
+    what_failed <"$own.printed" >>"$room.failures"
     passed=$((passed + counts[0]))
     failed=$((failed + counts[1]))
     rm -rf "$own" "$own".*

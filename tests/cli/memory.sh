@@ -193,6 +193,14 @@ refuses_memory_of_results() {
 }
 check 'explore without memory for one request reports memory, status 4, or prints its results' refuses_memory_of_results
 
+refuses_memory_of_a_counterexample() {
+    local words=(explore --k 1 --finally 'word sum == 2' --symbols "$room/sum.map" --trace)
+    echo '80000000 00000004 d sum' >"$room/sum.map" && ./ultra asm examples/explore/lost_adds.s "$room/lost_adds.elf" || return 1
+    ./ultra "${words[@]}" "$room/ample.trace" "$room/lost_adds.elf" >"$room/verdict"
+    refuses_each_request 1 "$room/verdict" /dev/null "${words[@]}" "$room/saved.trace" "$room/lost_adds.elf"
+}
+check 'a property without memory for one request reports memory, status 4, or has its verdict and its trace' refuses_memory_of_a_counterexample
+
 # without_a_size LINE: standard input with one size not explored. LINE is `N:k K: ..`, the number of its line and the
 # line.
 without_a_size() {

@@ -82,6 +82,10 @@ first_line = record { name = codes "from"; low = 0; high = 4294967295 }
 abbrev pub last_line : Bounds
 last_line = record { name = codes "to"; low = 0; high = 4294967295 }
 
+-- the seconds after which an exploration gives up
+abbrev pub seconds : Bounds
+seconds = record { name = codes "seconds"; low = 1; high = 4294967295 }
+
 -- the result with which a witness ends
 abbrev pub witness : Bounds
 witness = record { name = codes "witness"; low = 0; high = 4294967295 }
@@ -181,10 +185,10 @@ hunt_command = command (codes "hunt")
 
 unfoldable pub explore_command : App
 explore_command = command (codes "explore")
-    (file ∷ option (codes "trace") ∷ option (codes "observe") ∷ option (codes "against") ∷ option (codes "never")
-    ∷ option (codes "always") ∷ option (codes "finally") ∷ flag (codes "each") ∷ flag (codes "fair")
-    ∷ flag (codes "every") ∷ flag (codes "quiet") ∷ symbols ∷ decimal ∷ json
-    ∷ (sizes ++ (number states.bounds ∷ number witness ∷ [])))
+    (file ∷ option (codes "trace") ∷ option (codes "observe") ∷ option (codes "filter") ∷ option (codes "against")
+    ∷ option (codes "never") ∷ option (codes "always") ∷ option (codes "finally") ∷ flag (codes "each")
+    ∷ flag (codes "fair") ∷ flag (codes "every") ∷ flag (codes "quiet") ∷ symbols ∷ decimal ∷ json
+    ∷ (sizes ++ (number states.bounds ∷ number seconds ∷ number witness ∷ [])))
 
 unfoldable pub replay_command : App
 replay_command = command (codes "replay") (replay ++ (symbols ∷ decimal ∷ json ∷ []))

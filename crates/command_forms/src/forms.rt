@@ -15,8 +15,8 @@ use crate::help::{
 };
 use crate::ranges::{
     BUDGET, COMBINATIONS, ChoiceOption, FIRST_LINE, FIRST_START, LAST_LINE, NumberOption, PORT,
-    PROCESSOR, QUEUE, RECORDS, RUN_STEPS, RUNS, SHARED_WORD, SHARED_WORDS, STAGES, START, STATES,
-    STEP, STEPS, SWEEP_STEPS, WITNESS,
+    PROCESSOR, QUEUE, RECORDS, RUN_STEPS, RUNS, SECONDS, SHARED_WORD, SHARED_WORDS, STAGES, START,
+    STATES, STEP, STEPS, SWEEP_STEPS, WITNESS,
 };
 
 /// A command of the program.
@@ -258,12 +258,17 @@ const EXPLORE: CommandForm = CommandForm {
         Argument::Text {
             name: "trace",
             value: "OUT",
-            help: "Where to write the steps to the result that --witness names, or with --fair those of a lasso, for `ultra replay`; opened then",
+            help: "Where to write the steps to the result of --witness, those of a lasso, or those that break a property, for `ultra replay`; opened then",
         },
         Argument::Text {
             name: "observe",
             value: "LIST",
             help: "Words by which results differ, as `0-3,8`; they are printed without others [default: all]",
+        },
+        Argument::Text {
+            name: "filter",
+            value: "CONDITION",
+            help: "Print only the results that satisfy the condition, as `word 0 == 1`; not with --every or --against",
         },
         Argument::Text {
             name: "against",
@@ -307,6 +312,7 @@ const EXPLORE: CommandForm = CommandForm {
         Argument::Number(COMBINATIONS),
         Argument::Number(SHARED_WORDS),
         Argument::Number(STATES),
+        Argument::Choice(SECONDS),
         Argument::Choice(WITNESS),
     ],
     ends: EXPLORE_ENDS,

@@ -291,6 +291,10 @@ With --observe LIST a result has, of the shared words, only those in the list: n
 to 262143 with commas between them. Results that then are the same are one, and --witness N leads to the
 first result of those that are printed as the Nth.
 
+With --filter CONDITION only results that satisfy a condition are printed, as below with --never, with the
+numbers that they have without it; a line such as `1 of 2 results is printed` comes after them. The search,
+the other lines and the exit status stay the same. It excludes --every, --against, --never and the like.
+
 With --against SPEC the results of the image SPEC are found too, on a machine of the same size. Printed are
 those results of FILE that SPEC does not have, by their statuses, consoles and observed words, and not by pc;
 and a last line such as `1 of 2 observed results is not among the 1 of SPEC`, or `all 2 observed results are
@@ -304,27 +308,38 @@ With --never CONDITION no result is printed, but `never CONDITION: holds`, or `n
 the numbers of the processors that refer, one after another, on a shortest way to a state that satisfies
 the condition. States are those between references: each processor has stopped, or is at its next reference
 to a shared word. --always asks whether each state satisfies the condition, and --finally whether each does
-in which no processor runs. A condition has alternatives with `|` between them, each of parts with `&`
-between them. A part is `word N OP V`; `at A OP V` or `at A-B OP V`, for the number of processors that run
-with a pc of A, or from A to B; `running OP V`, `halted OP V` or `faulted OP V`; or `any fault`. OP is one of
-== != < <= > >=, and a number is decimal, or hex after 0x. One such option excludes the others, --observe,
---against, --each, --fair, --every, --witness, --trace, --symbols, --decimal and --json.
+in which no processor runs. If the property is broken, --trace OUT writes the steps to that state to OUT;
+else OUT is not opened.
+
+A condition has alternatives with `|` between them, each of parts with `&` between them. A part is `word N
+OP V`; `at A OP V` or `at A-B OP V`, for the number of processors that run with a pc of A, or from A to B;
+`running OP V`, `halted OP V` or `faulted OP V`; or `any fault`. OP is one of == != < <= > >=, and a number
+is decimal, or hex after 0x. With --symbols FILE a name in FILE, or NAME+BYTES, can stand for A, B or N: for
+its address, or for the shared word there. --never, --always and --finally exclude each other, --observe,
+--filter, --against, --each, --fair, --every, --witness, --decimal and --json.
 
 With --witness N and --trace OUT the steps of a path to result N are written to OUT, for a machine with
 --c and --b: `ultra replay OUT FILE` prints the report of that result. With --witness 0 they lead to the
 first of the states from which no end can be reached.
 
-An error is reported on standard error, and then no result is printed: `ultra: I1` to `I8` a refused
-image, `K1` a size out of the machine's limits, `states` at least --states states are found, `alone` a
-processor takes a million instructions without a reference to a shared word and without coming back to
-where it was, or, with --never and the like, comes back, so that a verdict is not known, `link` FILE
-cannot be opened or standard output cannot be written, `I9` FILE cannot be read, `X5` OUT cannot be
-written, `L2` a way of more than 4194304 steps, `memory`. If SPEC is at fault, a second line has its name.
+If a search finds --states states, or takes longer than --seconds, it is given up. Then the results found
+so far are printed, each of which the machine can give, and the last line is `incomplete: there may be more
+results`; an error follows. With --never and the like a state found so far may break the property; if none
+does, nothing is printed. With --every a line says that the size is not explored.
+
+An error is reported on standard error, and but for this no result is printed: `ultra: I1` to `I8` a refused
+image, `K1` a size out of the machine's limits, `states` at least --states states are found, `budget` the
+search takes longer than --seconds, `alone` a processor takes a million instructions without a reference to
+a shared word and without coming back to where it was, or, with --never and the like, comes back, so that a
+verdict is not known, `link` FILE cannot be opened or standard output cannot be written, `I9` FILE cannot be
+read, `X5` OUT cannot be written, `L2` a way of more than 4194304 steps, `memory`. If SPEC is at fault, a
+second line has its name.
 
 Exit status: 0 done, 1 in a result a fault has stopped a processor or from a state no end can be reached,
-2 a refused image or command line, or there is no such witness or no cycle, 3 a file or standard output failed, 4 out
-of memory, too many states, a processor alone for too long, or a path too long. With --every it is the
-greatest of all sizes. With --against it is 1 if there is a result that SPEC does not have, else 0.";
+2 a refused image or command line, or there is no such witness or no cycle, 3 a file or standard output
+failed, 4 out of memory, too many states, too little time, a processor alone for too long, or a path too
+long. With --every it is the greatest of all sizes. With --against it is 1 if there is a result that SPEC
+does not have, else 0.";
 
 /// How `hunt` goes, what it prints, and its exit statuses.
 pub(crate) const HUNT_ENDS: &str = "\

@@ -158,6 +158,14 @@ pub const PROCESSOR: ChoiceOption = ChoiceOption {
     help: "Print the lines of this processor alone, 0 to 63",
 };
 
+/// The seconds after which an exploration gives up.
+pub const SECONDS: ChoiceOption = ChoiceOption {
+    name: "seconds",
+    low: 1,
+    high: u32::MAX,
+    help: "Give up a search after so many seconds, 1 to 4294967295",
+};
+
 /// The result with which a witness ends.
 pub const WITNESS: ChoiceOption = ChoiceOption {
     name: "witness",

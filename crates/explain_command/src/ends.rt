@@ -22,7 +22,9 @@ output failed, what was printed is a beginning of the whole.
         meaning: "the budget is used up, a processor still runs, and no fault has stopped one",
         advice: "\
 `ultra run` and `ultra words` report it, and print no report; no trace is written. With `--unfinished`
-`ultra run` prints the report first, and writes the trace. Exit status 4 in each case.
+`ultra run` prints the report first, and writes the trace. `ultra explore` reports it for a search
+that takes longer than `--seconds` says, and prints the results found so far. Exit status 4 in each
+case.
 
 Usual causes: a loop that does not end; a processor that waits for something that no other does; more
 work than the budget allows, which is ten million rounds of each thread of `ultra run`, 4,000,000
@@ -42,10 +44,10 @@ starves, try `--b 1`, `--c 8` or a pause in the loop; if the work is too much, f
         name: "states",
         meaning: "a program has at least as many states as `--states` allows",
         advice: "\
-`ultra explore` reports it, and prints no result; with `--every` it goes on to the next size. Exit
-status 4. In a state each processor is at its next reference to a shared word, or has stopped; its
-console and the shared words belong to the state. States that differ by an exchange of alike
-processors count as one.
+`ultra explore` reports it, and prints the results found so far; with `--every` it goes on to the next
+size. Exit status 4. In a state each processor is at its next reference to a shared word, or has
+stopped; its console and the shared words belong to the state. States that differ by an exchange of
+alike processors count as one.
 
 Usual causes: more processors or rounds than the question needs; processors that keep their own
 number, or ask for it after a reference, so that none can be exchanged; a counter that grows in each

@@ -1,6 +1,6 @@
 -- The results of the rows that a search found are those of the machine.
 use Rattle.std.proofs.Common.{◌≡◌, ◌⊎◌, inl, inr, ℕ, ◌<◌, ◌≤◌, ◌^◌, Bool, true, false, cond, List}
-use Rattle.std.proofs.Common.{[], Some, None, Contains, length, map, sym, ap, subst, ◌∙◌, arith}
+use Rattle.std.proofs.Common.{[], Some, None, Contains, length, map, refl, sym, ap, subst, ◌∙◌, arith}
 use Rattle.std.specs.Prelude.{slice_get, slice_index}
 use Rattle.std.specs.List.{range_with_len}
 use Rattle.std.proofs.Math.Nat.{pow-le-pow_right}
@@ -28,11 +28,15 @@ use Rattle.state_search.specs.state_store.StateTables.{TableLists, placed_at, se
 use Rattle.state_search.specs.state_store.Opening.{AreOfExtent, flat_of}
 use Rattle.state_search.specs.Search.{AreClassesOf, state_at}
 use Rattle.state_search.specs.state_store.Moves.{AreClasses}
-use Rattle.state_search.specs.Ends.{AreFound, AreMany}
+use Rattle.state_search.specs.Ends.{AreFound, AreSome}
 use Rattle.exploration.specs.Endings.{AreInOrder, AreSingle, IsEnding, IsStoodFor}
-use Rattle.exploration.specs.Refusals.{refused_by_search}
+use Rattle.exploration.specs.Refusals.{AreOfRows, IsEndAtRows, IsSearchEnd, refused_by_search, stop_of_move}
+use Rattle.exploration.specs.declared.refusal.GivenUp.TheVariants as given_up
+use Rattle.exploration.specs.declared.refusal.PartialResults.{PartialResults}
+use Rattle.exploration.specs.declared.refusal.SearchEnd.{SearchEnd}
+use Rattle.exploration.specs.declared.refusal.SearchEnd.TheVariants as end
 use Rattle.exploration.specs.Fairness.{IsFairnessAt, IsFairnessOf}
-use Rattle.exploration.specs.States.{AreAllStates, HasManyStates, IsGivenUp}
+use Rattle.exploration.specs.States.{AreAllStates, ArePartial, AreStates, HasManyStates, IsGivenUp}
 use Rattle.exploration.specs.declared.outcome.Fairness.{Fairness}
 use Rattle.exploration.specs.declared.outcome.Fairness.TheVariants as fairness
 use Rattle.local_reduction.specs.Laws.{FairCyclesNeverEnd, FairlyRankedSchedulesEnd}
@@ -41,7 +45,9 @@ use Rattle.state_graph.specs.Fairness.{helper_at}
 use Rattle.state_graph.specs.Ranks.{rank_at}
 use Rattle.state_search.specs.declared.refusal.Refusal.{Refusal as SearchRefusal}
 use Rattle.state_search.specs.declared.refusal.Refusal.TheVariants as search
-use Rattle.state_search.specs.Refusals.{IsGivenUpFor}
+use Rattle.state_search.specs.Refusals.{HasFound, refused_by_move}
+use Rattle.state_search.specs.state_store.declared.refusal.MoveRefusal.{MoveRefusal}
+use Rattle.state_search.specs.state_store.declared.refusal.MoveRefusal.TheVariants as move
 use Rattle.exploration.proofs.Endings.{kept_result}
 
 -- ---- the rows that a search found
@@ -77,21 +83,51 @@ uniform e classes t row are of j k alike = by (cases_lt j e.processors) (cases_l
     by (inr fj) (inl lk) = let l = within j k alike lk in absurd (omega (arith, l, fj))
     by (inr fj) (inr fk) = past j fj ∙ sym (past k fk)
 
+module _ (e : Extent) (code : List ℕ) (classes : List ℕ) (t : TableLists) (rows : List (List ℕ)) (first : MacroState)
+    (m : FlatState) (f : IsForgetful (setting_at e) code (kept_by t.live)) (some : AreSome e code classes t rows first)
+    (reaches_first : ReachesMacroState (setting_at e) code (kept_by t.live) m (λ k. []) first) where
+  -- The machine reaches the state of the first row.
+  pub reaches_row : ReachesMacroState (setting_at e) code (kept_by t.live) m (λ k. []) (state_at e t rows 0)
+  reaches_row = subst (ReachesMacroState (setting_at e) code (kept_by t.live) m (λ k. [])) (sym some.begins) reaches_first
+
+  -- The results stand only for results of the flat machine.
+  pub flat_sound : AllStoodForAreResults → IsUniform classes first → (results : List FinalResult) →
+      ((r : FinalResult) → Contains results r → IsEnding e classes t rows r) → (r q : FinalResult) → Contains results r →
+      StandsFor classes r q → IsFlatResult m q
+  flat_sound law same results ends r q there stands =
+      let h = ends r there in
+      law (setting_at e) code (kept_by t.live) classes (state_at e t rows) (length rows) m h.place q f (keeps t.live) some.reached
+      (subst (IsUniform classes) (sym some.begins) same) reaches_row h.within h.stopped
+      (stands_for_on classes (result_at (state_at e t rows h.place)) r q h.is stands)
+
+  -- The rows mean states of the machine.
+  pub some_states : HasAllLive code t.live → AreStates m classes (length rows)
+  some_states right = record {
+    at = setting_at e;
+    code = code;
+    live = t.live;
+    right = right;
+    state = state_at e t rows;
+    reaches = reaches_row;
+    reached = some.reached;
+    different = some.different;
+  }
+
+  -- The results of the rows are results of the machine.
+  pub are_partial : AllStoodForAreResults → IsUniform classes first → HasAllLive code t.live → (found : PartialResults) →
+      AreOfRows e classes t rows found → ArePartial (IsFlatResult m) m found.classes.items found.results.items found.states
+  are_partial law same right found of = record {
+    sound = λ r q there stands.
+        flat_sound law same found.results.items of.sound r q there (subst (λ cs. StandsFor cs r q) of.same stands);
+    once = of.once;
+    counted = subst (λ (z : List ℕ × ℕ). AreStates m z.0 z.1) (λ i. (sym of.same i, sym of.states i)) (some_states right);
+  }
+
 module _ (e : Extent) (code : List ℕ) (classes : List ℕ) (t : TableLists) (rows moves : List (List ℕ)) (first : MacroState)
     (m : FlatState) (f : IsForgetful (setting_at e) code (kept_by t.live)) (found : AreFound e code classes t rows moves first)
     (reaches_first : ReachesMacroState (setting_at e) code (kept_by t.live) m (λ k. []) first) (results : List FinalResult) where
   reaches : ReachesMacroState (setting_at e) code (kept_by t.live) m (λ k. []) (state_at e t rows 0)
-  reaches = subst (ReachesMacroState (setting_at e) code (kept_by t.live) m (λ k. [])) (sym found.begins) reaches_first
-
-  -- The results stand only for results of the flat machine.
-  pub flat_sound : AllStoodForAreResults → IsUniform classes first →
-      ((r : FinalResult) → Contains results r → IsEnding e classes t rows r) → (r q : FinalResult) → Contains results r →
-      StandsFor classes r q → IsFlatResult m q
-  flat_sound law same ends r q there stands =
-      let h = ends r there in
-      law (setting_at e) code (kept_by t.live) classes (state_at e t rows) (length rows) m h.place q f (keeps t.live) found.reached
-      (subst (IsUniform classes) (sym found.begins) same) reaches h.within h.stopped
-      (stands_for_on classes (result_at (state_at e t rows h.place)) r q h.is stands)
+  reaches = reaches_row e code classes t rows first m f found.some reaches_first
 
   -- The results stand for every result of the flat machine.
   pub flat_complete : EachResultIsStoodFor →
@@ -107,7 +143,7 @@ module _ (e : Extent) (code : List ℕ) (classes : List ℕ) (t : TableLists) (r
   pub flat_schedules : SuccessorsDecideTermination → (fact : Termination) → IsTrueOf moves fact → IsTerminationOf m fact
   flat_schedules law fact =
       law (setting_at e) code (kept_by t.live) classes (state_at e t rows) (length rows) moves m (λ k. []) fact f
-      found.successors found.reached reaches
+      found.successors found.some.reached reaches
 
   -- What is found of fair schedules is true of the machine.
   pub flat_fairness : FairlyRankedSchedulesEnd → FairCyclesNeverEnd → (said : Fairness) → IsFairnessAt e code t rows said → IsFairnessOf m said
@@ -124,18 +160,10 @@ module _ (e : Extent) (code : List ℕ) (classes : List ℕ) (t : TableLists) (r
   pub all_states : HasAllLive code t.live → (termination : Termination) (count : ℕ) → IsTrueOf moves termination →
       AreInOrder classes (state_at e t rows) (length rows) results → count ≡ length moves →
       AreAllStates m classes results termination count
+  unfolding some_states
   all_states right termination count fact order is =
       subst (AreAllStates m classes results termination) (sym (is ∙ found.successors.all)) (record {
-        states = record {
-          at = setting_at e;
-          code = code;
-          live = t.live;
-          right = right;
-          state = state_at e t rows;
-          reaches = reaches;
-          reached = found.reached;
-          different = found.different;
-        };
+        states = some_states e code classes t rows first m f found.some reaches_first right;
         moves = moves;
         successors = found.successors;
         breadth = found.breadth;
@@ -143,33 +171,66 @@ module _ (e : Extent) (code : List ℕ) (classes : List ℕ) (t : TableLists) (r
         order = order;
       })
 
--- If a search finds at least `least` states, the machine has at least as many.
-pub many_states : (e : Extent) (code : List ℕ) (classes : List ℕ) (t : TableLists) (first : MacroState) (m : FlatState) (least : ℕ) →
-    HasAllLive code t.live → ReachesMacroState (setting_at e) code (kept_by t.live) m (λ k. []) first → AreMany e code classes t first least →
-    HasManyStates m least
-many_states e code classes t first m least right reaches h = record {
-  classes = classes;
-  count = length h.rows;
-  many = h.many;
-  states = record {
-    at = setting_at e;
-    code = code;
-    live = t.live;
-    right = right;
-    state = state_at e t h.rows;
-    reaches = subst (ReachesMacroState (setting_at e) code (kept_by t.live) m (λ k. [])) (sym h.begins) reaches;
-    reached = h.reached;
-    different = h.different;
-  };
-}
+-- If the results of rows are results of the machine, a search that gives up ends with results of the machine, and with a
+-- reason that is true of it.
+pub ends_with : (e : Extent) (classes : List ℕ) (t : TableLists) (rows : List (List ℕ)) (m : FlatState) (limit : ℕ) (why : SearchRefusal)
+    (s : SearchEnd) → IsEndAtRows e classes t rows why s →
+    (HasFound why → (found : PartialResults) → AreOfRows e classes t rows found →
+    ArePartial (IsFlatResult m) m found.classes.items found.results.items found.states) → (why ≡ search.States → limit ≤ length rows) →
+    IsSearchEnd (IsFlatResult m) m limit s
+ends_with e classes t rows m limit why end.Asks h partial many = tt
+ends_with e classes t rows m limit why (end.GivenUp given_up.Memory) h partial many = (tt, tt)
+ends_with e classes t rows m limit why (end.GivenUp (given_up.States found)) h partial many =
+    let is = partial (subst HasFound (sym h.0) tt) found h.1 in (
+      record {
+        classes = found.classes.items;
+        count = found.states;
+        many = subst (λ n. limit ≤ n) (sym h.1.states) (many h.0);
+        states = is.counted;
+      },
+      is,
+    )
+ends_with e classes t rows m limit why (end.GivenUp (given_up.Stopped found)) h partial many =
+    (tt, partial (subst HasFound (sym h.0) tt) found h.1)
+ends_with e classes t rows m limit why (end.GivenUp given_up.Alone) h partial many = (tt, tt)
 
--- The reported refusal is justified if the search's own is.
-pub search_gives_up : (m : FlatState) (limit : ℕ) (why : SearchRefusal) → IsGivenUpFor (HasManyStates m limit) why →
+-- If a search for results of the flat machine ends in a way, so does one for those of a machine that has the same
+-- results.
+pub ends_as : (P Q : FinalResult → Type 0) (m n : FlatState) (limit : ℕ) → ((r : FinalResult) → P r → Q r) → m ≡ n → (s : SearchEnd) →
+    IsSearchEnd P m limit s → IsSearchEnd Q n limit s
+ends_as P Q m n limit on same s h = subst (λ (k : FlatState). IsSearchEnd Q k limit s) same (by s h)
+  where
+    partly : (found : PartialResults) → ArePartial P m found.classes.items found.results.items found.states →
+        ArePartial Q m found.classes.items found.results.items found.states
+    partly found is = record { sound = λ r q there stands. on q (is.sound r q there stands); once = is.once; counted = is.counted }
+
+    by : (s : SearchEnd) → IsSearchEnd P m limit s → IsSearchEnd Q m limit s
+    by end.Asks h = tt
+    by (end.GivenUp given_up.Memory) h = (tt, tt)
+    by (end.GivenUp (given_up.States found)) h = (h.0, partly found h.1)
+    by (end.GivenUp (given_up.Stopped found)) h = (tt, partly found h.1)
+    by (end.GivenUp given_up.Alone) h = (tt, tt)
+
+-- What is known if a move cannot be made: nothing is claimed.
+pub moves_end : (P : FinalResult → Type 0) (m : FlatState) (limit : ℕ) (why : MoveRefusal) → IsSearchEnd P m limit (stop_of_move why)
+moves_end P m limit move.Memory = (tt, tt)
+moves_end P m limit move.Alone = (tt, tt)
+moves_end P m limit move.Asks = tt
+
+-- A search is refused for its reason if there are too many states when it says so.
+pub refusal_stands : (m : FlatState) (limit : ℕ) (why : SearchRefusal) → (why ≡ search.States → HasManyStates m limit) →
     IsGivenUp m limit (refused_by_search why)
-search_gives_up m limit search.Memory h = tt
-search_gives_up m limit search.States h = h
-search_gives_up m limit search.Alone h = tt
-search_gives_up m limit search.Asks h = tt
+refusal_stands m limit search.Memory many = tt
+refusal_stands m limit search.States many = many refl
+refusal_stands m limit search.Stopped many = tt
+refusal_stands m limit search.Alone many = tt
+refusal_stands m limit search.Asks many = tt
+
+-- What is known of a property if a move cannot be made: nothing is claimed.
+pub moves_refuse : (m : FlatState) (limit : ℕ) (why : MoveRefusal) → IsGivenUp m limit (refused_by_search (refused_by_move why))
+moves_refuse m limit move.Memory = tt
+moves_refuse m limit move.Alone = tt
+moves_refuse m limit move.Asks = tt
 
 -- ---- the machine
 

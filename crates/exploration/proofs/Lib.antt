@@ -8,4 +8,4 @@ pub mod MachineEnds
 pub mod Forwards
 pub mod Shifting
 pub mod Backwards
-pub mod Verdicts
+pub mod Lemmas

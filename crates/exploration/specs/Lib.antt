@@ -1,6 +1,5 @@
 pub mod Endings
 pub mod States
-pub mod Verdicts
 pub mod Refusals
 pub mod Fairness
 pub mod Laws
@@ -11,4 +10,3 @@ pub use Rattle.local_reduction.specs as local_reduction
 pub use Rattle.state_graph.specs as state_graph
 pub use Rattle.state_search.specs as state_search
 pub use Rattle.state_search.specs.state_store as state_store
-pub use Rattle.state_conditions.specs as state_conditions

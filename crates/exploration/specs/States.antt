@@ -1,17 +1,17 @@
 -- The states between references that a machine reaches.
-use Rattle.std.specs.Prelude.{ℕ, ◌≤◌, Bool, List, []}
+use Rattle.std.specs.Prelude.{ℕ, ◌≤◌, Bool, List, [], Contains}
 use Rattle.flat_machine.specs.declared.setting.Setting.{Setting}
 use Rattle.flat_machine.specs.State.{FlatState}
 use Rattle.local_reduction.specs.Closing.{MacroState, ReachesMacroState}
 use Rattle.local_reduction.specs.Live.{HasAllLive}
 use Rattle.local_reduction.specs.Forgetting.{kept_by}
-use Rattle.local_reduction.specs.Results.{FinalResult}
+use Rattle.local_reduction.specs.Results.{FinalResult, StandsFor}
 use Rattle.state_graph.specs.declared.termination.Termination.{Termination}
 use Rattle.state_graph.specs.Paths.{IsBreadthFirst}
 use Rattle.state_graph.specs.Termination.{IsTrueOf}
 use Rattle.state_graph.specs.Search.{AreReached, AreSuccessors}
 use Rattle.state_search.specs.Ends.{AreDifferentStates}
-use Rattle.exploration.specs.Endings.{AreInOrder}
+use Rattle.exploration.specs.Endings.{AreInOrder, IsOnce}
 use Rattle.exploration.specs.declared.refusal.Refusal.{Refusal}
 use Rattle.exploration.specs.declared.refusal.Refusal.TheVariants as refusal
 
@@ -49,4 +49,12 @@ pub record HasManyStates (m : FlatState) (least : ℕ) : Type 0 where
 abbrev pub IsGivenUp : FlatState → (limit : ℕ) → Refusal → Type 0
 IsGivenUp m limit refusal.Memory = Unit {0}
 IsGivenUp m limit refusal.States = HasManyStates m limit
+IsGivenUp m limit refusal.Stopped = Unit {0}
 IsGivenUp m limit refusal.Alone = Unit {0}
+
+-- The results stand only for results of a machine, and none is listed twice. The machine has at least this many states.
+pub record ArePartial (IsResult : FinalResult → Type 0) (m : FlatState) (classes : List ℕ) (results : List FinalResult)
+    (states : ℕ) : Type 0 where
+  pub sound : (r q : FinalResult) → Contains results r → StandsFor classes r q → IsResult q
+  pub once : IsOnce results
+  pub counted : AreStates m classes states

@@ -4,7 +4,8 @@ ghost use Rattle.std.specs.Prelude.{◌≡◌, ◌<◌, ◌≤◌, ◌^◌, ℕ,
 ghost use Rattle.local_reduction.specs.Results.{FinalResult, HaveStopped, IsFlatResult, StandsFor, result_at};
 ghost use Rattle.exploration.specs.Fairness.{IsFairnessAt, IsFairnessOf};
 ghost use Rattle.exploration.specs.Endings.{AreInOrder, AreSingle, IsEnding, IsOnce, IsStoodFor};
-ghost use Rattle.exploration.specs.States.{AreAllStates, HasManyStates, IsGivenUp};
+ghost use Rattle.exploration.specs.Refusals.{AreOfRows, HasFoundSome, IsEndAtRows, IsSearchEnd, why_of};
+ghost use Rattle.exploration.specs.States.{AreAllStates, IsGivenUp};
 ghost use Rattle.state_graph.specs.Laws.{IsTerminationOf};
 ghost use Rattle.local_reduction.specs.Live.{HasAllLive};
 ghost use Rattle.machine_steps.specs.Machines.{AreHome, IsIdle};
@@ -15,7 +16,7 @@ ghost use Rattle.exploration.specs.Results.{IsMachineResult};
 ghost use Rattle.state_search.specs.Ends.{AreRows};
 ghost use Rattle.state_search.specs.state_store.TransitionCache.{KnowsLists, KnowsLocalStates};
 ghost use Rattle.state_search.specs.state_store.Opening.{AreOfExtent, flat_of};
-ghost use Rattle.state_search.specs.Refusals.{IsGivenUpFor};
+ghost use Rattle.state_search.specs.Refusals.{HasFound};
 ghost use Rattle.state_search.specs.Search.{state_at};
 ghost use Rattle.state_search.specs.state_store.Moves.{AreClasses};
 
@@ -23,7 +24,7 @@ use crate::ending::results_of;
 use crate::fairness::fairness_of;
 use crate::opening::{cores_of, words_of};
 use crate::outcome::Explored;
-use crate::refusal::Refusal;
+use crate::refusal::{GivenUp, PartialResults, SearchEnd};
 use crate::way::{place_of, way_of};
 use hart::Core;
 use local_memory::Code;
@@ -34,7 +35,7 @@ use state_search::{
     Extent, MoveRefusal, Refusal as SearchRefusal, SearchObserver, SparseWords, StateSpace,
     StateTables, TransitionCaches, classes_of, explore_states,
 };
-use std::alloc::Global;
+use std::alloc::{AllocError, Global};
 
 /// What a search does, and what it looks for.
 #[derive(Clone, Copy, Debug, PartialEq, Eq, Drop)]
@@ -57,15 +58,15 @@ pub struct Search {
 ///
 /// # Errors
 ///
-/// [`Refusal::States`] if there are at least `limit` states between references; [`Refusal::Alone`] if a processor runs
-/// for 1,000,000 instructions without a reference and is not found to spin; [`Refusal::Memory`] if out of memory.
-#[tactic(auto, using(crate::proofs::Exploring::search_gives_up))]
+/// [`GivenUp::States`] if there are at least `limit` states between references, and [`GivenUp::Stopped`] if the
+/// observer stops the search, both with the results found so far; [`GivenUp::Alone`] if a processor runs for 1,000,000
+/// instructions without a reference and is not found to spin; [`GivenUp::Memory`] if out of memory.
 pub fn explore<G: SearchObserver>(
     alloc: Global,
     machine: &Machine,
     wish: Search,
     observer: &mut G,
-) -> Result<Explored, Refusal>
+) -> Result<Explored, GivenUp>
     requires idle { IsIdle machine.now }
     requires home { AreHome machine.now }
     ensures sound { IfOk result (λ e. (r q : FinalResult) → Contains e.results.items r → StandsFor e.classes.items r q
@@ -80,18 +81,21 @@ pub fn explore<G: SearchObserver>(
     ensures states { IfOk result
         (λ e. AreAllStates (flat_state machine.now) e.classes.items e.results.items e.termination e.states) }
     ensures few { IfOk result (λ e. e.states < wish.limit) }
-    ensures given_up { IfErr result (IsGivenUp (flat_state machine.now) wish.limit) }
+    ensures given_up { IfErr result (λ g. IsGivenUp (flat_state machine.now) wish.limit (why_of g)) }
+    ensures so_far { IfErr result (HasFoundSome (IsMachineResult machine.now) (flat_state machine.now)) }
 {
     if wish.exchanged && !wish.fair {
         match explore_as(alloc, machine, wish, true, observer) {
             Ok(explored) => return Ok(explored),
-            Err(SearchRefusal::Asks) => {}
-            Err(refusal) => return Err(Refusal::of(refusal)),
+            Err(SearchEnd::Asks) => {}
+            Err(SearchEnd::GivenUp(given_up)) => return Err(given_up),
         }
     }
     match explore_as(alloc, machine, wish, false, observer) {
         Ok(explored) => Ok(explored),
-        Err(refusal) => Err(Refusal::of(refusal)),
+        Err(SearchEnd::GivenUp(given_up)) => Err(given_up),
+        // Only a search with exchanges looks for a processor that asks for its own number.
+        Err(SearchEnd::Asks) => Err(GivenUp::Memory),
     }
 }
 
@@ -102,7 +106,7 @@ fn explore_as<G: SearchObserver>(
     wish: Search,
     exchanged: bool,
     observer: &mut G,
-) -> Result<Explored, SearchRefusal>
+) -> Result<Explored, SearchEnd>
     requires idle { IsIdle machine.now }
     requires home { AreHome machine.now }
     ensures sound { IfOk result (λ e. (r q : FinalResult) → Contains e.results.items r → StandsFor e.classes.items r q
@@ -117,16 +121,16 @@ fn explore_as<G: SearchObserver>(
     ensures states { IfOk result
         (λ e. AreAllStates (flat_state machine.now) e.classes.items e.results.items e.termination e.states) }
     ensures few { IfOk result (λ e. e.states < wish.limit) }
-    ensures given_up { IfErr result (IsGivenUpFor (HasManyStates (flat_state machine.now) wish.limit)) }
+    ensures given_up { IfErr result (IsSearchEnd (IsMachineResult machine.now) (flat_state machine.now) wish.limit) }
 {
     machine_steps::laws::machine_is_well_formed(machine);
     crate::laws::results_are_those_of_the_flat_machine();
     let extent = extent_of(machine, exchanged);
     let Ok(cores) = cores_of(alloc, machine) else {
-        return Err(SearchRefusal::Memory);
+        return Err(SearchEnd::GivenUp(GivenUp::Memory));
     };
     let Ok(words) = words_of(alloc, machine) else {
-        return Err(SearchRefusal::Memory);
+        return Err(SearchEnd::GivenUp(GivenUp::Memory));
     };
     let all = cores.as_slice();
     let code: &Code = machine.code();
@@ -135,7 +139,7 @@ fn explore_as<G: SearchObserver>(
 }
 
 /// The extent of a machine.
-pub(crate) fn extent_of(machine: &Machine, exchanged: bool) -> Extent
+pub fn extent_of(machine: &Machine, exchanged: bool) -> Extent
     ensures { result
         ≡ record {
           processors = 2 ^ machine.now.config.k;
@@ -160,7 +164,7 @@ fn explored_by_width<G: SearchObserver>(
     words: SparseWords,
     wish: Search,
     observer: &mut G,
-) -> Result<Explored, SearchRefusal>
+) -> Result<Explored, SearchEnd>
     requires cores { AreOfExtent extent cores.now }
     requires room { extent.processors ≤ 64 }
     requires words { length words ≡ extent.shared_words }
@@ -176,7 +180,8 @@ fn explored_by_width<G: SearchObserver>(
         (λ e. AreAllStates (flat_of code.now cores.now words) e.classes.items e.results.items
         e.termination e.states) }
     ensures few { IfOk result (λ e. e.states < wish.limit) }
-    ensures given_up { IfErr result (IsGivenUpFor (HasManyStates (flat_of code.now cores.now words) wish.limit)) }
+    ensures given_up { IfErr result (IsSearchEnd (IsFlatResult (flat_of code.now cores.now words))
+        (flat_of code.now cores.now words) wish.limit) }
 {
     if extent.processors <= 8 {
         explore_from::<9, G>(alloc, code, extent, cores, words, wish, observer)
@@ -198,7 +203,7 @@ fn explore_from<const N: usize, G: SearchObserver>(
     words: SparseWords,
     wish: Search,
     observer: &mut G,
-) -> Result<Explored, SearchRefusal>
+) -> Result<Explored, SearchEnd>
     requires cores { AreOfExtent extent cores.now }
     requires room { extent.processors < N }
     requires narrow { N ≤ 65 }
@@ -215,7 +220,8 @@ fn explore_from<const N: usize, G: SearchObserver>(
         (λ e. AreAllStates (flat_of code.now cores.now words) e.classes.items e.results.items
         e.termination e.states) }
     ensures few { IfOk result (λ e. e.states < wish.limit) }
-    ensures given_up { IfErr result (IsGivenUpFor (HasManyStates (flat_of code.now cores.now words) wish.limit)) }
+    ensures given_up { IfErr result (IsSearchEnd (IsFlatResult (flat_of code.now cores.now words))
+        (flat_of code.now cores.now words) wish.limit) }
 {
     state_graph::laws::all_stood_for_are_results();
     state_graph::laws::each_result_is_stood_for();
@@ -224,15 +230,16 @@ fn explore_from<const N: usize, G: SearchObserver>(
     local_reduction::laws::fairly_ranked_schedules_end();
     local_reduction::laws::fair_cycles_never_end();
     let Ok(live) = LiveTable::new(alloc, code) else {
-        return Err(SearchRefusal::Memory);
+        return Err(SearchEnd::GivenUp(GivenUp::Memory));
     };
     let mut state_tables = StateTables::new(alloc, live);
     let first = state_tables.open::<N>(alloc, code, extent, cores, words)?;
     let Ok(classes) = classes_of(alloc, extent, &first) else {
-        return Err(SearchRefusal::Memory);
+        return Err(SearchEnd::GivenUp(GivenUp::Memory));
     };
     let mut transition_caches = TransitionCaches::new(alloc);
-    let found = explore_states(
+    let mut found = StateSpace::new(alloc);
+    let searched = explore_states(
         alloc,
         &mut state_tables,
         &mut transition_caches,
@@ -242,18 +249,85 @@ fn explore_from<const N: usize, G: SearchObserver>(
         first,
         wish.limit,
         observer,
-    )?;
-    let explored = results_of_space(
-        alloc,
-        &mut state_tables,
-        &mut transition_caches,
-        code,
-        extent,
+        &mut found,
+    );
+    match searched {
+        Ok(()) => {
+            let explored = results_of_space(
+                alloc,
+                &mut state_tables,
+                &mut transition_caches,
+                code,
+                extent,
+                classes,
+                found,
+                wish,
+            )?;
+            Ok(explored)
+        }
+        Err(refusal) => Err(end_of_search(alloc, &state_tables, extent, classes, &found, refusal)),
+    }
+}
+
+/// How a search ends that gives up, with the results of the rows that it has found.
+fn end_of_search<const N: usize>(
+    alloc: Global,
+    state_tables: &StateTables,
+    extent: Extent,
+    classes: Vec<u8>,
+    found: &StateSpace<N>,
+    refusal: SearchRefusal,
+) -> SearchEnd
+    requires rows { HasFound refusal → AreRows extent state_tables.now found.now.rows.keys }
+    requires classes { AreClasses extent classes.items }
+    requires room { extent.processors < N }
+    requires narrow { N ≤ 65 }
+    ensures { IsEndAtRows extent classes.items state_tables.now found.now.rows.keys refusal result }
+{
+    match refusal {
+        SearchRefusal::Memory => SearchEnd::GivenUp(GivenUp::Memory),
+        SearchRefusal::Alone => SearchEnd::GivenUp(GivenUp::Alone),
+        SearchRefusal::Asks => SearchEnd::Asks,
+        SearchRefusal::States => {
+            match partial_results(alloc, state_tables, extent, classes, found) {
+                Ok(partial) => SearchEnd::GivenUp(GivenUp::States(partial)),
+                Err(_) => SearchEnd::GivenUp(GivenUp::Memory),
+            }
+        }
+        SearchRefusal::Stopped => {
+            match partial_results(alloc, state_tables, extent, classes, found) {
+                Ok(partial) => SearchEnd::GivenUp(GivenUp::Stopped(partial)),
+                Err(_) => SearchEnd::GivenUp(GivenUp::Memory),
+            }
+        }
+    }
+}
+
+/// The results of the rows that a search has found before it gave up.
+fn partial_results<const N: usize>(
+    alloc: Global,
+    state_tables: &StateTables,
+    extent: Extent,
+    classes: Vec<u8>,
+    found: &StateSpace<N>,
+) -> Result<PartialResults, AllocError>
+    requires rows { AreRows extent state_tables.now found.now.rows.keys }
+    requires classes { AreClasses extent classes.items }
+    requires room { extent.processors < N }
+    requires narrow { N ≤ 65 }
+    ensures { IfOk result (AreOfRows extent classes.items state_tables.now found.now.rows.keys) }
+{
+    let rows = found.rows.as_slice();
+    // The places of results are numbers of 32 bits.
+    let Ok(_) = u32::try_from(rows.len()) else {
+        return Err(AllocError);
+    };
+    let endings = results_of(alloc, state_tables, extent, classes.as_slice(), rows)?;
+    Ok(PartialResults {
+        results: endings.results,
+        states: rows.len(),
         classes,
-        found,
-        wish,
-    )?;
-    Ok(explored)
+    })
 }
 
 /// Returns the results of the rows that a search found, whether schedules end, and the way that is wanted.

@@ -33,7 +33,7 @@ pub(crate) fn place_of(
 /// # Errors
 ///
 /// Those of [`movers_of`].
-pub(crate) fn way_of<const N: usize>(
+pub fn way_of<const N: usize>(
     alloc: Global,
     state_tables: &mut StateTables,
     transition_caches: &mut TransitionCaches,

@@ -1,11 +1,11 @@
 -- Why there are no steps of what is asked for, if words are chosen.
 use Rattle.std.proofs.Common.{◌≡◌, ℕ, Bool, List, Option, Some, None, refl}
 use Rattle.command_io.specs.declared.fault.Fault.TheVariants as fault
-use Rattle.steps.specs.declared.step.Step.{Step}
+use Rattle.machine_steps.specs.steps.declared.step.Step.{Step}
 use Rattle.trace_file.specs.Traces.{trace_bytes, trace_of}
 use Rattle.run_reports.specs.RunReports.{HasSaved, TraceOutput, trace_output}
-use Rattle.explore_command.specs.declared.refused.Refused.{Refused}
-use Rattle.explore_command.specs.declared.refused.Refused.TheVariants as refused
+use Rattle.witness_traces.specs.declared.refused.Refused.{Refused}
+use Rattle.witness_traces.specs.declared.refused.Refused.TheVariants as refused
 use Rattle.explore_command.specs.Causes.{IsNotFound, IsNotLedTo}
 use Rattle.explore_command.specs.Explorations.{IsWanted, IsWitnessed, Problem, SearchResult}
 
@@ -22,7 +22,7 @@ module _ (marks : List Bool) (p : Problem) where
   not_led_to trace same (refused.Fault (fault.Trace e)) why = absurd why
   not_led_to trace same (refused.Fault fault.Size) why = (same, why)
   not_led_to trace same (refused.Fault (fault.Stalled place)) why = absurd why
-  not_led_to trace same (refused.Fault fault.Budget) why = absurd why
+  not_led_to trace same (refused.Fault fault.Budget) why = (same, why)
   not_led_to trace same (refused.Fault fault.Full) why = (same, why)
   not_led_to trace same (refused.Fault fault.Loan) why = absurd why
   not_led_to trace same (refused.Fault fault.Start) why = absurd why

@@ -1,11 +1,11 @@
 -- What the command prints: from the bytes of a file to all final results of the program in it.
-use Rattle.std.specs.Prelude.{◌≡◌, ℕ, ◌<◌, ◌^◌, ◌++◌, Bool, true, false, codes, List, [], MatchOption, Option, Some}
+use Rattle.std.specs.Prelude.{◌≡◌, ℕ, ◌<◌, ◌^◌, ◌++◌, Bool, true, List, MatchOption, Option, Some}
 use Rattle.std.specs.Prelude.{None, All, length}
 use Rattle.std.specs.Prelude.{option_map}
 use Rattle.flat_machine.specs.declared.config.Config.{Config}
 use Rattle.elf_image.specs.Files.{IsImageOf}
 use Rattle.elf_image.specs.Images.{ImageContents}
-use Rattle.steps.specs.declared.step.Step.{Step}
+use Rattle.machine_steps.specs.steps.declared.step.Step.{Step}
 use Rattle.trace_file.specs.Traces.{trace_bytes, trace_of}
 use Rattle.command_io.specs.Links.{Input}
 use Rattle.machine_steps.specs.Machines.{MachineLists}
@@ -21,10 +21,13 @@ use Rattle.exploration.specs.state_graph.declared.termination.Termination.{Termi
 use Rattle.exploration.specs.state_graph.declared.termination.Termination.TheVariants as fact
 use Rattle.exploration.specs.state_graph.Laws.{IsTerminationOf}
 use Rattle.explore_command.specs.declared.command.Asked.{Asked}
-use Rattle.explore_command.specs.Lassos.{IsRoundOf, fairness_text}
+use Rattle.explore_command.specs.Lassos.{fairness_text}
+use Rattle.witness_traces.specs.Rounds.{IsRoundOf}
 use Rattle.run_reports.specs.RunReports.{HasSaved, TraceOutput}
-use Rattle.explore_command.specs.Witnesses.{IsWitness, target}
-use Rattle.observed_results.specs.Lines.{observed_parts, parts_lines, results_lines}
+use Rattle.witness_traces.specs.Witnesses.{IsWitness, target}
+use Rattle.state_conditions.specs.declared.condition.Comparison.{Comparison}
+use Rattle.observed_results.specs.Filters.{observed_lines}
+use Rattle.observed_results.specs.Lines.{results_lines}
 use Rattle.observed_results.specs.Parts.{HasPart}
 
 -- ---- what is found
@@ -111,11 +114,17 @@ pub record IsFound (p : Problem) (found : SearchResult) : Type 0 where
 abbrev pub marks_of : Asked → Option (List Bool)
 marks_of asked = option_map (λ words. words.now) asked.observed
 
--- the lines of what is found: of the results, or, if words are chosen, of the different observed parts
-abbrev pub lines_of : (observed : Option (List Bool)) → SearchResult → List ℕ
-lines_of None found = results_lines found.results found.classes found.states found.termination
-lines_of (Some marks) found =
-    parts_lines (observed_parts marks found.results) found.classes found.states found.termination
+-- the condition that a result has to satisfy to be printed, if there is one
+abbrev pub filter_of : Asked → Option (List (List Comparison))
+filter_of asked = option_map (λ condition. condition.now) asked.filter
+
+-- the lines of what is found: of the results, or, if words are chosen, of the different observed parts, of all results
+-- or of those that satisfy the condition
+abbrev pub lines_of : (observed : Option (List Bool)) → (condition : Option (List (List Comparison))) →
+    SearchResult → List ℕ
+lines_of None condition found = results_lines found.results found.classes found.states (Some found.termination)
+lines_of (Some marks) condition found =
+    observed_lines marks condition found.results found.classes found.states (Some found.termination)
 
 -- ---- what is printed
 
@@ -152,7 +161,7 @@ pub record AreExplored {T : Type 0} (observed : Option (List Bool)) (p : Problem
     (text : List ℕ) (status : ℕ) : Type 0 where
   pub found : SearchResult
   pub is : IsFound p found
-  pub lines : text ≡ lines_of observed found ++ fairness_text p.asked.fair found.fairness
+  pub lines : text ≡ lines_of observed (filter_of p.asked) found ++ fairness_text p.asked.fair found.fairness
   pub exit : IsExitOf found.results found.termination status
   pub witnessed : IsWitnessed observed p found trace
 

@@ -1,6 +1,5 @@
 pub mod Lassos
 pub mod Explorations
 pub mod Causes
+pub mod Parts
 pub mod Sizes
-pub mod Witnesses
-pub mod Refusals

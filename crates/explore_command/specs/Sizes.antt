@@ -84,6 +84,7 @@ size_line k results states termination greatest =
 abbrev pub refusal_text : Fault → List ℕ
 refusal_text fault.Size = codes "K1"
 refusal_text fault.States = codes "states"
+refusal_text fault.Budget = codes "budget"
 refusal_text fault.Alone = codes "alone"
 refusal_text other = codes "memory"
 
@@ -94,10 +95,12 @@ refused_line k f = size_text k ++ codes "not explored: " ++ refusal_text f ++ li
 -- ---- a size
 
 -- Why a size is not explored: it is out of limits; there are too many states; or a processor runs alone for too long,
--- of which only the machine's opening is known. Nothing is said about a lack of memory.
+-- or the observer stops the search, of which only the machine's opening is known. Nothing is said about a lack of
+-- memory.
 abbrev pub IsSizeRefused : Problem → Fault → Type 0
 IsSizeRefused p fault.Size = IsWithinLimits p.config → ⊥
 IsSizeRefused p fault.States = HasTooMany p
+IsSizeRefused p fault.Budget = Opens p
 IsSizeRefused p fault.Alone = Opens p
 IsSizeRefused p fault.Memory = Unit {0}
 IsSizeRefused p other = ⊥

@@ -1,28 +1,29 @@
 //! The command `ultra explore`.
 
-ghost use Rattle.std.specs.Prelude.{◌≡◌, ◌≤◌, ◌↔◌, true, false, IfOk, IfErr, IsErrOf, OnErr};
+ghost use Rattle.std.specs.Prelude.{◌≡◌, ◌≤◌, ◌↔◌, ◌⊎◌, true, false, IfOk, IfErr, IsErrOf, OnErr};
 ghost use Rattle.command_io.specs.Links.{input, output};
 ghost use Rattle.command_io.specs.Printing.{Prints, ReportsRefusal};
 ghost use Rattle.run_reports.specs.RunReports.{IsWorking};
-ghost use Rattle.explore_command.specs.Causes.{ExploreFails, IsRefused, IsReportedAs, status_of, unknown_line};
 ghost use Rattle.explore_command.specs.Explorations.{PrintsResults, exploration_of};
+ghost use Rattle.explore_command.specs.Parts.{ExploreFails, IsRefused, PrintsPart};
 ghost use Rattle.run_reports.specs.RunReports.{trace_output};
+ghost use Rattle.witness_traces.specs.Reports.{IsReportedAs, status_of};
 
-use crate::refused::Refused;
+use crate::report::ReportEnd;
 use crate::searching::explore_image;
-use arrayvec::ArrayString;
-use command_io::{Fault, REFUSED, SPENT, image_of, print, report_fault, write_error};
+use command_io::{Fault, image_of, print};
 use elf_image::ImageError;
 use exploration::SearchObserver;
 use flat_machine::Config;
-use itoa::Buffer;
 use link::{LinkRead, LinkWrite};
 use observed_results::ObservedWords;
+use state_conditions::Condition;
 use std::alloc::Global;
 use std::io::Write;
+use witness_traces::{Refused, tell_refused};
 
 /// What a search is asked for.
-#[derive(Clone, Copy, Debug, Drop)]
+#[derive(Clone, Copy, Drop)]
 pub struct Asked<'a> {
     /// The number of states between references to shared words at which the search gives up.
     pub limit: u32,
@@ -37,16 +38,22 @@ pub struct Asked<'a> {
     /// The shared words by which results are observed, or None for all words. Results are then printed without the
     /// other words, and those that are the same without them are one result.
     pub observed: Option<&'a ObservedWords>,
+    /// The condition that a result has to satisfy to be printed, or None if all are. Ignored if no words are chosen.
+    pub filter: Option<&'a Condition>,
 }
 
 /// Reads an image, finds every final result that its program can have on a machine of this size, and prints them, up to
 /// exchanges of processors that are alike. A final result is what is left after steps of the machine after which no
 /// processor runs. If words are chosen, prints the different observed parts of results in place of the results; the
-/// trace then leads to the first result that has the wanted part. Also prints which processors can be exchanged, and
-/// whether schedules end. The observer sees the progress of the search. If a trace is asked for, that of a way to the
-/// result with the wanted number, or that of a lasso, is written first.
+/// trace then leads to the first result that has the wanted part. With a condition, prints only the parts of results
+/// that satisfy it, with the numbers that they have among all, and how many they are. Also prints which processors can
+/// be exchanged, and whether schedules end. The observer sees the progress of the search. If a trace is asked for, that
+/// of a way to the result with the wanted number, or that of a lasso, is written first.
 ///
-/// Returns the exit status: 0 if the results are printed; 1 if they are printed, and in one of them a fault has stopped
+/// If the search gives up because of too many states, or because the observer stops it, the results found so far are
+/// printed, and said to be incomplete.
+///
+/// Returns the exit status: 0 if all results are printed; 1 if they are printed, and in one of them a fault has stopped
 /// a processor, or there is a state from which no end can be reached; else that of the fault reported on standard
 /// error. Faults are checked in this order: of the image, of the machine's size, of the search, of the witness or the
 /// lasso, of the trace, of standard output.
@@ -72,50 +79,15 @@ pub fn explore_command<R: LinkRead, T: LinkWrite, G: SearchObserver, W: LinkWrit
         (IsReportedAs asked.entry.witness (E.contents err.old) (E.contents err.new)) result }
     ensures failed { W.has_failed out.new ≡ true → result ≡ 3 }
     ensures unread { R.has_failed file.new ≡ true → result ≡ 3 }
-    ensures silent { 2 ≤ result → W.has_failed out.new ≡ false → out.new ≡ out.old }
+    ensures silent { 2 ≤ result → W.has_failed out.new ≡ false → (out.new ≡ out.old)
+        ⊎ Prints (PrintsPart (exploration_of config asked.entry (input R.remaining R.has_failed file.old file.new)))
+        (W.contents out.old) (W.contents out.new) }
     ensures quiet { result ≤ 1 → err.new ≡ err.old }
 {
     match execute(alloc, file, config, asked, trace, observer, out) {
         Ok(status) => status,
         Err(refused) => tell_refused(refused, asked.witness, err),
     }
-}
-
-/// Reports why the results are not printed, and returns the exit status.
-fn tell_refused<E: Write>(refused: Refused, witness: Option<u32>, err: &mut E) -> u8
-    ensures fault { result ≡ status_of refused }
-    ensures high { 2 ≤ result }
-    ensures reported { IsReportedAs witness (E.contents err.old) (E.contents err.new) refused }
-{
-    match refused {
-        Refused::Fault(fault) => report_fault(fault, err),
-        Refused::Unknown => {
-            write_error(unknown_line(witness).as_str(), err);
-            REFUSED
-        }
-        Refused::Missed => {
-            write_error("error: the steps that were taken lead elsewhere\n", err);
-            SPENT
-        }
-    }
-}
-
-/// The line that reports that no result has the number, or, for 0, that an end can be reached from each state; if there
-/// is no number, that there is no lasso.
-fn unknown_line(witness: Option<u32>) -> ArrayString<56>
-    ensures { result.bytes ≡ unknown_line witness }
-{
-    let mut line = ArrayString::new();
-    match witness {
-        None => line.push_str("error: no fair schedule is known that never ends\n"),
-        Some(0) => line.push_str("error: an end can be reached from each state\n"),
-        Some(number) => {
-            line.push_str("error: there is no result ");
-            line.push_str(Buffer::new().format(number));
-            line.push_str("\n");
-        }
-    }
-    line
 }
 
 /// Executes the command.
@@ -140,10 +112,15 @@ fn execute<R: LinkRead, T: LinkWrite, G: SearchObserver, W: LinkWrite>(
     ensures fault { IfErr result
         (IsRefused (exploration_of config asked.entry (input R.remaining R.has_failed file.old file.new))
         (trace_output T.contents trace.old trace.new) (output W.contents W.has_failed out.old out.new)) }
-    ensures silent { OnErr result (W.has_failed out.new ≡ false → out.new ≡ out.old) }
+    ensures silent { OnErr result (W.has_failed out.new ≡ false → (out.new ≡ out.old)
+        ⊎ Prints (PrintsPart (exploration_of config asked.entry (input R.remaining R.has_failed file.old file.new)))
+        (W.contents out.old) (W.contents out.new)) }
 {
     let image = image_of(alloc, file, &config)?;
-    let (text, status) = explore_image(alloc, image, config, asked, trace, observer)?;
-    print(out, text.as_str())?;
-    Ok(status)
+    let report = explore_image(alloc, image, config, asked, trace, observer)?;
+    print(out, report.text.as_str())?;
+    match report.end {
+        ReportEnd::Complete(status) => Ok(status),
+        ReportEnd::GivenUp(fault) => Err(Refused::Fault(fault)),
+    }
 }

@@ -11,30 +11,30 @@ ghost use Rattle.machine_steps.specs.Openings.{flat_state};
 ghost use Rattle.machine_steps.specs.Runs.{IsOpening};
 ghost use Rattle.run_reports.specs.RunReports.{IsWorking, trace_output};
 ghost use Rattle.explore_command.specs.Causes.{IsNotFound, IsNotLedTo, IsNotSearched};
-ghost use Rattle.explore_command.specs.Explorations.{AreExplored, AreResultsOf, IsWanted, IsWitnessed};
-ghost use Rattle.explore_command.specs.Explorations.{LeadsToNumber, problem_of, search_result};
+ghost use Rattle.explore_command.specs.Explorations.{AreResultsOf, IsFound, IsWanted, IsWitnessed, LeadsToNumber};
+ghost use Rattle.explore_command.specs.Explorations.{problem_of, search_result};
+ghost use Rattle.explore_command.specs.Parts.{IsReport};
 ghost use Rattle.observed_results.specs.Parts.{AreParts};
 ghost use Rattle.trace_file.specs.Traces.{IsTrace, trace_of};
 
 use crate::command::Asked;
 use crate::fairness::push_fairness;
-use crate::refused::Refused;
-use crate::round::round_of;
+use crate::report::{Report, ReportEnd, fault_of_search, report_part};
 use crate::searching::{find_results, search_of};
 use crate::status::exit_status;
-use crate::witness::{has_witness, witness_on};
 use command_io::Fault;
 use exploration::{Explored, Search, SearchObserver};
 use flat_machine::Config;
 use link::LinkWrite;
 use machine_log::Logged;
 use machine_steps::Machine;
-use observed_results::{ObservedWords, Parts, parts_of, parts_text};
+use observed_results::{ObservedWords, Parts, observed_text, parts_of};
 use run_reports::save;
 use std::alloc::Global;
+use witness_traces::{Refused, has_witness, round_of, witness_on};
 
-/// The lines of the different observed parts of the results of a machine that has just opened, and the exit status.
-/// Writes the trace of a way to the first result that has the wanted part, or of a lasso, if one is asked for.
+/// The report of the different observed parts of the results of a machine that has just opened. Writes the trace of a
+/// way to the first result that has the wanted part, or of a lasso, if one is asked for.
 pub(crate) fn explore_observed<T: LinkWrite, G: SearchObserver>(
     alloc: Global,
     machine: &Machine,
@@ -43,27 +43,76 @@ pub(crate) fn explore_observed<T: LinkWrite, G: SearchObserver>(
     words: &ObservedWords,
     trace: &mut Option<T>,
     observer: &mut G,
-) -> Result<(String, u8), Refused>
+) -> Result<Report, Refused>
     requires opens { IsOpening config machine.now.image machine.now }
     requires words { machine.now.image.shared_words ≡ config.shared_words }
     requires works { IsWorking T.has_failed trace.old }
-    ensures lines { IfOk result (λ done. AreExplored (Some words.now) (problem_of config machine.now.image asked.entry)
-        (trace_output T.contents trace.old trace.new) (string_bytes done.0) done.1) }
-    ensures low { IfOk result (λ done. done.1 ≤ 1) }
+    ensures report { IfOk result (λ report. IsReport (Some words.now)
+        (problem_of config machine.now.image asked.entry) (trace_output T.contents trace.old trace.new)
+        (string_bytes report.text) report.end) }
     ensures refused { IfErr result
         (IsNotFound (Some words.now) (problem_of config machine.now.image asked.entry)
         (trace_output T.contents trace.old trace.new)) }
 {
-    let found = find_results(alloc, machine, search_of(asked, false), observer)?;
+    match find_results(alloc, machine, search_of(asked, false), observer) {
+        Ok(found) => report_parts(
+            alloc, machine, config, asked, words, &found, trace, observer,
+        ),
+        Err(given_up) => Ok(report_part(alloc, Some(words), asked.filter, &given_up)?),
+    }
+}
+
+/// The report of the different observed parts of all results of a machine that has just opened. Writes the trace of a
+/// way to the first result that has the wanted part, or of a lasso, if one is asked for.
+fn report_parts<T: LinkWrite, G: SearchObserver>(
+    alloc: Global,
+    machine: &Machine,
+    config: Config,
+    asked: Asked<'_>,
+    words: &ObservedWords,
+    found: &Explored,
+    trace: &mut Option<T>,
+    observer: &mut G,
+) -> Result<Report, Refused>
+    requires opens { IsOpening config machine.now.image machine.now }
+    requires words { machine.now.image.shared_words ≡ config.shared_words }
+    requires works { IsWorking T.has_failed trace.old }
+    requires all { AreResultsOf machine.now found.now.classes.items found.now.results.items }
+    requires fact { IsTerminationOf (flat_state machine.now) found.now.termination }
+    requires fair { IsFairnessOf (flat_state machine.now) found.now.fairness }
+    requires found { IsFound (problem_of config machine.now.image asked)
+        (search_result found.now.classes.items found.now.results.items found.now.termination found.now.fairness
+        found.now.states) }
+    ensures report { IfOk result (λ report. IsReport (Some words.now)
+        (problem_of config machine.now.image asked.entry) (trace_output T.contents trace.old trace.new)
+        (string_bytes report.text) report.end) }
+    ensures refused { IfErr result
+        (IsNotFound (Some words.now) (problem_of config machine.now.image asked.entry)
+        (trace_output T.contents trace.old trace.new)) }
+{
     let results = found.results.as_slice();
     let classes = found.classes.as_slice();
+    let termination = Some(found.termination);
     let parts = parts_of(alloc, results, words)?;
-    let mut text = parts_text(alloc, &parts, classes, found.states, found.termination)?;
+    let mut text = observed_text(
+        alloc,
+        results,
+        &parts,
+        words,
+        asked.filter,
+        classes,
+        found.states,
+        termination,
+    )?;
     push_fairness(&mut text, asked.fair, &found.fairness)?;
     save_wanted(
-        alloc, machine, config, asked, &found, &parts, trace, observer,
+        alloc, machine, config, asked, found, &parts, trace, observer,
     )?;
-    Ok((text, exit_status(results, found.termination)))
+    let status = exit_status(results, found.termination);
+    Ok(Report {
+        text,
+        end: ReportEnd::Complete(status),
+    })
 }
 
 /// Writes the trace of a way to the first result that has the wanted part, or of a lasso, if a trace is asked for.
@@ -187,6 +236,8 @@ fn way_to<G: SearchObserver>(
         wanted: Some(number),
         ..search_of(asked, false)
     };
-    let Explored { way, .. } = find_results(alloc, machine, search, observer)?;
-    Ok(way)
+    match find_results(alloc, machine, search, observer) {
+        Ok(Explored { way, .. }) => Ok(way),
+        Err(given_up) => Err(fault_of_search(given_up.why())),
+    }
 }

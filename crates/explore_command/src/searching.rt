@@ -8,26 +8,27 @@ ghost use Rattle.machine_steps.specs.Machines.{AreHome, IsIdle};
 ghost use Rattle.machine_steps.specs.Runs.{IsOpening};
 ghost use Rattle.exploration.specs.Endings.{AreSingle};
 ghost use Rattle.exploration.specs.Fairness.{IsFairnessOf};
-ghost use Rattle.exploration.specs.States.{AreAllStates};
+ghost use Rattle.exploration.specs.Refusals.{HasFoundSome, why_of};
+ghost use Rattle.exploration.specs.Results.{IsMachineResult};
+ghost use Rattle.exploration.specs.States.{AreAllStates, IsGivenUp};
 ghost use Rattle.exploration.specs.state_graph.Laws.{IsTerminationOf};
 ghost use Rattle.run_reports.specs.RunReports.{IsWorking};
-ghost use Rattle.explore_command.specs.Causes.{IsNotFound, IsNotSaved, IsNotSearched};
-ghost use Rattle.explore_command.specs.Explorations.{AreExplored, AreResultsOf, IsWanted, IsWitnessed, marks_of};
+ghost use Rattle.explore_command.specs.Causes.{IsNotFound, IsNotSaved};
+ghost use Rattle.explore_command.specs.Explorations.{AreResultsOf, IsFound, IsWanted, IsWitnessed, marks_of};
 ghost use Rattle.explore_command.specs.Explorations.{problem_of, search_result};
-ghost use Rattle.explore_command.specs.Refusals.{HasWanted, IsNoneWanted, fault_of_search};
+ghost use Rattle.explore_command.specs.Parts.{IsReport};
+ghost use Rattle.witness_traces.specs.Refusals.{HasWanted, IsNoneWanted};
 ghost use Rattle.run_reports.specs.RunReports.{trace_output};
 ghost use Rattle.trace_file.specs.Traces.{IsTrace, trace_of};
 
 use crate::command::Asked;
 use crate::fairness::push_fairness;
 use crate::observing::explore_observed;
-use crate::refused::Refused;
-use crate::round::round_of;
+use crate::report::{Report, ReportEnd, report_part};
 use crate::status::exit_status;
-use crate::witness::witness_of;
 use command_io::{Fault, machine_of};
 use elf_image::Image;
-use exploration::{Explored, Refusal, Search, SearchObserver, explore};
+use exploration::{Explored, GivenUp, Search, SearchObserver, explore};
 use flat_machine::Config;
 use link::LinkWrite;
 use machine_log::Logged;
@@ -35,8 +36,9 @@ use machine_steps::Machine;
 use observed_results::results_text;
 use run_reports::save;
 use std::alloc::Global;
+use witness_traces::{Refused, round_of, witness_of};
 
-/// The lines of the results, and the exit status. Writes the trace of a witness or a lasso, if one is asked for.
+/// The report of the results. Writes the trace of a witness or a lasso, if one is asked for.
 pub(crate) fn explore_image<T: LinkWrite, G: SearchObserver>(
     alloc: Global,
     image: Image,
@@ -44,12 +46,11 @@ pub(crate) fn explore_image<T: LinkWrite, G: SearchObserver>(
     asked: Asked<'_>,
     trace: &mut Option<T>,
     observer: &mut G,
-) -> Result<(String, u8), Refused>
+) -> Result<Report, Refused>
     requires words { image.shared_words ≡ config.shared_words }
     requires works { IsWorking T.has_failed trace.old }
-    ensures lines { IfOk result (λ done. AreExplored (marks_of asked.entry) (problem_of config image asked.entry)
-        (trace_output T.contents trace.old trace.new) (string_bytes done.0) done.1) }
-    ensures low { IfOk result (λ done. done.1 ≤ 1) }
+    ensures report { IfOk result (λ report. IsReport (marks_of asked.entry) (problem_of config image asked.entry)
+        (trace_output T.contents trace.old trace.new) (string_bytes report.text) report.end) }
     ensures size { (IsWithinLimits config → ⊥) → IsErrOf result (Refused.Fault Fault.Size) }
     ensures refused { IfErr result
         (IsNotFound (marks_of asked.entry) (problem_of config image asked.entry)
@@ -59,8 +60,8 @@ pub(crate) fn explore_image<T: LinkWrite, G: SearchObserver>(
     explore_machine(alloc, &machine, config, asked, trace, observer)
 }
 
-/// The lines of the results of a machine that has just opened, or of their different observed parts, and the exit
-/// status. Writes the trace of a witness or a lasso, if one is asked for.
+/// The report of the results of a machine that has just opened, or of their different observed parts. Writes the trace
+/// of a witness or a lasso, if one is asked for.
 // A separate function, so that neither has many values to drop at each return.
 fn explore_machine<T: LinkWrite, G: SearchObserver>(
     alloc: Global,
@@ -69,14 +70,13 @@ fn explore_machine<T: LinkWrite, G: SearchObserver>(
     asked: Asked<'_>,
     trace: &mut Option<T>,
     observer: &mut G,
-) -> Result<(String, u8), Refused>
+) -> Result<Report, Refused>
     requires opens { IsOpening config machine.now.image machine.now }
     requires words { machine.now.image.shared_words ≡ config.shared_words }
     requires works { IsWorking T.has_failed trace.old }
-    ensures lines { IfOk result (λ done. AreExplored (marks_of asked.entry)
+    ensures report { IfOk result (λ report. IsReport (marks_of asked.entry)
         (problem_of config machine.now.image asked.entry) (trace_output T.contents trace.old trace.new)
-        (string_bytes done.0) done.1) }
-    ensures low { IfOk result (λ done. done.1 ≤ 1) }
+        (string_bytes report.text) report.end) }
     ensures refused { IfErr result
         (IsNotFound (marks_of asked.entry) (problem_of config machine.now.image asked.entry)
         (trace_output T.contents trace.old trace.new)) }
@@ -87,9 +87,8 @@ fn explore_machine<T: LinkWrite, G: SearchObserver>(
     }
 }
 
-/// The lines of the results of a machine that has just opened, and the exit status. Writes the trace of a witness or a
-/// lasso, if one is asked for.
-#[tactic(auto, using(crate::proofs::NotFound::not_searched))]
+/// The report of the results of a machine that has just opened. Writes the trace of a witness or a lasso, if one is
+/// asked for.
 fn explore_all<T: LinkWrite, G: SearchObserver>(
     alloc: Global,
     machine: &Machine,
@@ -97,25 +96,56 @@ fn explore_all<T: LinkWrite, G: SearchObserver>(
     asked: Asked<'_>,
     trace: &mut Option<T>,
     observer: &mut G,
-) -> Result<(String, u8), Refused>
+) -> Result<Report, Refused>
     requires opens { IsOpening config machine.now.image machine.now }
     requires words { machine.now.image.shared_words ≡ config.shared_words }
     requires works { IsWorking T.has_failed trace.old }
-    ensures lines { IfOk result (λ done. AreExplored None (problem_of config machine.now.image asked.entry)
-        (trace_output T.contents trace.old trace.new) (string_bytes done.0) done.1) }
-    ensures low { IfOk result (λ done. done.1 ≤ 1) }
+    ensures report { IfOk result (λ report. IsReport None (problem_of config machine.now.image asked.entry)
+        (trace_output T.contents trace.old trace.new) (string_bytes report.text) report.end) }
     ensures refused { IfErr result
         (IsNotFound None (problem_of config machine.now.image asked.entry)
         (trace_output T.contents trace.old trace.new)) }
 {
     let search = search_of(asked, trace.is_some());
-    let found = find_results(alloc, machine, search, observer)?;
+    match find_results(alloc, machine, search, observer) {
+        Ok(found) => report_all(alloc, machine, config, asked, &found, trace),
+        Err(given_up) => Ok(report_part(alloc, None, None, &given_up)?),
+    }
+}
+
+/// The report of all results of a machine that has just opened. Writes the trace of a witness or a lasso, if one is
+/// asked for.
+fn report_all<T: LinkWrite>(
+    alloc: Global,
+    machine: &Machine,
+    config: Config,
+    asked: Asked<'_>,
+    found: &Explored,
+    trace: &mut Option<T>,
+) -> Result<Report, Refused>
+    requires opens { IsOpening config machine.now.image machine.now }
+    requires words { machine.now.image.shared_words ≡ config.shared_words }
+    requires works { IsWorking T.has_failed trace.old }
+    requires found { IsFound (problem_of config machine.now.image asked)
+        (search_result found.now.classes.items found.now.results.items found.now.termination found.now.fairness
+        found.now.states) }
+    ensures report { IfOk result (λ report. IsReport None (problem_of config machine.now.image asked.entry)
+        (trace_output T.contents trace.old trace.new) (string_bytes report.text) report.end) }
+    ensures refused { IfErr result
+        (IsNotFound None (problem_of config machine.now.image asked.entry)
+        (trace_output T.contents trace.old trace.new)) }
+{
     let results = found.results.as_slice();
     let classes = found.classes.as_slice();
-    let mut text = results_text(alloc, results, classes, found.states, found.termination)?;
+    let termination = Some(found.termination);
+    let mut text = results_text(alloc, results, classes, found.states, termination)?;
     push_fairness(&mut text, asked.fair, &found.fairness)?;
-    save_witness(alloc, machine.image(), config, &found, asked, trace)?;
-    Ok((text, exit_status(results, found.termination)))
+    save_witness(alloc, machine.image(), config, found, asked, trace)?;
+    let status = exit_status(results, found.termination);
+    Ok(Report {
+        text,
+        end: ReportEnd::Complete(status),
+    })
 }
 
 /// The search that is asked for, with or without the path of a witness.
@@ -137,7 +167,7 @@ pub(crate) fn find_results<G: SearchObserver>(
     machine: &Machine,
     search: Search,
     observer: &mut G,
-) -> Result<Explored, Fault>
+) -> Result<Explored, GivenUp>
     requires idle { IsIdle machine.now }
     requires home { AreHome machine.now }
     ensures results { IfOk result (λ found. AreResultsOf machine.now found.classes.items found.results.items) }
@@ -148,24 +178,14 @@ pub(crate) fn find_results<G: SearchObserver>(
     ensures states { IfOk result (λ found. AreAllStates (flat_state machine.now) found.classes.items found.results.items
         found.termination found.states) }
     ensures few { IfOk result (λ found. found.states < search.limit) }
-    ensures refused { IfErr result (IsNotSearched (flat_state machine.now) search.limit) }
+    ensures given_up { IfErr result (λ g. IsGivenUp (flat_state machine.now) search.limit (why_of g)) }
+    ensures so_far { IfErr result (HasFoundSome (IsMachineResult machine.now) (flat_state machine.now)) }
 {
     let found = explore(alloc, machine, search, observer);
     observer.over();
     match found {
         Ok(found) => Ok(found),
-        Err(refusal) => Err(fault_of_search(refusal)),
-    }
-}
-
-/// The fault that reports why a search gave up.
-fn fault_of_search(refusal: Refusal) -> Fault
-    ensures { result ≡ fault_of_search refusal }
-{
-    match refusal {
-        Refusal::Memory => Fault::Memory,
-        Refusal::States => Fault::States,
-        Refusal::Alone => Fault::Alone,
+        Err(given_up) => Err(given_up),
     }
 }
 

@@ -14,6 +14,7 @@ ghost use Rattle.observed_results.specs.Parts.{count_of};
 
 use crate::command::Asked;
 use crate::greatest::greatest_status;
+use crate::report::fault_of_search;
 use crate::searching::{find_results, search_of};
 use crate::status::exit_status;
 use command_io::{Fault, image_of, machine_of_copy, print, push_status, report_fault};
@@ -185,7 +186,10 @@ fn explore_size<G: SearchObserver>(
     ensures size { (IsWithinLimits config → ⊥) → IsErrOf result Fault.Size }
 {
     let machine = machine_of_copy(alloc, image, config)?;
-    find_results(alloc, &machine, search_of(asked, false), observer)
+    match find_results(alloc, &machine, search_of(asked, false), observer) {
+        Ok(found) => Ok(found),
+        Err(given_up) => Err(fault_of_search(given_up.why())),
+    }
 }
 
 /// The line of a size that is explored.
@@ -259,6 +263,7 @@ fn refusal_text(fault: Fault) -> &'static str
     match fault {
         Fault::Size => "K1",
         Fault::States => "states",
+        Fault::Budget => "budget",
         Fault::Alone => "alone",
         _ => "memory",
     }

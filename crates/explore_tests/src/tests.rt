@@ -6,14 +6,16 @@ mod ends;
 mod exchanges;
 mod fairness;
 mod hunting;
+mod labels;
 mod order;
+mod partial;
 mod properties;
 mod random_schedules;
 mod spinning;
 mod texts;
 mod ways;
 
-use exploration::{Explored, FinalResult, NoProgress, Refusal, Search, explore};
+use exploration::{Explored, FinalResult, GivenUp, NoProgress, Search, explore};
 use flat_machine::Config;
 use std::alloc::Global;
 use std::fmt::{Debug, Write};
@@ -52,7 +54,7 @@ fn explored(
     text: &str,
     k: u8,
     search: Search,
-) -> Result<Result<Explored, Refusal>, Fail> {
+) -> Result<Result<Explored, GivenUp>, Fail> {
     let config = Config {
         shared_words: 16,
         ..tight_size(k)
@@ -65,7 +67,10 @@ fn explored(
 fn found(alloc: Global, text: &str, k: u8, search: Search) -> Result<Explored, Fail> {
     match explored(alloc, text, k, search)? {
         Ok(found) => Ok(found),
-        Err(refusal) => Err(Fail::new(format_args!("{text} with k of {k}: {refusal:?}"))),
+        Err(given_up) => {
+            let why = given_up.why();
+            Err(Fail::new(format_args!("{text} with k of {k}: {why:?}")))
+        }
     }
 }
 

@@ -72,6 +72,14 @@ const ARE_NOT_AMONG: Part = Field(" are not among the ", "specification", Number
 
 const OF_SPEC: Part = Literal(" of SPEC");
 
+const PRINTED: Part = Field("", "printed", Number);
+
+const OF_RESULTS: Part = Field(" of ", "results", Count(" result"));
+
+const IS_PRINTED: Part = Literal(" is printed");
+
+const ARE_PRINTED: Part = Literal(" are printed");
+
 const ALWAYS: Part = Field("every schedule ends", "end", Is("always"));
 
 const POSSIBLE: Part = Field(
@@ -79,6 +87,8 @@ const POSSIBLE: Part = Field(
     "end",
     Is("possible"),
 );
+
+const INCOMPLETE: Part = Literal("incomplete: there may be more results");
 
 const FAIR_ALWAYS: Part = Field("every fair schedule ends", "end", Is("always"));
 
@@ -343,7 +353,7 @@ static HUNT_SHAPES: [Shape; 7] = [
     Shape("unfinished", &[UNFINISHED]),
 ];
 
-static RESULTS_SHAPES: [Shape; 19] = [
+static RESULTS_SHAPES: [Shape; 22] = [
     Shape("processor", &[PROCESSOR, PC, HALT, HALT_BYTE, CONSOLE]),
     Shape("processor", &[PROCESSOR, PC, FAULT, FAULT_NO, CONSOLE]),
     Shape("result", &[RESULT]),
@@ -352,6 +362,7 @@ static RESULTS_SHAPES: [Shape; 19] = [
     Shape("schedules", &[ALWAYS]),
     Shape("schedules", &[POSSIBLE]),
     Shape("schedules", &[FROM, FROM_COUNT, NO_END]),
+    Shape("incomplete", &[INCOMPLETE]),
     Shape("fairness", &[FAIR_ALWAYS]),
     Shape("fairness", &[FAIR_NEVER]),
     Shape("fairness", &[FAIR_UNKNOWN]),
@@ -363,6 +374,8 @@ static RESULTS_SHAPES: [Shape; 19] = [
     Shape("comparison", &[ALL, ARE_AMONG, OF_SPEC]),
     Shape("comparison", &[MISSING, OF_ALL, IS_NOT_AMONG, OF_SPEC]),
     Shape("comparison", &[MISSING, OF_ALL, ARE_NOT_AMONG, OF_SPEC]),
+    Shape("filter", &[PRINTED, OF_RESULTS, IS_PRINTED]),
+    Shape("filter", &[PRINTED, OF_RESULTS, ARE_PRINTED]),
 ];
 
 static SIZES_SHAPES: [Shape; 10] = [

@@ -4,3 +4,4 @@ pub mod ObservedParts
 pub mod PartLaws
 pub mod Comparing
 pub mod Matching
+pub mod Filtering

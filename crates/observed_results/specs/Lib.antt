@@ -2,3 +2,4 @@ pub mod Lists
 pub mod Lines
 pub mod Parts
 pub mod Outcomes
+pub mod Filters

@@ -1,6 +1,6 @@
 -- The lines of final results.
 use Rattle.std.specs.Prelude.{ℕ, zero, suc, ◌+◌, ◌==◌, nat_lt, Bool, false, List, [], ◌∷◌, ◌++◌, bytes_eq, codes, fold}
-use Rattle.std.specs.Prelude.{length, slice_index, slice_index_or, if◌then◌else◌}
+use Rattle.std.specs.Prelude.{Option, Some, None, length, slice_index, slice_index_or, if◌then◌else◌}
 use Rattle.std.specs.List.{list_any}
 use Rattle.std.specs.Fmt.{decimal}
 use Rattle.exploration.specs.local_reduction.flat_machine.declared.event.Status.TheVariants.{Running}
@@ -93,6 +93,11 @@ schedules_text fact.Possible = codes "some schedule never ends; an end can alway
 schedules_text (fact.Deadlock states first) = codes "from " ++ counted states (codes "state")
     ++ codes " no end can be reached"
 
+-- the text that says whether schedules end, or, if this is not known, that the search is incomplete
+abbrev pub end_text : Option Termination → List ℕ
+end_text None = codes "incomplete: there may be more results"
+end_text (Some termination) = schedules_text termination
+
 -- ---- processors that can be exchanged
 
 -- the class of a processor; past the last processor, a class that none has
@@ -150,18 +155,19 @@ class_lines classes (suc class) = class_lines classes class ++ class_line classe
 -- ---- what is printed
 
 -- these lines, and then those of the processors that can be exchanged, `N results, M states`, and whether schedules end
-abbrev pub with_closing : (lines : List ℕ) → (results : ℕ) → (classes : List ℕ) → (states : ℕ) → Termination → List ℕ
+abbrev pub with_closing : (lines : List ℕ) → (results : ℕ) → (classes : List ℕ) → (states : ℕ) → Option Termination →
+    List ℕ
 with_closing lines results classes states termination =
     lines ++ class_lines classes (length classes)
     ++ (counted results (codes "result") ++ codes ", " ++ counted states (codes "state") ++ line_feed)
-    ++ schedules_text termination ++ line_feed
+    ++ end_text termination ++ line_feed
 
 -- the lines of all results, and those after them
-abbrev pub results_lines : List FinalResult → (classes : List ℕ) → (states : ℕ) → Termination → List ℕ
+abbrev pub results_lines : List FinalResult → (classes : List ℕ) → (states : ℕ) → Option Termination → List ℕ
 results_lines results classes states termination =
     with_closing (first_lines results (length results)) (length results) classes states termination
 
 -- the lines of observed parts, in place of results
-abbrev pub parts_lines : (texts : List (List ℕ)) → (classes : List ℕ) → (states : ℕ) → Termination → List ℕ
+abbrev pub parts_lines : (texts : List (List ℕ)) → (classes : List ℕ) → (states : ℕ) → Option Termination → List ℕ
 parts_lines texts classes states termination =
     with_closing (first_parts texts (length texts)) (length texts) classes states termination

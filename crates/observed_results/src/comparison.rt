@@ -130,7 +130,11 @@ fn missing_text(
 }
 
 /// Appends the lines of the parts that are chosen.
-fn push_chosen_parts(text: &mut String, parts: &Parts, chosen: &Parts) -> Result<(), AllocError>
+pub(crate) fn push_chosen_parts(
+    text: &mut String,
+    parts: &Parts,
+    chosen: &Parts,
+) -> Result<(), AllocError>
     ensures { OnOk result (string_bytes text.new ≡ string_bytes text.old
         ++ chosen_parts parts.now.texts chosen.now.texts (length parts.now.texts)) }
 {

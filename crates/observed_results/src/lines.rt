@@ -2,7 +2,8 @@
 
 ghost use Rattle.std.specs.Prelude.{◌≡◌, ◌+◌, ◌++◌, ◌<◌, ◌^◌, codes, length, IfOk, OnOk, string_bytes};
 ghost use Rattle.std.specs.Fmt.{decimal};
-ghost use Rattle.observed_results.specs.Lines.{counted, heading, processor_line, processor_lines, result_lines};
+ghost use Rattle.observed_results.specs.Lines.{counted, end_text, heading, processor_line, processor_lines};
+ghost use Rattle.observed_results.specs.Lines.{result_lines};
 ghost use Rattle.observed_results.specs.Lines.{results_lines, schedules_text, shared_lines, with_closing};
 
 use crate::classes::push_classes;
@@ -12,7 +13,8 @@ use std::alloc::{AllocError, Global};
 use std::fmt::Write;
 
 /// The lines of these results, then a line for each class of processors that can be exchanged, one with the numbers of
-/// results and states found, and one that says whether schedules end.
+/// results and states found, and one that says whether schedules end, or, if this is not known, that the search is
+/// incomplete.
 ///
 /// # Errors
 ///
@@ -22,7 +24,7 @@ pub fn results_text(
     results: &[FinalResult],
     classes: &[u8],
     states: usize,
-    termination: Termination,
+    termination: Option<Termination>,
 ) -> Result<String, AllocError>
     ensures { IfOk result (λ text. string_bytes text ≡ results_lines results.now classes.now states termination) }
 {
@@ -40,16 +42,26 @@ pub(crate) fn push_closing(
     results: usize,
     classes: &[u8],
     states: usize,
-    termination: Termination,
+    termination: Option<Termination>,
 ) -> Result<(), AllocError>
     ensures { OnOk result (string_bytes text.new
         ≡ with_closing (string_bytes text.old) results classes.now states termination) }
 {
     push_classes(text, classes)?;
     push_counts(text, results, states)?;
-    push_schedules(text, termination)?;
+    push_end(text, termination)?;
     text.push_str("\n")?;
     Ok(())
+}
+
+/// Appends whether schedules end, or, if this is not known, that the search is incomplete.
+fn push_end(text: &mut String, termination: Option<Termination>) -> Result<(), AllocError>
+    ensures { OnOk result (string_bytes text.new ≡ string_bytes text.old ++ end_text termination) }
+{
+    match termination {
+        Some(termination) => push_schedules(text, termination),
+        None => text.push_str("incomplete: there may be more results"),
+    }
 }
 
 /// Appends whether schedules end.

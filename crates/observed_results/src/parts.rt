@@ -173,7 +173,7 @@ pub fn parts_text(
     parts: &Parts,
     classes: &[u8],
     states: usize,
-    termination: Termination,
+    termination: Option<Termination>,
 ) -> Result<String, AllocError>
     ensures { IfOk result (λ text. string_bytes text
         ≡ parts_lines parts.now.texts classes.now states termination) }

@@ -7,6 +7,7 @@ use Rattle.flat_machine.specs.declared.config.Config.{Config}
 use Rattle.elf_image.specs.declared.error.ImageError.TheVariants as of_image
 use Rattle.elf_image.specs.Files.{IsImageOf, IsImageRefusal}
 use Rattle.elf_image.specs.Images.{ImageContents}
+use Rattle.trace_file.specs.declared.error.TraceError.TheVariants as of_trace
 use Rattle.machine_steps.specs.Machines.{MachineLists}
 use Rattle.machine_steps.specs.Openings.{flat_state}
 use Rattle.machine_steps.specs.Runs.{IsOpening}
@@ -16,14 +17,18 @@ use Rattle.command_io.specs.Digits.{line_feed}
 use Rattle.command_io.specs.Links.{Input, IsOfLink, Output}
 use Rattle.command_io.specs.Printing.{PrintsPrefix}
 use Rattle.exploration.specs.States.{HasManyStates}
-use Rattle.exploration.specs.Verdicts.{IsVerdict}
-use Rattle.exploration.specs.declared.judging.Verdict.{Verdict}
-use Rattle.exploration.specs.declared.judging.Verdict.TheVariants as verdict
+use Rattle.property_search.specs.Verdicts.{IsVerdict}
+use Rattle.property_search.specs.declared.judging.Verdict.{Verdict}
+use Rattle.property_search.specs.declared.judging.Verdict.TheVariants as verdict
 use Rattle.exploration.specs.declared.refusal.Refusal.{Refusal}
 use Rattle.exploration.specs.declared.refusal.Refusal.TheVariants as search
 use Rattle.state_conditions.specs.declared.property.Kind.{Kind}
 use Rattle.state_conditions.specs.declared.property.Kind.TheVariants as kind
+use Rattle.run_reports.specs.RunReports.{TraceOutput}
+use Rattle.witness_traces.specs.declared.refused.Refused.{Refused}
+use Rattle.witness_traces.specs.declared.refused.Refused.TheVariants as refused
 use Rattle.property_command.specs.declared.command.Asked.{Asked}
+use Rattle.property_command.specs.Counterexamples.{IsCounterexamplePartSaved, IsCounterexampleSaved}
 
 -- ---- the lines
 
@@ -68,9 +73,11 @@ status_of_verdict verdict.Holds = 0
 status_of_verdict verdict.Broken = 1
 status_of_verdict verdict.Unknown = 4
 
--- These are the lines of the verdict on the machine that opens on the image, and this is the exit status. Nothing is
--- said about the way.
-pub record AreJudged (c : Config) (asked : Asked) (image : ImageContents) (text : List ℕ) (status : ℕ) : Type 0 where
+-- These are the lines of the verdict on the machine that opens on the image, and this is the exit status. If the
+-- property is broken, the trace of a counterexample with the way is written, if one is asked for. If none is, nothing
+-- is said about the way.
+pub record AreJudged {T : Type 0} (c : Config) (asked : Asked) (image : ImageContents) (trace : TraceOutput T)
+    (text : List ℕ) (status : ℕ) : Type 0 where
   pub opening : MachineLists
   pub opens : IsOpening c image opening
   pub verdict : Verdict
@@ -78,48 +85,76 @@ pub record AreJudged (c : Config) (asked : Asked) (image : ImageContents) (text 
   pub way : List ℕ
   pub lines : text ≡ verdict_lines asked.property.now.kind asked.condition.now verdict way
   pub exit : status ≡ status_of_verdict verdict
+  pub saved : IsCounterexampleSaved c image asked.property.now verdict way trace
 
--- These are the lines of the verdict on the image in the file, and this is the exit status.
-pub record PrintsVerdict (j : Judging) (status : ℕ) (text : List ℕ) : Type 0 where
-  pub image : ImageContents
-  pub meant : IsImageOf j.config.shared_words j.file.bytes image
-  pub judged : AreJudged j.config j.asked image text status
+-- These are the lines of the verdict on the image in the file, and this is the exit status. The trace of a
+-- counterexample is written, if one is asked for.
+pub record PrintsVerdict {T : Type 0} (j : Judging) (trace : TraceOutput T) (status : ℕ) (text : List ℕ) : Type 0
+  where
+    pub image : ImageContents
+    pub meant : IsImageOf j.config.shared_words j.file.bytes image
+    pub judged : AreJudged j.config j.asked image trace text status
 
 -- ---- why nothing is printed
 
 abbrev pub fault_of_search : Refusal → Fault
 fault_of_search search.Memory = fault.Memory
 fault_of_search search.States = fault.States
+fault_of_search search.Stopped = fault.Budget
 fault_of_search search.Alone = fault.Alone
 
--- Why a search gives up: there are as many states as the limit, or more; or a processor ran alone for too long.
+-- Why a search gives up: there are as many states as the limit, or more; the observer has stopped it; or a processor
+-- ran alone for too long.
 abbrev pub IsNotSearched : FlatState → (limit : ℕ) → Fault → Type 0
 IsNotSearched m limit fault.States = HasManyStates m limit
+IsNotSearched m limit fault.Budget = Unit {0}
 IsNotSearched m limit fault.Alone = Unit {0}
 IsNotSearched m limit fault.Memory = Unit {0}
 IsNotSearched m limit other = ⊥
 
--- Why there is no verdict on an image: the size is out of limits; or the machine opens, but the search gives up, or a
--- processor spins.
-abbrev pub IsNotJudged : Config → Asked → ImageContents → Fault → Type 0
-IsNotJudged c asked image fault.Size = IsWithinLimits c → ⊥
-IsNotJudged c asked image fault.States = (opening : MachineLists) × IsOpening c image opening
+-- A machine of this size opens on the image.
+abbrev pub Opens : Config → ImageContents → Type 0
+Opens c image = (opening : MachineLists) × IsOpening c image opening
+
+-- It has as many states as the limit, or more.
+abbrev pub HasTooMany : Config → Asked → ImageContents → Type 0
+HasTooMany c asked image = (opening : MachineLists) × IsOpening c image opening
     × HasManyStates (flat_state opening) asked.limit
-IsNotJudged c asked image fault.Alone = (opening : MachineLists) × IsOpening c image opening
-IsNotJudged c asked image fault.Memory = Unit {0}
-IsNotJudged c asked image other = ⊥
 
--- Why no lines are printed, or not all of them: the image is refused, there is no verdict, or the lines cannot be
--- written.
-abbrev pub IsRefused : Judging → Output → Fault → Type 0
-IsRefused j out (fault.Image e) = IsImageRefusal j.config.shared_words j.file.bytes e
-IsRefused j out fault.Link = PrintsPrefix (λ text. (status : ℕ) × PrintsVerdict j status text) out.old out.new
-IsRefused j out fault.Memory = Unit {0}
-IsRefused j out other = (image : ImageContents) × IsImageOf j.config.shared_words j.file.bytes image
-    × IsNotJudged j.config j.asked image other
+-- A state of the machine breaks the property.
+abbrev pub IsBroken : Config → Asked → ImageContents → Type 0
+IsBroken c asked image = (opening : MachineLists) × IsOpening c image opening
+    × IsVerdict (flat_state opening) asked.property.now.kind asked.property.now.condition verdict.Broken
 
--- Why the command fails: the fault has a cause, and it is that of a link exactly if the link has failed.
-pub record JudgingFails (j : Judging) (out : Output) (f : Fault) : Type 0 where
-  pub cause : IsRefused j out f
-  pub unread : IsOfLink (fault.Image of_image.Link) j.file.has_failed f
-  pub unprinted : IsOfLink fault.Link out.has_failed f
+-- Why there is no verdict on an image, or no trace of a counterexample: the size is out of limits; or the machine
+-- opens, but the search gives up, or a processor spins; or the property is broken, but the trace cannot be written, or
+-- the way to the broken state is too long or leads elsewhere; or there is no memory.
+abbrev pub IsNotJudged : {T : Type 0} → Config → Asked → ImageContents → TraceOutput T → Refused → Type 0
+IsNotJudged c asked image trace refused.Unknown = ⊥
+IsNotJudged c asked image trace refused.Missed = (trace.new ≡ trace.old) × IsBroken c asked image
+IsNotJudged c asked image trace (refused.Fault fault.Size) = (trace.new ≡ trace.old) × (IsWithinLimits c → ⊥)
+IsNotJudged c asked image trace (refused.Fault fault.States) = (trace.new ≡ trace.old) × HasTooMany c asked image
+IsNotJudged c asked image trace (refused.Fault fault.Budget) = (trace.new ≡ trace.old) × Opens c image
+IsNotJudged c asked image trace (refused.Fault fault.Alone) = (trace.new ≡ trace.old) × Opens c image
+IsNotJudged c asked image trace (refused.Fault fault.Full) = (trace.new ≡ trace.old) × IsBroken c asked image
+IsNotJudged c asked image trace (refused.Fault (fault.Trace e)) =
+    (e ≡ of_trace.Link) × IsCounterexamplePartSaved c image asked.property.now trace × IsBroken c asked image
+IsNotJudged c asked image trace (refused.Fault fault.Memory) = trace.new ≡ trace.old
+IsNotJudged c asked image trace (refused.Fault other) = ⊥
+
+-- Why no lines are printed, or not all of them: the image is refused, there is no verdict or no trace, or the lines
+-- cannot be written.
+abbrev pub IsRefused : {T : Type 0} → Judging → TraceOutput T → Output → Refused → Type 0
+IsRefused j trace out (refused.Fault (fault.Image e)) =
+    (trace.new ≡ trace.old) × IsImageRefusal j.config.shared_words j.file.bytes e
+IsRefused j trace out (refused.Fault fault.Link) =
+    PrintsPrefix (λ text. (status : ℕ) × PrintsVerdict j trace status text) out.old out.new
+IsRefused j trace out (refused.Fault fault.Memory) = trace.new ≡ trace.old
+IsRefused j trace out other = (image : ImageContents) × IsImageOf j.config.shared_words j.file.bytes image
+    × IsNotJudged j.config j.asked image trace other
+
+-- Why the command fails: the refusal has a cause, and it is that of a link exactly if the link has failed.
+pub record JudgingFails {T : Type 0} (j : Judging) (trace : TraceOutput T) (out : Output) (r : Refused) : Type 0 where
+  pub cause : IsRefused j trace out r
+  pub unread : IsOfLink (refused.Fault (fault.Image of_image.Link)) j.file.has_failed r
+  pub unprinted : IsOfLink (refused.Fault fault.Link) out.has_failed r

@@ -1,1 +1,2 @@
+pub mod Counterexamples
 pub mod Judging

@@ -4,7 +4,7 @@ ghost use Rattle.std.specs.Prelude.{◌≡◌, ◌++◌, length, IfOk, OnOk, str
 ghost use Rattle.property_command.specs.Judging.{kind_text, numbers_text, verdict_lines, verdict_text, way_line};
 
 use crate::command::Asked;
-use exploration::{Judged, Verdict};
+use property_search::{Judged, Verdict};
 use state_conditions::Kind;
 use std::alloc::{AllocError, Global};
 use std::fmt::Write;

@@ -46,6 +46,7 @@ pub record HasResults (c : Config) (bytes : Option (List ℕ)) (results : List F
 abbrev pub fault_of_search : Refusal → Fault
 fault_of_search search.Memory = fault.Memory
 fault_of_search search.States = fault.States
+fault_of_search search.Stopped = fault.Budget
 fault_of_search search.Alone = fault.Alone
 
 -- The search of a machine gives up: there are as many states as the limit, or more; or a processor ran alone for too

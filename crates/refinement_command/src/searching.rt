@@ -64,7 +64,7 @@ fn search_all<G: SearchObserver>(
             let Explored { results, .. } = explored;
             Ok(results)
         }
-        Err(refusal) => Err(fault_of_search(refusal)),
+        Err(given_up) => Err(fault_of_search(given_up.why())),
     }
 }
 
@@ -76,6 +76,7 @@ fn fault_of_search(refusal: Refusal) -> Fault
     match refusal {
         Refusal::Memory => Fault::Memory,
         Refusal::States => Fault::States,
+        Refusal::Stopped => Fault::Budget,
         Refusal::Alone => Fault::Alone,
     }
 }

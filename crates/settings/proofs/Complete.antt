@@ -16,7 +16,7 @@ use Rattle.command_forms.specs.Commands.{dis_command, explain_command, explore_c
 use Rattle.command_forms.specs.Commands.{port, processor, queue, records, picture_command, replay_command, run_command, runs}
 use Rattle.command_forms.specs.Commands.{shared_word, shared_words, stages, start, states, stats_command, step, steps}
 use Rattle.command_forms.specs.Commands.{first_line, last_line, steps_command, story_command, study_command, sweep_steps}
-use Rattle.command_forms.specs.Commands.{trace_command, ultra_command, witness, words_command}
+use Rattle.command_forms.specs.Commands.{seconds, trace_command, ultra_command, witness, words_command}
 use Rattle.command_forms.proofs.Lemmas.{commands}
 use Rattle.settings.specs.Given.{HasAsm, HasDebug, HasDis, HasExplore, HasHunt, HasLines, HasPath, HasPicture}
 use Rattle.settings.specs.Given.{HasReplay, HasRun, HasSizes, HasStudy, IsComplete, IsOneOf, IsWhole, command_names}
@@ -262,6 +262,7 @@ explore_provided words e = whole (codes "explore") _ refl (
   required_there (built_leaf explore_command.top) (codes "FILE") words refl (λ rows. required (is_given (codes "FILE") rows)) e,
   sizes_there (built_leaf explore_command.top) words refl refl refl refl refl e,
   number_there (built_leaf explore_command.top) states.bounds words refl e,
+  number_there (built_leaf explore_command.top) seconds words refl e,
   number_there (built_leaf explore_command.top) witness words refl e,
 )
 

@@ -228,9 +228,11 @@ file_are OfExplore file words named (asked.Explore x) said =
       (sizes.0.0, sizes.1.0, sizes.2.0, sizes.3.0, sizes.4.0),
       states.0,
       said.1.11,
-      no_text x.never said.1.12,
-      no_text x.always said.1.13,
-      no_text x.finally said.1.14,
+      said.1.12,
+      no_text x.never said.1.13,
+      no_text x.always said.1.14,
+      no_text x.finally said.1.15,
+      no_text x.filter said.1.16,
     )
 file_are OfStudy file words named (asked.Study s) said =
     let queue = said.1.7 in

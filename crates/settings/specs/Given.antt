@@ -2,7 +2,8 @@
 use Rattle.std.specs.Prelude.{◌≡◌, ◌⊎◌, pos, true, List, [], ◌∷◌, codes, Option, is_some, option_map, IfSome, IsSomeAnd}
 use Rattle.clap.specs.Words.{IsSignedIn, Row, Text, first_of, one_of, without_minus}
 use Rattle.command_forms.specs.Commands.{Bounds, budget, combinations, first_line, last_line, port, processor}
-use Rattle.command_forms.specs.Commands.{queue, records, runs, shared_word, shared_words, stages, start, states}
+use Rattle.command_forms.specs.Commands.{queue, records, runs, seconds, shared_word, shared_words, stages, start}
+use Rattle.command_forms.specs.Commands.{states}
 use Rattle.command_forms.specs.Commands.{step, steps, sweep_steps, witness}
 
 abbrev pub HasPath : Text → List Row → Type 0
@@ -47,7 +48,8 @@ abbrev pub HasDebug : List Row → Type 0
 HasDebug rows = HasPath (codes "FILE") rows × HasSizes rows × HasNumber steps.bounds rows × HasNumber port.bounds rows
 
 abbrev pub HasExplore : List Row → Type 0
-HasExplore rows = HasPath (codes "FILE") rows × HasSizes rows × HasNumber states.bounds rows × HasNumber witness rows
+HasExplore rows = HasPath (codes "FILE") rows × HasSizes rows × HasNumber states.bounds rows × HasNumber seconds rows
+    × HasNumber witness rows
 
 abbrev pub HasHunt : List Row → Type 0
 HasHunt rows =

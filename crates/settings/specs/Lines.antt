@@ -29,7 +29,7 @@ use Rattle.settings.specs.declared.choice.Session.{Session}
 use Rattle.settings.specs.declared.choice.Explain.{Explain}
 use Rattle.settings.specs.declared.choice.Sizes.{Sizes}
 use Rattle.command_forms.specs.Commands.{Bounds, Ranged, stages, queue, records, combinations, shared_words}
-use Rattle.command_forms.specs.Commands.{budget, steps, port, states, runs, start, processor, shared_word}
+use Rattle.command_forms.specs.Commands.{budget, steps, port, seconds, states, runs, start, processor, shared_word}
 use Rattle.command_forms.specs.Commands.{witness, step, first_line, last_line, sweep_steps, ultra_command}
 
 abbrev pub IsPath : Text → List Row → Text → Type 0
@@ -100,9 +100,9 @@ GivesExplore rows x = IsPath (codes "FILE") rows x.file.now
     × IsOption (codes "against") rows x.against
     × IsFlag (codes "each") rows x.each × IsFlag (codes "fair") rows x.fair × IsFlag (codes "every") rows x.every
     × IsFlag (codes "quiet") rows x.quiet × GivesStyle rows x.style × AreSizes rows x.sizes
-    × IsNumber states rows x.states × IsChoice witness rows x.witness
+    × IsNumber states rows x.states × IsChoice seconds rows x.seconds × IsChoice witness rows x.witness
     × IsOption (codes "never") rows x.never × IsOption (codes "always") rows x.always
-    × IsOption (codes "finally") rows x.finally
+    × IsOption (codes "finally") rows x.finally × IsOption (codes "filter") rows x.filter
 
 abbrev pub GivesReplay : List Row → Replay → Type 0
 GivesReplay rows r = IsPath (codes "TRACE") rows r.trace.now × IsPath (codes "FILE") rows r.file.now

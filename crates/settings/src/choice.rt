@@ -1,5 +1,9 @@
 //! What the program is asked to do.
 
+ghost use Rattle.std.specs.Prelude.{◌≡◌};
+
+use flat_machine::Config;
+
 /// A command, with its files and numbers.
 #[derive(Debug, PartialEq, Eq, Drop)]
 pub enum Settings<'a> {
@@ -35,6 +39,23 @@ pub struct Sizes {
     pub r: u8,
     /// How many shared words the machine has, from 1 to 262,144.
     pub words: u32,
+}
+
+impl Sizes {
+    /// The size of the machine.
+    pub fn config(&self) -> Config
+        ensures network { (result.k ≡ self.now.k) × (result.c ≡ self.now.c) × (result.b ≡ self.now.b)
+            × (result.r ≡ self.now.r) }
+        ensures words { result.shared_words ≡ self.now.words }
+    {
+        Config {
+            k: self.k,
+            c: self.c,
+            b: self.b,
+            r: self.r,
+            shared_words: self.words,
+        }
+    }
 }
 
 /// How the lines of a report, of results or of a trace's steps are printed.
@@ -289,15 +310,19 @@ pub struct Explore<'a> {
     pub sizes: Sizes,
     /// The number of states at which the search gives up, from 1.
     pub states: u32,
+    /// The number of seconds after which a search gives up, from 1, if one is given.
+    pub seconds: Option<u32>,
     /// If a witness is asked for, the number of the result in which it ends, or 0 for a state from which no end can be
     /// reached.
     pub witness: Option<u32>,
-    /// The condition that no state is to satisfy, if given. It may be no condition; neither may the next two.
+    /// The condition that no state is to satisfy, if given. It may be no condition; neither may the next three.
     pub never: Option<&'a str>,
     /// The condition that each state is to satisfy, if given.
     pub always: Option<&'a str>,
     /// The condition that each state in which no processor runs is to satisfy, if given.
     pub finally: Option<&'a str>,
+    /// The condition that a result has to satisfy to be printed, if given.
+    pub filter: Option<&'a str>,
 }
 
 /// `hunt FILE`.

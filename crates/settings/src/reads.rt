@@ -18,8 +18,8 @@ use crate::choice::{
 use clap::ArgMatches;
 use command_forms::{
     BUDGET, COMBINATIONS, ChoiceOption, FIRST_LINE, FIRST_START, LAST_LINE, NumberOption, PORT,
-    PROCESSOR, QUEUE, RECORDS, RUN_STEPS, RUNS, SHARED_WORD, SHARED_WORDS, STAGES, START, STATES,
-    STEP, STEPS, SWEEP_STEPS, WITNESS,
+    PROCESSOR, QUEUE, RECORDS, RUN_STEPS, RUNS, SECONDS, SHARED_WORD, SHARED_WORDS, STAGES, START,
+    STATES, STEP, STEPS, SWEEP_STEPS, WITNESS,
 };
 use std::alloc::{AllocError, Global};
 
@@ -390,10 +390,12 @@ fn explore<'a>(matches: &ArgMatches<'a>) -> Explore<'a>
         style: style(matches),
         sizes: sizes(matches),
         states: number(matches, STATES),
+        seconds: choice(matches, SECONDS),
         witness: choice(matches, WITNESS),
         never: option(matches, "never"),
         always: option(matches, "always"),
         finally: option(matches, "finally"),
+        filter: option(matches, "filter"),
     }
 }
 

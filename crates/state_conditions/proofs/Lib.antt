@@ -2,3 +2,4 @@ pub mod Exchanging
 pub mod Listing
 pub mod Parts
 pub mod Numerals
+pub mod Lemmas

@@ -1,10 +1,13 @@
 -- The texts of conditions: CONDITION is CONJUNCTION { "|" CONJUNCTION }, CONJUNCTION is PART { "&" PART }, and a part
--- is a list of words with blanks between them.
-use Rattle.std.specs.Prelude.{ℕ, ◌^◌, ◌==◌, ◌&&◌, nat_le, nat_lt, not, Bool, List, [], ◌∷◌, Option, Some, None}
-use Rattle.std.specs.Prelude.{bytes_eq, codes, filter, length, if◌then◌else◌, option_and_then, option_map}
+-- is a list of words with blanks between them. The symbols of a file, if there is one, are names of addresses.
+use Rattle.std.specs.Prelude.{ℕ, ◌+◌, ◌-◌, ◌/◌, ◌%◌, ◌^◌, ◌==◌, ◌&&◌, nat_le, nat_lt, not, Bool, List, [], ◌∷◌}
+use Rattle.std.specs.Prelude.{Option, Some, None, bytes_eq, codes, filter, length, if◌then◌else◌, option_and_then}
+use Rattle.std.specs.Prelude.{option_map}
 use Rattle.std.specs.Char.{digit_value}
+use Rattle.std.specs.Option.{option_or}
 use Rattle.std.specs.List.{after_first, before_first, list_all, position_or_len, slice_split}
 use Rattle.std.specs.Str.Parse.{digits_value, without_leading_plus}
+use Rattle.symbol_table.specs.Rows.{SymbolRow, address_of}
 use Rattle.state_conditions.specs.declared.condition.Comparison.{Comparison}
 use Rattle.state_conditions.specs.declared.condition.Group.TheVariants as group
 use Rattle.state_conditions.specs.declared.condition.Relation.{Relation}
@@ -50,11 +53,44 @@ abbrev pub range_of : (first last : Option ℕ) → Option (ℕ × ℕ)
 range_of first last =
     option_and_then (λ a. option_and_then (λ b. if nat_le a b then Some (a, b) else None) last) first
 
--- a range: two numbers with a hyphen (45) between them, or one number
-abbrev pub range_in : (text : List ℕ) → Option (ℕ × ℕ)
-range_in text =
-    if lacks 45 text then option_map (λ n. (n, n)) (number_in text)
-    else range_of (number_in (before_first (λ b. b == 45) text)) (number_in (after_first (λ b. b == 45) text))
+-- ---- names
+
+-- the address of a name among the symbols of a file, if there is one
+abbrev pub address_in : (names : Option (List SymbolRow)) → (name : List ℕ) → Option ℕ
+address_in None name = None
+address_in (Some rows) name = address_of rows name
+
+-- the sum of an address and a distance, if there are both, and it is below 2^32
+abbrev pub sum_of : (address distance : Option ℕ) → Option ℕ
+sum_of address distance =
+    option_and_then (λ a. option_and_then (λ d.
+    if nat_lt (a + d) (2 ^ 32) then Some (a + d) else None) distance) address
+
+-- the address of a name, or of a name and a number of bytes after it, with a plus (43) between them
+abbrev pub named_address : (names : Option (List SymbolRow)) → (text : List ℕ) → Option ℕ
+named_address names text =
+    if lacks 43 text then address_in names text
+    else sum_of (address_in names (before_first (λ b. b == 43) text)) (number_in (after_first (λ b. b == 43) text))
+
+-- an address: a number, or else that of a name
+abbrev pub address_at : (names : Option (List SymbolRow)) → (text : List ℕ) → Option ℕ
+address_at names text = option_or (number_in text) (named_address names text)
+
+-- the shared word at an address: shared words begin at 2^31, and each has four bytes
+abbrev pub shared_word_at : (address : ℕ) → Option ℕ
+shared_word_at address =
+    if nat_le (2 ^ 31) address && address % 4 == 0 then Some ((address - 2 ^ 31) / 4) else None
+
+-- a shared word: its number, or else that of the word at the address of a name
+abbrev pub word_number : (names : Option (List SymbolRow)) → (text : List ℕ) → Option ℕ
+word_number names text = option_or (number_in text) (option_and_then shared_word_at (named_address names text))
+
+-- a range: two addresses with a hyphen (45) between them, or one address
+abbrev pub range_in : (names : Option (List SymbolRow)) → (text : List ℕ) → Option (ℕ × ℕ)
+range_in names text =
+    if lacks 45 text then option_map (λ n. (n, n)) (address_at names text)
+    else range_of (address_at names (before_first (λ b. b == 45) text))
+    (address_at names (after_first (λ b. b == 45) text))
 
 -- ---- parts
 
@@ -73,19 +109,19 @@ status_subject text =
     else (if bytes_eq text (codes "halted") then Some (subject.Count group.Halted)
     else (if bytes_eq text (codes "faulted") then Some (subject.Count group.Faulted) else None))
 
--- the shared word of a number, of this many
-abbrev pub word_subject : (shared_words : ℕ) → (text : List ℕ) → Option Subject
-word_subject shared_words text =
-    option_and_then (λ n. if nat_lt n shared_words then Some (subject.Word n) else None) (number_in text)
+-- a shared word, of this many
+abbrev pub word_subject : (names : Option (List SymbolRow)) → (shared_words : ℕ) → (text : List ℕ) → Option Subject
+word_subject names shared_words text =
+    option_and_then (λ n. if nat_lt n shared_words then Some (subject.Word n) else None) (word_number names text)
 
 -- the processors at an address or in a range of addresses
-abbrev pub place_subject : (text : List ℕ) → Option Subject
-place_subject text = option_map (λ range. subject.Count (group.At range.0 range.1)) (range_in text)
+abbrev pub place_subject : (names : Option (List SymbolRow)) → (text : List ℕ) → Option Subject
+place_subject names text = option_map (λ range. subject.Count (group.At range.0 range.1)) (range_in names text)
 
-abbrev pub subject_of : (shared_words : ℕ) → (kind object : List ℕ) → Option Subject
-subject_of shared_words kind object =
-    if bytes_eq kind (codes "word") then word_subject shared_words object
-    else (if bytes_eq kind (codes "at") then place_subject object else None)
+abbrev pub subject_of : (names : Option (List SymbolRow)) → (shared_words : ℕ) → (kind object : List ℕ) → Option Subject
+subject_of names shared_words kind object =
+    if bytes_eq kind (codes "word") then word_subject names shared_words object
+    else (if bytes_eq kind (codes "at") then place_subject names object else None)
 
 abbrev pub comparison_with : Subject → Relation → (value : ℕ) → Comparison
 comparison_with s r value = record { subject = s; relation = r; value = value }
@@ -105,12 +141,13 @@ any_part first second =
 
 -- a part: `any fault`; `running RELATION NUMBER`, or the same with `halted` or `faulted`; `word N RELATION NUMBER`; or
 -- `at PLACE RELATION NUMBER`
-abbrev pub part_in : (shared_words : ℕ) → (words : List (List ℕ)) → Option Comparison
-part_in shared_words (first ∷ second ∷ []) = any_part first second
-part_in shared_words (first ∷ second ∷ third ∷ []) = comparison_of (status_subject first) second third
-part_in shared_words (first ∷ second ∷ third ∷ fourth ∷ []) =
-    comparison_of (subject_of shared_words first second) third fourth
-part_in shared_words words = None
+abbrev pub part_in : (names : Option (List SymbolRow)) → (shared_words : ℕ) → (words : List (List ℕ)) →
+    Option Comparison
+part_in names shared_words (first ∷ second ∷ []) = any_part first second
+part_in names shared_words (first ∷ second ∷ third ∷ []) = comparison_of (status_subject first) second third
+part_in names shared_words (first ∷ second ∷ third ∷ fourth ∷ []) =
+    comparison_of (subject_of names shared_words first second) third fourth
+part_in names shared_words words = None
 
 -- ---- conditions
 
@@ -120,10 +157,13 @@ all_read read [] = Some []
 all_read read (x ∷ xs) = option_and_then (λ y. option_map (λ ys. y ∷ ys) (all_read read xs)) (read x)
 
 -- parts with `&` (38) between them
-abbrev pub conjunction_in : (shared_words : ℕ) → (text : List ℕ) → Option (List Comparison)
-conjunction_in shared_words text =
-    all_read (λ part. part_in shared_words (words_of part)) (slice_split (λ b. b == 38) text)
+abbrev pub conjunction_in : (names : Option (List SymbolRow)) → (shared_words : ℕ) → (text : List ℕ) →
+    Option (List Comparison)
+conjunction_in names shared_words text =
+    all_read (λ part. part_in names shared_words (words_of part)) (slice_split (λ b. b == 38) text)
 
 -- alternatives with `|` (124) between them
-abbrev pub condition_in : (shared_words : ℕ) → (text : List ℕ) → Option (List (List Comparison))
-condition_in shared_words text = all_read (conjunction_in shared_words) (slice_split (λ b. b == 124) text)
+abbrev pub condition_in : (names : Option (List SymbolRow)) → (shared_words : ℕ) → (text : List ℕ) →
+    Option (List (List Comparison))
+condition_in names shared_words text =
+    all_read (conjunction_in names shared_words) (slice_split (λ b. b == 124) text)

@@ -5,12 +5,18 @@ ghost use Rattle.state_conditions.specs.Texts.{any_part, comparison_of, part_in,
 ghost use Rattle.state_conditions.specs.Texts.{status_subject, subject_of, word_subject, words_of};
 
 use crate::condition::{Comparison, Group, Relation, Subject};
+use crate::names::word_number;
 use crate::number::{number_in, range_in};
 use crate::words::next_word;
+use symbol_table::SymbolTable;
 
 /// The part that a text spells, for a machine with this many shared words.
-pub(crate) fn part_of(text: &str, shared_words: u32) -> Option<Comparison>
-    ensures { result ≡ part_in shared_words (words_of text.now) }
+pub(crate) fn part_of(
+    text: &str,
+    shared_words: u32,
+    names: &Option<SymbolTable<'_>>,
+) -> Option<Comparison>
+    ensures { result ≡ part_in names.now shared_words (words_of text.now) }
 {
     let (first, rest) = next_word(text)?;
     let (second, rest) = next_word(rest)?;
@@ -22,7 +28,11 @@ pub(crate) fn part_of(text: &str, shared_words: u32) -> Option<Comparison>
     };
     match next_word(rest) {
         Some(_) => None,
-        None => comparison_of(subject_of(first, second, shared_words), third, fourth),
+        None => comparison_of(
+            subject_of(first, second, shared_words, names),
+            third,
+            fourth,
+        ),
     }
 }
 
@@ -92,23 +102,28 @@ fn status_subject(text: &str) -> Option<Subject>
 }
 
 /// The subject of two words: a shared word, or the processors at a place.
-fn subject_of(kind: &str, object: &str, shared_words: u32) -> Option<Subject>
-    ensures { result ≡ subject_of shared_words kind.now object.now }
+fn subject_of(
+    kind: &str,
+    object: &str,
+    shared_words: u32,
+    names: &Option<SymbolTable<'_>>,
+) -> Option<Subject>
+    ensures { result ≡ subject_of names.now shared_words kind.now object.now }
 {
     if kind == "word" {
-        word_subject(object, shared_words)
+        word_subject(object, shared_words, names)
     } else if kind == "at" {
-        place_subject(object)
+        place_subject(object, names)
     } else {
         None
     }
 }
 
-/// The shared word of a number, if there is such a word.
-fn word_subject(text: &str, shared_words: u32) -> Option<Subject>
-    ensures { result ≡ word_subject shared_words text.now }
+/// The shared word of a number or a name, if there is such a word.
+fn word_subject(text: &str, shared_words: u32, names: &Option<SymbolTable<'_>>) -> Option<Subject>
+    ensures { result ≡ word_subject names.now shared_words text.now }
 {
-    let word = number_in(text)?;
+    let word = word_number(text, names)?;
     if word < shared_words {
         Some(Subject::Word(word))
     } else {
@@ -117,9 +132,9 @@ fn word_subject(text: &str, shared_words: u32) -> Option<Subject>
 }
 
 /// The processors at an address or in a range of addresses.
-fn place_subject(text: &str) -> Option<Subject>
-    ensures { result ≡ place_subject text.now }
+fn place_subject(text: &str, names: &Option<SymbolTable<'_>>) -> Option<Subject>
+    ensures { result ≡ place_subject names.now text.now }
 {
-    let (first, last) = range_in(text)?;
+    let (first, last) = range_in(text, names)?;
     Some(Subject::Count(Group::At { first, last }))
 }

@@ -8,9 +8,9 @@ use Rattle.state_store.specs.declared.state_tables.Extent.{Extent}
 use Rattle.state_store.specs.local_reduction.Exchanging.{IsWayUpTo}
 use Rattle.state_store.specs.StateTables.{TableLists, placed_at, setting_at}
 use Rattle.state_graph.specs.Search.{AreReached}
-use Rattle.state_search.specs.Search.{AreManyRows, Searched, Moves, state_at}
+use Rattle.state_search.specs.Search.{AreRowsOfSearch, Searched, Moves, state_at}
 use Rattle.state_store.specs.Moves.{CanMove, Spinning}
-use Rattle.state_search.specs.Ends.{AreDifferentStates, AreFound, AreMany}
+use Rattle.state_search.specs.Ends.{AreDifferentStates, AreFound, AreSome}
 use Rattle.state_search.proofs.Lemmas.{listed_is}
 
 -- All states are reached from the first row.
@@ -20,15 +20,14 @@ from_first e code classes t rows moves first done h i l =
     let r = h.reached i l in
     (r.0, subst (λ s. IsWayUpTo (setting_at e) code (kept_by t.live) classes s r.0 (state_at e t rows i)) (sym h.begins) r.1)
 
--- If a search has at least `least` rows, and no two mean the same state, it reaches at least `least` states.
-pub many_found : (e : Extent) (code : List ℕ) (classes : List ℕ) (t : TableLists) (rows : List (List ℕ)) (first : MacroState) (least : ℕ) →
-    AreManyRows e code classes t rows first least → AreDifferentStates (length rows) (state_at e t rows) →
-    AreMany e code classes t first least
-many_found e code classes t rows first least h different = record {
-  rows = rows;
-  many = h.many;
+-- If no two rows of a search mean the same state, they mean as many states that it reaches.
+pub some_found : (e : Extent) (code : List ℕ) (classes : List ℕ) (t : TableLists) (rows moves : List (List ℕ)) (first : MacroState) →
+    AreRowsOfSearch e code classes t rows moves first → AreDifferentStates (length rows) (state_at e t rows) →
+    AreSome e code classes t rows first
+some_found e code classes t rows moves first h different = record {
+  are_rows = h.searched.are_rows;
   begins = h.searched.begins;
-  reached = from_first e code classes t rows h.moves first h.done h.searched;
+  reached = from_first e code classes t rows moves first h.done h.searched;
   different = different;
 }
 
@@ -37,9 +36,7 @@ pub all_found : (e : Extent) (code : List ℕ) (classes : List ℕ) (t : TableLi
     Searched e code classes t rows moves first (length rows) → length rows ≤ no_rank → AreDifferentStates (length rows) (state_at e t rows) →
     AreFound e code classes t rows moves first
 all_found e code classes t rows moves first h few different = record {
-  are_rows = h.are_rows;
-  begins = h.begins;
-  reached = from_first e code classes t rows moves first (length rows) h;
+  some = some_found e code classes t rows moves first (record { done = length rows; searched = h }) different;
   successors = record {
     filled = h.filled;
     all = h.noted;
@@ -49,7 +46,6 @@ all_found e code classes t rows moves first h few different = record {
     complete = λ i k l may. by i k (h.complete i k l (within i k may) may);
   };
   breadth = h.breadth;
-  different = different;
 }
   where
     by : (i k : ℕ) → Spinning e code (state_at e t rows i) ⊎ ((v : ℕ) × Contains (successors_at moves i) v × (v < length rows)

@@ -6,9 +6,7 @@ use Rattle.state_store.specs.local_reduction.Closing.{MacroState}
 use Rattle.state_store.specs.local_reduction.Exchanging.{IsMoveUpTo, IsWayUpTo}
 use Rattle.state_store.specs.declared.refusal.MoveRefusal.{MoveRefusal}
 use Rattle.state_store.specs.declared.refusal.MoveRefusal.TheVariants as move
-use Rattle.state_search.specs.declared.refusal.Refusal.{Refusal}
-use Rattle.state_search.specs.declared.refusal.Refusal.TheVariants as search
-use Rattle.state_search.specs.Refusals.{refused_by_move, IsGivenUpFor}
+use Rattle.state_search.specs.Refusals.{HasFound, refused_by_move}
 -- Exchanges, and results that stand for others.
 pub use Rattle.state_store.proofs.Lemmas.local_reduction.{none, both, trade, trade_all, stands_for_on, stands_for_back}
 -- Places of lists, and lists of a function's values at each place.
@@ -31,15 +29,8 @@ module _ (at : ℕ → Setting) (code : List ℕ) (kept : LocalState → LocalSt
 
 -- ---- why a search gives up
 
--- A search that gives up because a move cannot be made does not claim that there are too many states.
-pub moves_give_up : (P : Type 0) (why : MoveRefusal) → IsGivenUpFor P (refused_by_move why)
-moves_give_up P move.Memory = tt
-moves_give_up P move.Alone = tt
-moves_give_up P move.Asks = tt
-
--- If a claim allows a search to give up for a reason, so does every claim that follows from it.
-pub given_up_on : (P Q : Type 0) → (P → Q) → (why : Refusal) → IsGivenUpFor P why → IsGivenUpFor Q why
-given_up_on P Q on search.Memory h = tt
-given_up_on P Q on search.States h = on h
-given_up_on P Q on search.Alone h = tt
-given_up_on P Q on search.Asks h = tt
+-- A search that gives up because a move cannot be made could not go on.
+pub moves_find_nothing : (why : MoveRefusal) → HasFound (refused_by_move why) → ⊥
+moves_find_nothing move.Memory h = h
+moves_find_nothing move.Alone h = h
+moves_find_nothing move.Asks h = h

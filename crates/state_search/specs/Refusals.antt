@@ -9,9 +9,11 @@ refused_by_move move.Memory = search.Memory
 refused_by_move move.Alone = search.Alone
 refused_by_move move.Asks = search.Asks
 
--- If a search gives up because of too many states, there are too many.
-abbrev pub IsGivenUpFor : (has_many : Type 0) → Refusal → Type 0
-IsGivenUpFor has_many search.Memory = Unit {0}
-IsGivenUpFor has_many search.States = has_many
-IsGivenUpFor has_many search.Alone = Unit {0}
-IsGivenUpFor has_many search.Asks = Unit {0}
+-- A search that gives up for this reason could have gone on, and has found rows: there are too many, or its observer
+-- stops it.
+abbrev pub HasFound : Refusal → Type 0
+HasFound search.Memory = ⊥
+HasFound search.States = Unit {0}
+HasFound search.Stopped = Unit {0}
+HasFound search.Alone = ⊥
+HasFound search.Asks = ⊥

@@ -95,9 +95,7 @@ module _ (e : Extent) (code : List ℕ) (classes : List ℕ) where
       pub found : (v : ℕ) → 0 < v → v < length rows →
           Contains successors v ⊎ ((k : ℕ) × Contains (successors_at moves k) v)
 
-    -- The search has found at least `least` rows.
-    pub record AreManyRows (first : MacroState) (least : ℕ) : Type 0 where
-      pub moves : List (List ℕ)
+    -- The search has found these rows, and noted the successors of some.
+    pub record AreRowsOfSearch (moves : List (List ℕ)) (first : MacroState) : Type 0 where
       pub done : ℕ
       pub searched : Searched moves first done
-      pub many : least ≤ length rows

@@ -1,15 +1,15 @@
 //! The search.
 
 ghost use Rattle.std.specs.Prelude.{◌≡◌, ◌+◌, ◌<◌, ◌≤◌, [], ◌∷◌, ◌++◌, List, ℕ, length, slice_index_or, IfErr, IfOk};
-ghost use Rattle.std.specs.Prelude.{IfSome, OnOk};
+ghost use Rattle.std.specs.Prelude.{IfSome, IsErrOf, OnOk};
 ghost use Rattle.state_store.specs.local_reduction.Closing.{MacroState};
 ghost use Rattle.state_store.specs.local_reduction.Live.{HasAllLive};
 ghost use Rattle.state_graph.specs.Ranks.{no_rank};
-ghost use Rattle.state_search.specs.Ends.{AreFound, AreMany};
+ghost use Rattle.state_search.specs.Ends.{AreFound, AreSome};
 ghost use Rattle.state_store.specs.TransitionCache.{KnowsLists, KnowsLocalStates};
-ghost use Rattle.state_search.specs.Refusals.{IsGivenUpFor};
+ghost use Rattle.state_search.specs.Refusals.{HasFound};
 ghost use Rattle.state_search.specs.Rows.{IsRowExchanged};
-ghost use Rattle.state_search.specs.Search.{AreAllFound, AreManyRows, Expanded, IsLike, IsPlaced, Searched};
+ghost use Rattle.state_search.specs.Search.{AreAllFound, AreRowsOfSearch, Expanded, IsLike, IsPlaced, Searched};
 ghost use Rattle.state_store.specs.Moves.{AreClasses};
 ghost use Rattle.state_store.specs.StateTables.{HasGrown, IsRow, means};
 
@@ -29,13 +29,29 @@ pub struct StateSpace<const N: usize> {
     pub moves: Successors,
 }
 
+impl<const N: usize> StateSpace<N> {
+    /// No rows.
+    pub fn new(alloc: Global) -> Self
+        requires narrow { N ≤ 65 }
+        ensures { (result.rows.keys ≡ []) × (result.moves ≡ []) }
+    {
+        StateSpace {
+            rows: IndexSet::new(alloc),
+            moves: Successors::new(alloc),
+        }
+    }
+}
+
 /// Finds all rows to which references lead from `first`, up to exchanges of processors of one class. It does not search
-/// beyond a row in which a processor spins. It reports the number of rows to `watch` as it finds them.
+/// beyond a row in which a processor spins. It reports the number of rows to `observer` as it finds them.
 ///
 /// # Errors
 ///
-/// [`Refusal::States`] if there are at least `limit` rows; [`Refusal::Asks`] if a processor asks for its own number
-/// after a reference while processors are exchanged; [`Refusal::Alone`] and [`Refusal::Memory`].
+/// [`Refusal::States`] if there are at least `limit` rows, and [`Refusal::Stopped`] if the observer stops the search:
+/// then `found` has the rows found so far. [`Refusal::Asks`] if a processor asks for its own number after a reference
+/// while processors are exchanged; [`Refusal::Alone`] and [`Refusal::Memory`].
+// The caller owns `found`, so that this function need not drop it at each of its returns, and what was found is kept if
+// the search gives up.
 pub fn explore_states<const N: usize, G: SearchObserver>(
     alloc: Global,
     state_tables: &mut StateTables,
@@ -46,7 +62,8 @@ pub fn explore_states<const N: usize, G: SearchObserver>(
     first: StateVector<N>,
     limit: u32,
     observer: &mut G,
-) -> Result<StateSpace<N>, Refusal>
+    found: &mut StateSpace<N>,
+) -> Result<(), Refusal>
     requires live { HasAllLive code.now state_tables.old.live }
     requires classes { AreClasses extent classes.now }
     requires row { IsRow extent state_tables.old first }
@@ -55,24 +72,25 @@ pub fn explore_states<const N: usize, G: SearchObserver>(
     requires local_states { KnowsLocalStates extent.exchanged code.now state_tables.old
         transition_caches.old.local_states }
     requires lists { KnowsLists state_tables.old transition_caches.old.lists }
+    requires nothing { (found.old.rows.keys ≡ []) × (found.old.moves ≡ []) }
     ensures kept { OnOk result (HasGrown state_tables.old state_tables.new) }
-    ensures found { IfOk result
-        (λ found. AreFound extent code.now classes.now state_tables.new found.rows.keys found.moves
+    ensures found { OnOk result
+        (AreFound extent code.now classes.now state_tables.new found.new.rows.keys found.new.moves
         (means extent state_tables.old first.entry)) }
-    ensures few { IfOk result (λ found. length found.rows.keys < limit) }
-    ensures many { IfErr result (IsGivenUpFor (HasGrown state_tables.old state_tables.new
-        × AreMany extent code.now classes.now
-        state_tables.new (means extent state_tables.old first.entry) limit)) }
+    ensures few { OnOk result (length found.new.rows.keys < limit) }
+    ensures some { IfErr result (λ why. HasFound why → HasGrown state_tables.old state_tables.new
+        × AreSome extent code.now classes.now state_tables.new found.new.rows.keys
+        (means extent state_tables.old first.entry)) }
+    ensures many { IsErrOf result Refusal.States → limit ≤ length found.new.rows.keys }
+    ensures known { IfErr result (λ why. HasFound why →
+        KnowsLocalStates extent.exchanged code.now state_tables.new transition_caches.new.local_states
+        × KnowsLists state_tables.new transition_caches.new.lists) }
     ensures local_states { OnOk result
         (KnowsLocalStates extent.exchanged code.now state_tables.new transition_caches.new.local_states) }
     ensures lists { OnOk result (KnowsLists state_tables.new transition_caches.new.lists) }
 {
-    let mut found = StateSpace {
-        rows: IndexSet::new(alloc),
-        moves: Successors::new(alloc),
-    };
     let mut successors = Vec::new(alloc);
-    let followed = breadth_first(
+    let searched = breadth_first(
         state_tables,
         transition_caches,
         code,
@@ -82,18 +100,17 @@ pub fn explore_states<const N: usize, G: SearchObserver>(
         limit,
         observer,
         &mut successors,
-        &mut found,
+        found,
     );
     let _ = found.rows.len();
     state_tables.are_different();
-    match followed {
-        Ok(()) => Ok(found),
+    match searched {
+        Ok(()) => Ok(()),
         Err(refusal) => Err(refusal),
     }
 }
 
 /// Searches breadth first, from an empty `found`, until there is no new row.
-// The caller owns `found`, so that this function need not drop it at each of its many returns.
 fn breadth_first<const N: usize, G: SearchObserver>(
     state_tables: &mut StateTables,
     transition_caches: &mut TransitionCaches,
@@ -120,9 +137,13 @@ fn breadth_first<const N: usize, G: SearchObserver>(
         (Searched extent code.now classes.now state_tables.new found.new.rows.keys found.new.moves
         (means extent state_tables.old first.entry) (length found.new.rows.keys)) }
     ensures few { OnOk result (length found.new.rows.keys < limit) }
-    ensures many { IfErr result (IsGivenUpFor (HasGrown state_tables.old state_tables.new
-        × AreManyRows extent code.now classes.now
-        state_tables.new found.new.rows.keys (means extent state_tables.old first.entry) limit)) }
+    ensures some { IfErr result (λ why. HasFound why → HasGrown state_tables.old state_tables.new
+        × AreRowsOfSearch extent code.now classes.now state_tables.new found.new.rows.keys found.new.moves
+        (means extent state_tables.old first.entry)) }
+    ensures many { IsErrOf result Refusal.States → limit ≤ length found.new.rows.keys }
+    ensures known { IfErr result (λ why. HasFound why →
+        KnowsLocalStates extent.exchanged code.now state_tables.new transition_caches.new.local_states
+        × KnowsLists state_tables.new transition_caches.new.lists) }
     ensures local_states { OnOk result
         (KnowsLocalStates extent.exchanged code.now state_tables.new transition_caches.new.local_states) }
     ensures lists { OnOk result (KnowsLists state_tables.new transition_caches.new.lists) }
@@ -138,7 +159,9 @@ fn breadth_first<const N: usize, G: SearchObserver>(
         let Some(row) = found.rows.get_index(at as usize).copied() else {
             return Ok(());
         };
-        observer.progress(found.rows.len());
+        if !observer.progress(found.rows.len()) {
+            return Err(Refusal::Stopped);
+        }
         expand(
             state_tables,
             transition_caches,

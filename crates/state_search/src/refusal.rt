@@ -12,6 +12,8 @@ pub enum Refusal {
     Memory,
     /// There are at least as many states as the limit.
     States,
+    /// The observer has stopped the search.
+    Stopped,
     /// A processor runs for 1,000,000 instructions without a reference, and is not found to spin.
     Alone,
     /// A processor asks for its own number after a reference, while processors are exchanged.

@@ -10,8 +10,8 @@ use Rattle.command_io.specs.Files.{IsFaultOfImage, IsFaultOfSize}
 use Rattle.command_io.specs.Links.{Output}
 use Rattle.trace_counts.specs.trace_commands.Causes.{ReportItselfFails}
 use Rattle.study_command.specs.Studies.{IsNoRow, IsNoStudy, IsTextOfSizes, Study}
-use Rattle.study_command.specs.Sizes.{with_size}
-use Rattle.study_command.specs.declared.size.Size.{Size}
+use Rattle.study_rows.specs.Sizes.{with_size}
+use Rattle.study_rows.specs.declared.size.Size.{Size}
 
 -- If there are no rows, nothing is printed, for the same fault.
 pub not_made : (c : Config) (sizes : List Size) (is_text : List ℕ → Type 0) (out : Output) (f : Fault) → IsNoRow c sizes f →

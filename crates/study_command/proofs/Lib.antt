@@ -2,4 +2,3 @@ pub mod Listing
 pub mod Growing
 pub mod WholeRuns
 pub mod Failing
-pub mod Scaling

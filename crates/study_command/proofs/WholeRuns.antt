@@ -7,7 +7,7 @@ use Rattle.machine_steps.specs.Runs.{IsOpening}
 use Rattle.machine_log.specs.Logs.{Log, IsWellFormed}
 use Rattle.schedules.specs.Sweeps.{IsSwept, IsWholeRun, most_of, opened}
 use Rattle.schedules.specs.declared.sweeping.SweepEnd.{SweepEnd}
-use Rattle.study_command.specs.declared.row.Row.{Row}
+use Rattle.study_rows.specs.declared.row.Row.{Row}
 
 module _ (c : Config) (budget : ℕ) (image : ImageContents) (m : MachineLists) (opens : IsOpening c image m) (old log : Log)
     (starts : old ≡ opened m) (kept : IsWellFormed log) (end : SweepEnd) (swept : IsSwept (most_of budget) old end log) where

@@ -1,9 +1,3 @@
-pub mod Sizes
 pub mod Lists
 pub mod Rows
-pub mod Columns
-pub mod Texts
-pub mod Scales
-pub mod Canvas
-pub mod Plots
 pub mod Studies

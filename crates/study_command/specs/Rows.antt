@@ -23,12 +23,12 @@ use Rattle.run_reports.specs.Reports.{IsExitOf}
 use Rattle.trace_counts.specs.Latencies.{on_words}
 use Rattle.trace_counts.specs.Longest.{AreLongest, most_of}
 use Rattle.trace_counts.specs.QueueLengths.{total_of}
-use Rattle.study_command.specs.Sizes.{with_size}
-use Rattle.study_command.specs.declared.row.Figures.{Figures}
-use Rattle.study_command.specs.declared.row.Row.{Row}
-use Rattle.study_command.specs.declared.row.RunEnd.{RunEnd}
-use Rattle.study_command.specs.declared.row.RunEnd.TheVariants as end
-use Rattle.study_command.specs.declared.size.Size.{Size}
+use Rattle.study_rows.specs.Sizes.{with_size}
+use Rattle.study_rows.specs.declared.row.Figures.{Figures}
+use Rattle.study_rows.specs.declared.row.Row.{Row}
+use Rattle.study_rows.specs.declared.row.RunEnd.{RunEnd}
+use Rattle.study_rows.specs.declared.row.RunEnd.TheVariants as end
+use Rattle.study_rows.specs.declared.size.Size.{Size}
 
 -- ---- the end of a run
 

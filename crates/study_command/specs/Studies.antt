@@ -9,14 +9,14 @@ use Rattle.command_io.specs.declared.fault.Fault.{Fault}
 use Rattle.command_io.specs.declared.fault.Fault.TheVariants as fault
 use Rattle.command_io.specs.Links.{Input, IsOfLink, Output}
 use Rattle.command_io.specs.Printing.{Prints, PrintsPrefix}
-use Rattle.study_command.specs.Plots.{plot_text}
+use Rattle.study_rows.specs.Plots.{plot_text}
 use Rattle.study_command.specs.Rows.{AreRows, greatest_exit}
-use Rattle.study_command.specs.Sizes.{with_size}
-use Rattle.study_command.specs.Texts.{rows_text}
+use Rattle.study_rows.specs.Sizes.{with_size}
+use Rattle.study_rows.specs.Texts.{rows_text}
 use Rattle.study_command.specs.declared.command.StudyFormat.{StudyFormat}
 use Rattle.study_command.specs.declared.command.StudyFormat.TheVariants as format
-use Rattle.study_command.specs.declared.row.Row.{Row}
-use Rattle.study_command.specs.declared.size.Size.{Size}
+use Rattle.study_rows.specs.declared.row.Row.{Row}
+use Rattle.study_rows.specs.declared.size.Size.{Size}
 
 -- A study, as it is asked for: the other numbers of its machines, their sizes, the most steps of a run, the format, and
 -- the image's file.

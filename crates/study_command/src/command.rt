@@ -8,19 +8,14 @@ ghost use Rattle.study_command.specs.Studies.{IsNoRow, IsNoStudy, IsTextOfSizes,
 ghost use Rattle.study_command.specs.Studies.{text_of};
 ghost use Rattle.trace_counts.specs.trace_commands.Causes.{ReportItselfFails};
 
-use crate::cells::Layout;
-use crate::column::Column;
-use crate::lines::rows_text;
-use crate::plot::plot_text;
-use crate::row::Row;
 use crate::running::{rows_of, status_of};
-use crate::size::Size;
 use command_io::{Fault, image_of, print, report_fault};
 use elf_image::{Image, ImageError};
 use flat_machine::Config;
 use link::{LinkRead, LinkWrite};
 use std::alloc::{AllocError, Global};
 use std::io::Write;
+use study_rows::{Column, Layout, Row, Size, plot_text, rows_text};
 
 /// How the rows of a study are printed.
 #[derive(Clone, Copy, Debug, PartialEq, Eq, Drop)]

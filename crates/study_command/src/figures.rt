@@ -7,13 +7,13 @@ ghost use Rattle.trace_counts.specs.Longest.{most_of};
 ghost use Rattle.trace_counts.specs.QueueLengths.{total_of};
 ghost use Rattle.study_command.specs.Rows.{AreCounted, AreFigures, AreLatencies, figures_of};
 
-use crate::row::Figures;
 use command_io::{Fault, machine_of_copy};
 use elf_image::Image;
 use flat_machine::Config;
 use run_counts::{Counts, Held, Latencies, Longest, mean_of, rounds_of};
 use std::alloc::{AllocError, Global};
 use steps::Step;
+use study_rows::Figures;
 use trace_counts::{count_steps, find_latencies};
 
 /// What steps come to, on the machine of this size that opens on the image. The image was read for that number of

@@ -3,20 +3,19 @@
 ghost use Rattle.std.specs.Prelude.{◌≡◌, ◌++◌, ◌∷◌, [], ℕ, IfErr, IfOk, OnOk};
 ghost use Rattle.command_io.specs.Files.{IsFaultOfSize};
 ghost use Rattle.schedules.specs.Sweeps.{IsWholeRun, most_of};
-ghost use Rattle.study_command.specs.Rows.{AreRows, IsRow, IsRowOf, greatest_exit};
-ghost use Rattle.study_command.specs.Sizes.{with_size};
+ghost use Rattle.study_command.specs.Rows.{AreRows, IsRow, IsRowOf, end_of, exit_of, greatest_exit};
+ghost use Rattle.study_rows.specs.Sizes.{with_size};
 ghost use Rattle.study_command.specs.Studies.{HasWrongSize, IsNoRow};
 
 use crate::figures::figures_of;
-use crate::row::{Row, end_of, exit_of};
-use crate::size::{Size, with_size};
-use command_io::{Fault, machine_of_copy};
+use command_io::{DONE, Fault, SPENT, STOPPED_BY_FAULT, machine_of_copy};
 use elf_image::Image;
 use flat_machine::Config;
 use machine_log::Logged;
 use run_reports::exit_status;
 use schedules::{SweepEnd, follow_sweep};
 use std::alloc::{AllocError, Global};
+use study_rows::{Row, RunEnd, Size, with_size};
 
 /// The rows of these sizes, in their order. The image was read for the number of shared words of `config`.
 ///
@@ -145,4 +144,26 @@ pub(crate) fn status_of(rows: &[Row]) -> u8
         status = status.max(exit_of(row.end));
     }
     status
+}
+
+/// How a run ended, from how its sweep ended and the exit status for how the processors stopped.
+fn end_of(end: SweepEnd, status: u8) -> RunEnd
+    ensures { result ≡ end_of end status }
+{
+    match end {
+        SweepEnd::Budget => RunEnd::Budget,
+        SweepEnd::Over if status == 0 => RunEnd::Over,
+        SweepEnd::Over => RunEnd::Fault,
+    }
+}
+
+/// The exit status for a run that ended so.
+fn exit_of(end: RunEnd) -> u8
+    ensures { result ≡ exit_of end }
+{
+    match end {
+        RunEnd::Over => DONE,
+        RunEnd::Fault => STOPPED_BY_FAULT,
+        RunEnd::Budget => SPENT,
+    }
 }

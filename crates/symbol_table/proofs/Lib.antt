@@ -5,3 +5,4 @@ pub mod Kept
 pub mod Mapped
 pub mod Sorting
 pub mod Nearest
+pub mod Named

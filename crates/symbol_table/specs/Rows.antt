@@ -1,6 +1,6 @@
--- Symbols as rows of a table, and the place of an address among them.
-use Rattle.std.specs.Prelude.{ℕ, ◌-◌, ◌==◌, ◌||◌, nat_le, nat_lt, List, [], ◌∷◌, filter, Option, Some, None}
-use Rattle.std.specs.Prelude.{option_and_then, if◌then◌else◌}
+-- Symbols as rows of a table, the place of an address among them, and the address of a name.
+use Rattle.std.specs.Prelude.{ℕ, ◌-◌, ◌==◌, ◌||◌, nat_le, nat_lt, Bool, List, [], ◌∷◌, filter, Option, Some, None}
+use Rattle.std.specs.Prelude.{bytes_eq, find, option_and_then, option_map, if◌then◌else◌}
 use Rattle.std.specs.List.{last_or}
 use Rattle.std.specs.List.Sorted.{IsNonDecreasingBy}
 use Rattle.symbol_table.specs.declared.row.Place.{Place}
@@ -59,3 +59,13 @@ place_at address row =
 -- the place of an address among the rows of a table
 abbrev pub place_in : List SymbolRow → (address : ℕ) → Option NamedPlace
 place_in rows address = option_and_then (place_at address) (nearest rows address)
+
+-- ---- addresses
+
+-- whether a row has the name
+abbrev pub has_name : (name : List ℕ) → SymbolRow → Bool
+has_name name row = bytes_eq row.name name
+
+-- the address of the first row with the name
+abbrev pub address_of : List SymbolRow → (name : List ℕ) → Option ℕ
+address_of rows name = option_map (λ row. row.address) (find (has_name name) rows)

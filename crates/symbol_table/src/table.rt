@@ -1,8 +1,9 @@
 //! The table of symbols, and names for addresses.
 
-ghost use Rattle.std.specs.Prelude.{◌≡◌, ◌≤◌, IfOk, IfSome, map};
+ghost use Rattle.std.specs.Prelude.{◌≡◌, ◌≤◌, IfOk, IfSome, bytes_eq, find, map};
 ghost use Rattle.std.specs.Option.{option_map};
-ghost use Rattle.symbol_table.specs.Rows.{AreByAddress, by_address, nearest, place_in, named_place, row_of};
+ghost use Rattle.symbol_table.specs.Rows.{AreByAddress, address_of, by_address, nearest, place_in, named_place};
+ghost use Rattle.symbol_table.specs.Rows.{row_of};
 ghost use Rattle.symbol_table.specs.Symbols.{rows_of, symbols_of};
 
 use crate::elf::{elf_symbols, is_elf};
@@ -63,6 +64,14 @@ impl<'a> SymbolTable<'a> {
         let symbol = nearest(self.symbols.as_slice(), address)?;
         symbol.place(address)
     }
+
+    /// The address of the symbol with this name; of several, the lowest. `None` if no symbol has it.
+    pub fn address(&self, name: &str) -> Option<u32>
+        ensures { result ≡ address_of self.now name.now }
+    {
+        let symbol = first_named(self.symbols.as_slice(), name)?;
+        Some(symbol.address)
+    }
 }
 
 /// The symbols of a file, in its order.
@@ -93,4 +102,11 @@ fn nearest<'a>(symbols: &[Symbol<'a>], address: u32) -> Option<Symbol<'a>>
 {
     let count = symbols.partition_point(|symbol| symbol.address <= address);
     symbols.split_at(count).0.last().copied()
+}
+
+/// The first symbol with this name.
+fn first_named<'s, 'a>(symbols: &'s [Symbol<'a>], name: &str) -> Option<&'s Symbol<'a>>
+    ensures { option_map (λ s. s.now) result ≡ find (λ s. bytes_eq s.name.now name.now) symbols.now }
+{
+    symbols.iter().find(|symbol| symbol.name == name)
 }

@@ -7,124 +7,47 @@ ghost use Rattle.trace_commands.specs.run_reports.RunReports.{IsWorking};
 mod assembling;
 mod loopback_port;
 mod output;
-mod properties;
 mod refusal;
 mod reports;
 mod standard_streams;
-mod studies;
 mod symbols;
-mod traces;
 
 use crate::assembling::asm_file;
 use crate::loopback_port::LoopbackPort;
-use crate::output::Output;
-use crate::output::format_of;
-use crate::properties::judge_file;
-use crate::properties::property_of;
+use crate::output::{Output, format_of};
 use crate::refusal::Refusal;
-use crate::reports::Reports;
-use crate::reports::place_of;
+use crate::reports::{Reports, place_of};
 use crate::standard_streams::StandardStreams;
-use crate::studies::study_file;
 use crate::symbols::symbol_bytes;
-use crate::traces::TraceFiles;
-use asm_commands::check_command;
-use asm_commands::course_check_command;
-use asm_commands::dis_command;
+use asm_commands::{check_command, course_check_command, dis_command};
 use clap::Error;
-use command_io::DONE;
-use command_io::Fault;
-use command_io::LINK_FAILED;
-use command_io::REFUSED;
-use command_io::SPENT;
-use command_io::report_fault;
-use debug_session::Connect;
-use debug_session::debug_command;
-use explain_command::all_topics;
-use explain_command::explain_command;
-use explore_command::Asked;
-use explore_command::NoProgress;
-use explore_command::SearchObserver;
-use explore_command::SearchProgress;
-use explore_command::explore_command;
-use explore_command::explore_every_size;
-use flat_machine::Config;
-use host_files::Explained;
-use host_files::FileRefusal;
-use host_files::Place;
-use host_files::Reason;
-use host_files::STANDARD;
-use host_files::look_for_folder;
-use host_files::open;
-use host_files::open_beside;
-use host_files::open_beside_trace;
-use host_files::open_image;
-use host_files::read_once;
-use host_files::refuse;
-use host_files::report_place;
-use host_files::text_or_place;
-use host_files::trace_to;
-use host_files::writer_to;
-use hunt_command::Hunt as Hunted;
-use hunt_command::HuntProgress;
-use hunt_command::NoHuntProgress;
-use hunt_command::hunt_command;
-use link::Link;
-use link::LinkRead;
-use link::LinkWrite;
-use link::Meter;
+use command_io::{DONE, Fault, LINK_FAILED, REFUSED, SPENT, report_fault};
+use debug_session::{Connect, debug_command};
+use explain_command::{all_topics, explain_command};
+use host_files::{
+    Explained, FileRefusal, Place, Reason, STANDARD, open, open_beside, open_beside_trace,
+    open_image, read_once, refuse, report_place, text_or_place, trace_to, writer_to,
+};
+use link::{Link, LinkRead, LinkWrite, Meter};
 use machine_picture::Svg;
-use observed_results::ObservedWords;
-use processor_threads::Gate;
-use processor_threads::Open;
-use refinement_command::refinement_command;
-use run_command::Progress;
-use run_command::run_command;
-use run_command::threaded_run_command;
-use run_command::unlogged_run_command;
-use settings::Counts;
-use settings::Explore;
-use settings::Hunt;
-use settings::Lines;
-use settings::Replay;
-use settings::Run;
-use settings::Schedule;
-use settings::Session;
-use settings::Settings;
-use settings::Sizes;
-use settings::settings;
-use settings::status_of;
-use std::alloc::AllocError;
-use std::alloc::Global;
+use processor_threads::{Gate, Open};
+use run_command::{Progress, run_command, threaded_run_command, unlogged_run_command};
+use search_files::{asks_for_property, explore_file, hunt_file, study_file};
+use settings::{Counts, Lines, Replay, Run, Schedule, Session, Settings, settings, status_of};
+use std::alloc::{AllocError, Global};
 use std::env;
-use std::io::ErrorKind;
-use std::io::Input;
-use std::io::IsTerminal;
-use std::io::Read;
-use std::io::Write;
-use std::io::{self};
+use std::io::{self, ErrorKind, Input, IsTerminal, Read, Write};
 use std::net::Net;
 use std::process::ExitCode;
-use std::rt::Env;
-use std::rt::Files;
+use std::rt::{Env, Files};
 use std::sync::Wait;
 use std::thread::Threads;
 use std::time::Clock;
 use symbol_table::SymbolTable;
-use trace_commands::Order;
-use trace_commands::Picture;
-use trace_commands::Report;
-use trace_commands::Story;
-use trace_commands::TraceReport;
-use trace_commands::lines_command;
-use trace_commands::trace_command;
-use trace_counts::LatencyStats;
-use trace_counts::QueueStats;
-use trace_counts::QueueTable;
-use trace_counts::Stats;
+use trace_commands::{Order, Picture, Report, Story, TraceReport, lines_command, trace_command};
+use trace_counts::{LatencyStats, QueueStats, QueueTable, Stats};
 use trace_lines::Choice;
-use trace_text::steps_command;
-use trace_text::text_command;
+use trace_text::{steps_command, text_command};
 use words_command::words_command;
 
 fn main(rt: HostRuntime) -> ExitCode {
@@ -183,22 +106,15 @@ fn execute_in_format<
         Ok(bytes) => bytes,
         Err(refusal) => return refusal.report_fault(err),
     };
-    if let Settings::Picture(_) = settings {
-        return draw_with_names(rt, settings, &bytes, terminal, reason, stdout, err);
+    if uses_names(settings) {
+        execute_with_names(rt, settings, &bytes, terminal, reason, stdout, err)
+    } else {
+        execute_in_lines(rt, settings, &bytes, terminal, reason, stdout, err)
     }
-    let Ok(symbols) = symbols_in(rt.alloc(), &bytes) else {
-        return report_fault(Fault::Memory, err);
-    };
-    let format = format_of(settings, symbols);
-    let mut out = Meter::new(Explained {
-        device: Output::new(rt.alloc(), format, stdout),
-        reason,
-    });
-    execute_and_report(rt, settings, &None, terminal, reason, &mut out, err)
 }
 
-/// Draws a picture, with the names that a file has if there is one. They stand in the texts of the picture.
-fn draw_with_names<
+/// Does what settings ask for, and prints its lines in their format, with the names that a file has if there is one.
+fn execute_in_lines<
     R: Files + Input + Net + Threads + Wait + Clock + Eprint + Print + Sync + AllocGlobal,
     W: Write + Drop,
     E: Write,
@@ -211,14 +127,67 @@ fn draw_with_names<
     stdout: W,
     err: &mut E,
 ) -> u8 {
-    let Ok(names) = symbols_in(rt.alloc(), file) else {
+    let Ok(symbols) = symbols_in(rt.alloc(), file) else {
         return report_fault(Fault::Memory, err);
     };
+    let format = format_of(settings, symbols);
+    let mut out = Meter::new(Explained {
+        device: Output::new(rt.alloc(), format, stdout),
+        reason,
+    });
+    execute_with_file(rt, settings, file, terminal, reason, &mut out, err)
+}
+
+/// Does what settings ask for, with the names that a file has if there is one.
+fn execute_with_file<
+    R: Files + Input + Net + Threads + Wait + Clock + Eprint + Print + Sync + AllocGlobal,
+    W: LinkWrite,
+    E: Write,
+>(
+    rt: &R,
+    settings: &Settings<'_>,
+    file: &Option<Vec<u8>>,
+    terminal: bool,
+    reason: &Reason,
+    out: &mut W,
+    err: &mut E,
+) -> u8
+    requires works { W.has_failed out.old ≡ false }
+{
+    match symbols_in(rt.alloc(), file) {
+        Ok(names) => execute_and_report(rt, settings, &names, terminal, reason, out, err),
+        Err(_) => report_fault(Fault::Memory, err),
+    }
+}
+
+/// Whether a command uses names itself: to draw a picture, or to read a condition.
+fn uses_names(settings: &Settings<'_>) -> bool {
+    match settings {
+        Settings::Picture(_) => true,
+        Settings::Explore(explore) => asks_for_property(explore),
+        _ => false,
+    }
+}
+
+/// Does what settings ask for, with the names that a file has if there is one, and prints its lines as they are.
+fn execute_with_names<
+    R: Files + Input + Net + Threads + Wait + Clock + Eprint + Print + Sync + AllocGlobal,
+    W: Write + Drop,
+    E: Write,
+>(
+    rt: &R,
+    settings: &Settings<'_>,
+    file: &Option<Vec<u8>>,
+    terminal: bool,
+    reason: &Reason,
+    stdout: W,
+    err: &mut E,
+) -> u8 {
     let mut out = Meter::new(Explained {
         device: stdout,
         reason,
     });
-    execute_and_report(rt, settings, &names, terminal, reason, &mut out, err)
+    execute_with_file(rt, settings, file, terminal, reason, &mut out, err)
 }
 
 /// The symbols of a file, if there is one.
@@ -232,8 +201,8 @@ fn symbols_in(
     }
 }
 
-/// Does what settings ask for, with these names if a picture is to be drawn, and reports in a second line which file is
-/// at fault.
+/// Does what settings ask for, with these names if it uses them itself, and reports in a second line which file is at
+/// fault.
 fn execute_and_report<
     R: Files + Input + Net + Threads + Wait + Clock + Eprint + Print + Sync + AllocGlobal,
     W: LinkWrite,
@@ -273,7 +242,7 @@ fn execute_and_report<
     status
 }
 
-/// Does what settings ask for, with these names if a picture is to be drawn.
+/// Does what settings ask for, with these names if it uses them itself.
 fn execute<
     'a,
     R: Files + Input + Net + Threads + Wait + Clock + Eprint + Print + Sync + AllocGlobal,
@@ -309,8 +278,10 @@ fn execute<
             Ok(dis_command(alloc, &mut file, dis.words, dis.comments, out, err))
         }
         Settings::Run(run) => run_file(rt, run, terminal, reason, out, err),
-        Settings::Hunt(hunt) => hunt_file(rt, hunt, terminal, reason, out, err),
-        Settings::Explore(explore) => explore_file(rt, explore, terminal, reason, out, err),
+        Settings::Hunt(hunt) => Ok(hunt_file(rt, hunt, terminal, reason, out, err)?),
+        Settings::Explore(explore) => {
+            Ok(explore_file(rt, explore, names, terminal, reason, out, err)?)
+        }
         Settings::Replay(report) => tell_steps(rt, &report.replay, &Report, reason, out, err),
         Settings::Order(order) => {
             let choice = choice_of(&order.lines);
@@ -342,7 +313,7 @@ fn execute<
             };
             tell_steps(rt, &asked.replay, &picture, reason, out, err)
         }
-        Settings::Study(study) => study_file(rt, study, reason, out, err),
+        Settings::Study(study) => Ok(study_file(rt, study, reason, out, err)?),
         Settings::Trace(asked) => {
             let mut trace = Meter::new(open(rt, asked.trace, reason)?);
             Ok(text_command(alloc, &mut trace, out, err))
@@ -512,7 +483,7 @@ fn run_image<
     requires works { W.has_failed out.old ≡ false }
 {
     let alloc = rt.alloc();
-    let config = config_of(&run.sizes);
+    let config = run.sizes.config();
     if run.no_log {
         unlogged_run_command(alloc, file, config, run.budget, run.unfinished, out, err)
     } else if run.sweep {
@@ -558,7 +529,7 @@ fn run_on_threads<
         rt,
         rt.alloc(),
         file,
-        config_of(&run.sizes),
+        run.sizes.config(),
         run.start,
         gate,
         run.budget,
@@ -567,337 +538,6 @@ fn run_on_threads<
         out,
         err,
     )
-}
-
-/// The size of the machine, from that of the command line.
-fn config_of(sizes: &Sizes) -> Config
-    ensures network { (result.k ≡ sizes.now.k) × (result.c ≡ sizes.now.c) × (result.b ≡ sizes.now.b)
-        × (result.r ≡ sizes.now.r) }
-    ensures words { result.shared_words ≡ sizes.now.words }
-{
-    Config {
-        k: sizes.k,
-        c: sizes.c,
-        b: sizes.b,
-        r: sizes.r,
-        shared_words: sizes.words,
-    }
-}
-
-/// Does what `explore FILE` asks for. The first write to OUT opens it.
-fn explore_file<'a, R: Files + Input + Clock + Eprint + AllocGlobal, W: LinkWrite, E: Write>(
-    rt: &R,
-    explore: &Explore<'a>,
-    terminal: bool,
-    reason: &Reason,
-    out: &mut W,
-    err: &mut E,
-) -> Result<u8, Refusal<'a>>
-    requires works { W.has_failed out.old ≡ false }
-{
-    let shown = terminal && !explore.quiet;
-    if let Some(text) = property_of(explore)? {
-        return judge_file(rt, explore, text, shown, reason, out, err);
-    }
-    if let Some(against) = explore.against {
-        return compare_files(rt, explore, against, terminal, reason, out, err);
-    }
-    if explore.every && (explore.fair || explore.witness.is_some() || explore.trace.is_some()) {
-        return Err(Refusal::Every);
-    }
-    if is_half(explore) {
-        return Err(Refusal::Half);
-    }
-    let words = words_of(rt.alloc(), explore.observe, &explore.sizes)?;
-    let mut file = Meter::new(open_beside_trace(rt, explore.file, explore.trace, reason)?);
-    let mut trace = trace_to(rt, explore.trace, reason);
-    let config = config_of(&explore.sizes);
-    let asked = Asked {
-        limit: explore.states,
-        each: explore.each,
-        fair: explore.fair,
-        witness: explore.witness,
-        observed: words.as_ref(),
-    };
-    let every = explore.every;
-    Ok(explore_image(
-        rt, &mut file, config, asked, every, shown, &mut trace, out, err,
-    ))
-}
-
-/// Whether a witness is asked for without a trace, or a trace without a witness or fair schedules.
-fn is_half(explore: &Explore<'_>) -> bool {
-    if explore.trace.is_some() {
-        explore.witness.is_none() && !explore.fair
-    } else {
-        explore.witness.is_some()
-    }
-}
-
-/// Does what `explore FILE --against SPEC` asks for.
-fn compare_files<'a, R: Files + Input + Clock + Eprint + AllocGlobal, W: LinkWrite, E: Write>(
-    rt: &R,
-    explore: &Explore<'a>,
-    against: &'a str,
-    terminal: bool,
-    reason: &Reason,
-    out: &mut W,
-    err: &mut E,
-) -> Result<u8, Refusal<'a>>
-    requires works { W.has_failed out.old ≡ false }
-{
-    if explore.every || explore.fair || explore.witness.is_some() || explore.trace.is_some() {
-        return Err(Refusal::Against);
-    }
-    if explore.file == STANDARD && against == STANDARD {
-        return Err(Refusal::File(FileRefusal::InputTwice));
-    }
-    let words = compared_words(rt.alloc(), explore.observe, &explore.sizes)?;
-    let mut program = Meter::new(open(rt, explore.file, reason)?);
-    let mut specification = Meter::new(open(rt, against, reason)?);
-    let shown = terminal && !explore.quiet;
-    match compare_images(
-        rt,
-        &mut program,
-        &mut specification,
-        explore,
-        &words,
-        shown,
-        out,
-        err,
-    ) {
-        Ok(status) => Ok(status),
-        Err(fault) => Err(Refusal::Specification(against, fault, reason.get())),
-    }
-}
-
-/// Compares the results of an image with those of its specification. The progress of the searches is shown, if it is
-/// asked for.
-fn compare_images<
-    F: LinkRead,
-    S: LinkRead,
-    R: Clock + Eprint + AllocGlobal,
-    W: LinkWrite,
-    E: Write,
->(
-    rt: &R,
-    program: &mut F,
-    specification: &mut S,
-    explore: &Explore<'_>,
-    words: &ObservedWords,
-    shown: bool,
-    out: &mut W,
-    err: &mut E,
-) -> Result<u8, Fault>
-    requires reads { F.has_failed program.old ≡ false }
-    requires also_reads { S.has_failed specification.old ≡ false }
-    requires works { W.has_failed out.old ≡ false }
-{
-    let alloc = rt.alloc();
-    let config = config_of(&explore.sizes);
-    let limit = explore.states;
-    if shown {
-        let mut observer = SearchProgress::new(rt, rt);
-        refinement_command(
-            alloc,
-            program,
-            specification,
-            config,
-            limit,
-            words,
-            &mut observer,
-            out,
-            err,
-        )
-    } else {
-        let mut observer = NoProgress;
-        refinement_command(
-            alloc,
-            program,
-            specification,
-            config,
-            limit,
-            words,
-            &mut observer,
-            out,
-            err,
-        )
-    }
-}
-
-/// The words by which results are compared: those that a list names, or all words of a machine of these sizes if no
-/// list is given.
-fn compared_words<'a>(
-    alloc: Global,
-    list: Option<&'a str>,
-    sizes: &Sizes,
-) -> Result<ObservedWords, Refusal<'a>> {
-    if let Some(words) = words_of(alloc, list, sizes)? {
-        return Ok(words);
-    }
-    let last = sizes.words.saturating_sub(1);
-    let Ok(all) = format!(in alloc; "0-{last}") else {
-        return Err(Refusal::Memory);
-    };
-    match ObservedWords::of_list(alloc, all.as_str(), sizes.words) {
-        Ok(Some(words)) => Ok(words),
-        _ => Err(Refusal::Memory),
-    }
-}
-
-/// The words that a list names, on a machine of these sizes, or None if no list is given.
-fn words_of<'a>(
-    alloc: Global,
-    list: Option<&'a str>,
-    sizes: &Sizes,
-) -> Result<Option<ObservedWords>, Refusal<'a>> {
-    let Some(list) = list else {
-        return Ok(None);
-    };
-    match ObservedWords::of_list(alloc, list, sizes.words) {
-        Ok(Some(words)) => Ok(Some(words)),
-        Ok(None) => Err(Refusal::NoList(list, sizes.words)),
-        Err(_) => Err(Refusal::Memory),
-    }
-}
-
-/// Explores an image, on a machine of one size or of every size. The progress of the search is shown, if it is asked
-/// for.
-fn explore_image<
-    F: LinkRead,
-    T: LinkWrite,
-    R: Clock + Eprint + AllocGlobal,
-    W: LinkWrite,
-    E: Write,
->(
-    rt: &R,
-    file: &mut F,
-    config: Config,
-    asked: Asked<'_>,
-    every: bool,
-    shown: bool,
-    trace: &mut Option<T>,
-    out: &mut W,
-    err: &mut E,
-) -> u8
-    requires reads { F.has_failed file.old ≡ false }
-    requires saves { IsWorking T.has_failed trace.old }
-    requires works { W.has_failed out.old ≡ false }
-{
-    let alloc = rt.alloc();
-    if shown {
-        let mut observer = SearchProgress::new(rt, rt);
-        explore_watched(
-            alloc,
-            file,
-            config,
-            asked,
-            every,
-            trace,
-            &mut observer,
-            out,
-            err,
-        )
-    } else {
-        let mut observer = NoProgress;
-        explore_watched(
-            alloc,
-            file,
-            config,
-            asked,
-            every,
-            trace,
-            &mut observer,
-            out,
-            err,
-        )
-    }
-}
-
-/// Explores an image, on a machine of one size or of every size.
-fn explore_watched<F: LinkRead, T: LinkWrite, G: SearchObserver, W: LinkWrite, E: Write>(
-    alloc: Global,
-    file: &mut F,
-    config: Config,
-    asked: Asked<'_>,
-    every: bool,
-    trace: &mut Option<T>,
-    observer: &mut G,
-    out: &mut W,
-    err: &mut E,
-) -> u8
-    requires reads { F.has_failed file.old ≡ false }
-    requires saves { IsWorking T.has_failed trace.old }
-    requires works { W.has_failed out.old ≡ false }
-{
-    if every {
-        explore_every_size(alloc, file, config, asked, observer, out, err)
-    } else {
-        explore_command(alloc, file, config, asked, trace, observer, out, err)
-    }
-}
-
-/// Does what `hunt FILE` asks for. The first write to a trace opens it. The progress of the hunt is reported on a
-/// terminal.
-fn hunt_file<'a, R: Files + Input + Clock + Eprint + AllocGlobal, W: LinkWrite, E: Write>(
-    rt: &R,
-    hunt: &Hunt<'a>,
-    terminal: bool,
-    reason: &Reason,
-    out: &mut W,
-    err: &mut E,
-) -> Result<u8, Refusal<'a>>
-    requires works { W.has_failed out.old ≡ false }
-{
-    let words = words_of(rt.alloc(), hunt.observe, &hunt.sizes)?;
-    if let Some(prefix) = hunt.trace {
-        look_for_folder(rt, prefix)?;
-    }
-    let mut file = Meter::new(open(rt, hunt.file, reason)?);
-    let config = config_of(&hunt.sizes);
-    let runs = Hunted {
-        budget: hunt.budget,
-        runs: hunt.runs,
-        start: hunt.start,
-        expect_one: hunt.expect_one,
-        observed: words.as_ref(),
-    };
-    let alloc = rt.alloc();
-    let mut traces = match hunt.trace {
-        Some(prefix) => Some(TraceFiles {
-            alloc,
-            files: rt,
-            image: hunt.file,
-            prefix,
-            overwrite: hunt.overwrite,
-        }),
-        None => None,
-    };
-    Ok(if terminal && !hunt.quiet {
-        let mut observer = HuntProgress::new(rt, rt);
-        hunt_command(
-            alloc,
-            &mut file,
-            config,
-            runs,
-            &mut traces,
-            &mut observer,
-            out,
-            err,
-        )
-    } else {
-        let mut observer = NoHuntProgress;
-        hunt_command(
-            alloc,
-            &mut file,
-            config,
-            runs,
-            &mut traces,
-            &mut observer,
-            out,
-            err,
-        )
-    })
 }
 
 /// Does what `debug FILE` asks for, over standard input and output or at a port.
@@ -933,7 +573,7 @@ fn debug_over<'a, C: Connect, R: Files + Input + Wait + AllocGlobal, E: Write>(
     err: &mut E,
 ) -> Result<u8, Refusal<'a>> {
     let mut file = Meter::new(open_beside_trace(rt, session.file, session.trace, reason)?);
-    let config = config_of(&session.sizes);
+    let config = session.sizes.config();
     let mut trace = trace_to(rt, session.trace, reason);
     let budget = session.budget;
     Ok(debug_command(

@@ -4,6 +4,7 @@
 mod comparisons;
 mod devices;
 mod ends;
+mod filters;
 mod lassos;
 mod properties;
 mod sizes;
@@ -39,6 +40,7 @@ const fn up_to_exchanges(limit: u32) -> Asked<'static> {
         fair: false,
         witness: None,
         observed: None,
+        filter: None,
     }
 }
 
@@ -50,6 +52,7 @@ const fn each(limit: u32) -> Asked<'static> {
         fair: false,
         witness: None,
         observed: None,
+        filter: None,
     }
 }
 

@@ -3,9 +3,8 @@
 use link::Meter;
 use std::alloc::Global;
 use std::test::Fail;
-use study_command::{
-    Column, Layout, Size, StudyFormat, column_named, size_list, sizes_of, study_command,
-};
+use study_command::{StudyFormat, size_list, study_command};
+use study_rows::{Column, Layout, Size, column_named, sizes_of};
 use test_support::{Ran, Sink, assert_same, image_of, ran, size};
 
 /// The most steps of a run that is to end by itself.

@@ -25,7 +25,7 @@ fn states(
 ) -> Result<Result<usize, Refusal>, Fail> {
     Ok(match explored(alloc, text, k, search)? {
         Ok(found) => Ok(found.states),
-        Err(refusal) => Err(refusal),
+        Err(given_up) => Err(given_up.why()),
     })
 }
 

@@ -2,8 +2,9 @@
 //! begins at 0x10000, and an instruction has four bytes.
 
 use super::texts::{LOST_SUM, SPIN};
-use exploration::{Judged, NoProgress, Refusal, Verdict, judge};
+use exploration::{NoProgress, Refusal};
 use flat_machine::Config;
+use property_search::{Judged, Verdict, judge};
 use state_conditions::{Condition, Kind, Property, wrong_part};
 use std::alloc::Global;
 use std::process::Abort;
@@ -33,7 +34,7 @@ fn judged(
         ..tight_size(k)
     };
     let machine = machine_of(alloc, text, config)?;
-    let Some(condition) = Condition::of_text(alloc, condition, 16)? else {
+    let Some(condition) = Condition::of_text(alloc, condition, 16, &None)? else {
         return Err(Fail::new(format_args!("no condition: {condition}")));
     };
     let property = Property { kind, condition };
@@ -215,7 +216,7 @@ fn a_search_for_a_property_gives_up(rt: HostRuntime) -> Result<(), Fail> {
         ..tight_size(1)
     };
     let machine = machine_of(rt.alloc(), LOST_SUM, config)?;
-    let Some(condition) = Condition::of_text(rt.alloc(), "any fault", 16)? else {
+    let Some(condition) = Condition::of_text(rt.alloc(), "any fault", 16, &None)? else {
         return Err(Fail::new(format_args!("no condition")));
     };
     let property = Property {
@@ -255,9 +256,9 @@ fn other_texts_are_no_conditions(rt: HostRuntime) -> Result<(), Fail> {
         ("faulted == 0", true),
         ("", false),
     ] {
-        let read = Condition::of_text(rt.alloc(), text, 16)?;
+        let read = Condition::of_text(rt.alloc(), text, 16, &None)?;
         assert_same!(rt; read.is_some(), is_condition, text);
-        assert_same!(rt; wrong_part(text, 16).is_none(), is_condition, text);
+        assert_same!(rt; wrong_part(text, 16, &None).is_none(), is_condition, text);
     }
     Ok(())
 }

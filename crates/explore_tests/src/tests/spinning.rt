@@ -90,7 +90,7 @@ fn others_go_on_too_long(rt: HostRuntime) -> Result<(), Fail> {
     for text in [COUNTS_ON_LOCALLY, PRINTS_ON] {
         let refusal = match explored(rt.alloc(), text, 0, each(100))? {
             Ok(_) => None,
-            Err(refusal) => Some(refusal),
+            Err(given_up) => Some(given_up.why()),
         };
         assert_same!(rt; refusal, Some(Refusal::Alone), text);
     }

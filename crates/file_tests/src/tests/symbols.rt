@@ -224,3 +224,32 @@ fn symbols_of_lines(rt: HostRuntime) {
         compare(&rt, LINES.as_bytes(), row);
     }
 }
+
+/// Lines with two symbols of one name, the higher address first.
+static NAMES: &str = "00010010 t loop
+80000000 00000004 D count
+00010008 t loop
+00010000 T start
+00010004 T $x
+";
+
+/// Names, with their addresses.
+static ADDRESSES: [(&str, Option<u32>); 7] = [
+    ("start", Some(0x0001_0000)),
+    ("loop", Some(0x0001_0008)),
+    ("count", Some(0x8000_0000)),
+    ("Loop", None),
+    ("loo", None),
+    ("$x", None),
+    ("", None),
+];
+
+#[test]
+fn addresses_of_names(rt: HostRuntime) {
+    let table = SymbolTable::of_file(rt.alloc(), NAMES.as_bytes()).expect(&rt, "memory");
+    for (name, address) in &ADDRESSES {
+        assert_same!(rt; table.address(name), *address, *name);
+    }
+    let of_an_elf_file = SymbolTable::of_file(rt.alloc(), &FILE).expect(&rt, "memory");
+    assert_same!(rt; of_an_elf_file.address("end"), Some(0x0001_0024));
+}

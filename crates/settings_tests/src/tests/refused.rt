@@ -17,7 +17,7 @@ pub fn compare_first(rt: &(impl Abort + AllocGlobal), most: usize) -> bool {
 }
 
 /// Command lines with a number out of its range: the option, the number and the range.
-static OUT_OF_RANGE: [(&str, &str, &str, &str); 36] = [
+static OUT_OF_RANGE: [(&str, &str, &str, &str); 37] = [
     ("dis --words 0 a.elf", "--words", "0", "1..=262144"),
     (
         "dis a.elf --words=262145",
@@ -107,6 +107,12 @@ static OUT_OF_RANGE: [(&str, &str, &str, &str); 36] = [
         "1..=4294967295",
     ),
     (
+        "explore a.elf --seconds 0",
+        "--seconds",
+        "0",
+        "1..=4294967295",
+    ),
+    (
         "explore a.elf --states 4294967296",
         "--states",
         "4294967296",
@@ -182,7 +188,7 @@ fn no_numbers(rt: &(impl Abort + AllocGlobal), most: usize) -> bool {
 }
 
 /// Command lines with an argument that is given twice.
-static TWICE: [(&str, &str); 16] = [
+static TWICE: [(&str, &str); 17] = [
     ("dis --words 1 --words 2 a.elf", "--words <NUMBER>"),
     ("run --k 3 a.elf --k 3", "--k <NUMBER>"),
     ("run --c 3 a.elf --c 3", "--c <NUMBER>"),
@@ -199,6 +205,10 @@ static TWICE: [(&str, &str); 16] = [
     ),
     ("order --word 1 a.trace --word 1 a.elf", "--word <NUMBER>"),
     ("explore a.elf --states 1 --states 1", "--states <NUMBER>"),
+    (
+        "explore a.elf --seconds 1 --seconds 1",
+        "--seconds <NUMBER>",
+    ),
     ("explore --every a.elf --every", "--every"),
     (
         "explore a.elf --witness 1 --witness 2 --trace t",

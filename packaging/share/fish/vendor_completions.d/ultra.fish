@@ -117,8 +117,9 @@ complete -c ultra -n '__ultra_has_command hunt' -l start -x -d 'Number of the fi
 complete -c ultra -n '__ultra_has_command hunt' -l help -d 'Print help'
 complete -c ultra -n '__ultra_wants_more hunt 1 --trace --observe --symbols --k --c --b --r --words --budget --runs --start' -F
 
-complete -c ultra -n '__ultra_has_command explore' -l trace -r -F -d 'Where to write the steps to the result that --witness names, or with --fair those of a lasso, for `ultra replay`; opened then'
+complete -c ultra -n '__ultra_has_command explore' -l trace -r -F -d 'Where to write the steps to the result of --witness, those of a lasso, or those that break a property, for `ultra replay`; opened then'
 complete -c ultra -n '__ultra_has_command explore' -l observe -x -d 'Words by which results differ, as `0-3,8`; they are printed without others [default: all]'
+complete -c ultra -n '__ultra_has_command explore' -l filter -r -F -d 'Print only the results that satisfy the condition, as `word 0 == 1`; not with --every or --against'
 complete -c ultra -n '__ultra_has_command explore' -l against -r -F -d 'Print only the results that the image SPEC does not have; not with --every or --witness'
 complete -c ultra -n '__ultra_has_command explore' -l never -r -F -d 'Print instead whether no state between references satisfies the condition, as `at 0x10010-0x10020 > 1`'
 complete -c ultra -n '__ultra_has_command explore' -l always -r -F -d 'Print instead whether each state does'
@@ -136,9 +137,10 @@ complete -c ultra -n '__ultra_has_command explore' -l b -x -a '0 1 2 3 4 5 6 7 8
 complete -c ultra -n '__ultra_has_command explore' -l r -x -a '1 2 3' -d 'Times that a request in a queue of a switch is combined, 1 to 3, and fewer than --c [default: 1]'
 complete -c ultra -n '__ultra_has_command explore' -l words -x -d 'Shared words of four bytes that the machine has, 1 to 262144 [default: 1024]'
 complete -c ultra -n '__ultra_has_command explore' -l states -x -d 'Give up when this many states are found, 1 to 4294967295 [default: 1000000]'
+complete -c ultra -n '__ultra_has_command explore' -l seconds -x -d 'Give up a search after so many seconds, 1 to 4294967295'
 complete -c ultra -n '__ultra_has_command explore' -l witness -x -d 'Write the trace of a path to the result of this number, or with 0 to the first state without a path to an end; goes with --trace'
 complete -c ultra -n '__ultra_has_command explore' -l help -d 'Print help'
-complete -c ultra -n '__ultra_wants_more explore 1 --trace --observe --against --never --always --finally --symbols --k --c --b --r --words --states --witness' -F
+complete -c ultra -n '__ultra_wants_more explore 1 --trace --observe --filter --against --never --always --finally --symbols --k --c --b --r --words --states --seconds --witness' -F
 
 complete -c ultra -n '__ultra_has_command replay' -l words -x -d 'Shared words of four bytes that the machine has, 1 to 262144 [default: 1024]'
 complete -c ultra -n '__ultra_has_command replay' -l symbols -r -F -d 'Print names beside addresses and words, from the symbol table of an ELF file or from what `nm` prints; not with --json'

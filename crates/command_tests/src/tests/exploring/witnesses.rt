@@ -174,6 +174,7 @@ fn observed_results_are_come_to(rt: HostRuntime) -> Result<(), Fail> {
         fair: false,
         witness: None,
         observed: Some(&words),
+        filter: None,
     };
     leads_to(&rt, alloc, file.as_slice(), search, 1, "00000002")?;
     let said = "error: an end can be reached from each state\n";

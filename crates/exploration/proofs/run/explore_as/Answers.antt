@@ -7,11 +7,10 @@ use Rattle.state_graph.specs.Laws.{IsTerminationOf}
 use Rattle.machine_steps.specs.Openings.{flat_state}
 use Rattle.exploration.specs.Results.{IsMachineResult}
 use Rattle.exploration.specs.Fairness.{IsFairnessOf}
-use Rattle.exploration.specs.States.{AreAllStates, HasManyStates}
+use Rattle.exploration.specs.States.{AreAllStates}
 use Rattle.state_search.specs.state_store.declared.state_tables.Extent.{Extent}
-use Rattle.state_search.proofs.Lemmas.{given_up_on}
 use Rattle.state_search.specs.state_store.Opening.{flat_of}
-use Rattle.exploration.proofs.Exploring.{are_read, few_processors, flat_is, of_extent, wide, single}
+use Rattle.exploration.proofs.Exploring.{are_read, ends_as, few_processors, flat_is, of_extent, wide, single}
 use Rattle.exploration.proofs.run.explore_as.Goals as goal
 
 pub explored_by_width-requires : goal.explored_by_width-requires
@@ -51,6 +50,9 @@ returns-in_err-explored-clause-given_up g c =
     let seen = are_read c.machine_is_well_formed.ensures c.extent_of-extent.ensures (c.as_slice-all.ensures.value ∙ c.in-Ok.ensures) c.in-Ok-words_of.ensures in
     let flat : flat_of c.deref-code.result.now c.as_slice-all.result.now c.in-Ok-words_of.words ≡ flat_state m =
     ap (λ k. flat_of k c.as_slice-all.result.now c.in-Ok-words_of.words) (c.deref-code.ensures ∙ c.code.ensures) ∙ flat_is seen in
+    let law : (r : FinalResult) → IsMachineResult m r ↔ IsFlatResult (flat_state m) r =
+    λ r. c.results_are_those_of_the_flat_machine.ensures.results m r c.machine_is_well_formed.ensures c.requires.idle in
     let p = err_from_is_err_and c.from_residual.result c.from_residual.ensures.1 in
     rw (p.1, p.2)
-    (given_up_on _ _ (subst (λ (n : FlatState). HasManyStates n c.args.wish.limit) flat) _ c.in_err-explored.ensures.given_up)
+    (ends_as _ (IsMachineResult m) _ (flat_state m) c.args.wish.limit
+    (λ r h. (law r).1 (subst (λ (n : FlatState). IsFlatResult n r) flat h)) flat _ c.in_err-explored.ensures.given_up)

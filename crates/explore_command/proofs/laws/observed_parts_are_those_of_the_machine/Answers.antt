@@ -1,13 +1,5 @@
-use Rattle.std.proofs.Common.{List, ℕ, refl}
-use Rattle.exploration.specs.local_reduction.Results.{FinalResult, StandsFor}
+use Rattle.explore_command.proofs.Exchanges.{stands_for_itself}
 use Rattle.explore_command.proofs.laws.observed_parts_are_those_of_the_machine.Goals as goal
-
--- A result stands for itself.
-stands_for_itself : (classes : List ℕ) (r : FinalResult) → StandsFor classes r r
-stands_for_itself classes r = (
-  record { place = λ k. k; taker = λ k. k; taken = λ i. refl; takes = λ k. refl; alike = λ k. refl },
-  record { words = refl; each = λ k. refl },
-)
 
 pub returns-clause-sound : goal.returns-clause-sound
 returns-clause-sound c = λ m classes results marks text all inside.

@@ -1,46 +1,57 @@
-use Rattle.std.proofs.Common.{◌<◌, ◌^◌, ◌++◌, not, subst, ap, ◌∙◌}
+use Rattle.std.proofs.Common.{◌<◌, ◌^◌, Some, not, ap, refl, subst, ◌∙◌}
+use Rattle.std.specs.Prelude.{string_bytes}
 use Rattle.std.proofs.lemmas.Result.{err_from_is_err_and}
 use Rattle.flat_machine.specs.declared.config.Config.{Config}
+use Rattle.machine_steps.specs.Openings.{flat_state}
 use Rattle.exploration.specs.Endings.{AreSingle}
-use Rattle.explore_command.specs.Explorations.{IsExitOf}
-use Rattle.explore_command.specs.Lassos.{fairness_text}
-use Rattle.observed_results.specs.Lines.{parts_lines}
-use Rattle.observed_results.specs.Parts.{AreParts}
+use Rattle.exploration.specs.Refusals.{why_of}
+use Rattle.exploration.specs.States.{IsGivenUp}
+use Rattle.run_reports.specs.RunReports.{trace_output}
+use Rattle.explore_command.specs.Explorations.{problem_of}
+use Rattle.explore_command.proofs.NotFound.{not_given_up, part_reported}
 use Rattle.explore_command.proofs.observing.explore_observed.Goals as goal
 
-pub returns-in_err-save_wanted-clause-refused : goal.returns-in_err-save_wanted-clause-refused
-returns-in_err-save_wanted-clause-refused g c =
-    let p = err_from_is_err_and c.from_residual-in_err-save_wanted.result c.from_residual-in_err-save_wanted.ensures.1 in
-    let parts = subst (λ rs. AreParts c.args.words.now rs c.in_ok-parts.parts) c.as_slice-results.ensures.value c.in_ok-parts.ensures in
-    rw (p.1, p.2) (c.in_err-save_wanted.ensures.refused c.args.words.now parts)
-
-pub returns-clause-lines : goal.returns-clause-lines
-returns-clause-lines g c =
-    let found = c.in_ok-found.found in
-    let marks = c.args.words.now in
-    let parts = subst (λ rs. AreParts marks rs c.in_ok-parts.parts) c.as_slice-results.ensures.value c.in_ok-parts.ensures in
+pub report_parts-requires : goal.report_parts-requires
+report_parts-requires g c =
+    let found = c.in-Ok.found in
     record {
+      opens = c.requires.opens;
+      words = c.requires.words;
+      works = c.requires.works;
+      all = c.in-Ok.ensures.results;
+      fact = c.in-Ok.ensures.termination;
+      fair = c.in-Ok.ensures.fairness;
       found = record {
-        classes = found.classes.items;
-        results = found.results.items;
-        termination = found.termination;
-        fairness = found.fairness;
-        states = found.states;
-      };
-      is = record {
         opening = c.args.machine.now;
         opens = c.requires.opens;
-        all = c.in_ok-found.ensures.results;
+        all = c.in-Ok.ensures.results;
         single = λ each. subst (λ (d : Config). AreSingle (2 ^ d.k) found.classes.items) c.requires.opens.config
-            (c.in_ok-found.ensures.single (c.search_of.ensures.exchanged ∙ ap not each));
-        fact = c.in_ok-found.ensures.termination;
-        fair = c.in_ok-found.ensures.fairness;
-        counted = c.in_ok-found.ensures.states;
-        few = subst (λ n. found.states < n) c.search_of.ensures.limit c.in_ok-found.ensures.few;
+            (c.in-Ok.ensures.single (c.search_of.ensures.exchanged ∙ ap not each));
+        fact = c.in-Ok.ensures.termination;
+        fair = c.in-Ok.ensures.fairness;
+        counted = c.in-Ok.ensures.states;
+        few = subst (λ n. found.states < n) c.search_of.ensures.limit c.in-Ok.ensures.few;
       };
-      lines = c.in_ok-push_fairness.ensures
-          ∙ ap (λ text. text ++ fairness_text c.args.asked.fair found.fairness) (c.in_ok-text.ensures
-          ∙ (λ j. parts_lines (parts.are j) (c.as_slice-classes.ensures.value j) found.states found.termination));
-      exit = subst (λ rs. IsExitOf rs found.termination c.exit_status.result) c.as_slice-results.ensures.value c.exit_status.ensures.exit;
-      witnessed = c.in_ok-save_wanted.ensures.saved marks parts;
     }
+
+pub returns-in_ok-report_part-in-Err-clause-report : goal.returns-in_ok-report_part-in-Err-clause-report
+returns-in_ok-report_part-in-Err-clause-report g c =
+    let m = c.args.machine.now in
+    let given_up = c.in-Err.given_up in
+    let shown = c.in_ok-report_part-in-Err.field-0 in
+    part_reported (Some c.args.words.now) (problem_of c.args.config m.image c.args.asked)
+    (trace_output g.T.Write.contents c.args.trace.now c.args.trace.now) m c.requires.opens refl given_up
+    (subst (λ n. IsGivenUp (flat_state m) n (why_of given_up)) c.search_of.ensures.limit c.in-Err.ensures.given_up)
+    c.in-Err.ensures.so_far (string_bytes shown.text) shown.end c.in_ok-report_part-in-Err.ensures.lines
+    c.in_ok-report_part-in-Err.ensures.end
+
+pub returns-in_err-report_part-in-Err-clause-refused : goal.returns-in_err-report_part-in-Err-clause-refused
+returns-in_err-report_part-in-Err-clause-refused g c =
+    let x = err_from_is_err_and c.from_residual.result c.from_residual.ensures.1 in
+    let m = c.args.machine.now in
+    let given_up = c.in-Err.given_up in
+    rw (x.1, x.2)
+    (not_given_up (Some c.args.words.now) (problem_of c.args.config m.image c.args.asked)
+    (trace_output g.T.Write.contents c.args.trace.now c.args.trace.now) m c.requires.opens refl given_up
+    (subst (λ n. IsGivenUp (flat_state m) n (why_of given_up)) c.search_of.ensures.limit c.in-Err.ensures.given_up)
+    c.in_err-report_part-in-Err.field-0.0 c.in_err-report_part-in-Err.ensures.fault)

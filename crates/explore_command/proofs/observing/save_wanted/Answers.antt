@@ -1,6 +1,6 @@
 use Rattle.std.proofs.Common.{List, Some, refl, subst}
 use Rattle.std.proofs.lemmas.Result.{err_from_is_err_and}
-use Rattle.steps.specs.declared.step.Step.{Step}
+use Rattle.machine_steps.specs.steps.declared.step.Step.{Step}
 use Rattle.trace_file.specs.Traces.{trace_bytes, trace_of}
 use Rattle.run_reports.specs.RunReports.{HasPartSaved, HasSaved, trace_output}
 use Rattle.explore_command.specs.Explorations.{problem_of, search_result}

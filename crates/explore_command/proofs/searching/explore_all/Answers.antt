@@ -1,56 +1,54 @@
-use Rattle.std.proofs.Common.{◌<◌, ◌^◌, ◌++◌, List, ℕ, None, not, ap, ap₂, subst, ◌∙◌}
+use Rattle.std.proofs.Common.{◌<◌, ◌^◌, None, not, ap, refl, subst, ◌∙◌}
+use Rattle.std.specs.Prelude.{string_bytes}
 use Rattle.std.proofs.lemmas.Result.{err_from_is_err_and}
 use Rattle.flat_machine.specs.declared.config.Config.{Config}
 use Rattle.exploration.specs.Endings.{AreSingle}
-use Rattle.exploration.specs.local_reduction.Results.{FinalResult}
-use Rattle.explore_command.specs.Causes.{IsNotSaved}
-use Rattle.explore_command.specs.Explorations.{IsExitOf, IsWitnessed, problem_of, search_result}
-use Rattle.explore_command.specs.Lassos.{fairness_text}
+use Rattle.exploration.specs.Refusals.{why_of}
+use Rattle.exploration.specs.States.{IsGivenUp}
+use Rattle.machine_steps.specs.Openings.{flat_state}
 use Rattle.run_reports.specs.RunReports.{trace_output}
-use Rattle.observed_results.specs.Lines.{results_lines}
-use Rattle.explore_command.proofs.NotFound.{not_saved}
+use Rattle.explore_command.specs.Explorations.{filter_of, problem_of}
+use Rattle.explore_command.proofs.NotFound.{lines_of_all, not_given_up, part_reported}
 use Rattle.explore_command.proofs.searching.explore_all.Goals as goal
 
-pub returns-in_err-save_witness-clause-refused : goal.returns-in_err-save_witness-clause-refused
-returns-in_err-save_witness-clause-refused g c =
-    let p = err_from_is_err_and c.from_residual-in_err-save_witness.result c.from_residual-in_err-save_witness.ensures.1 in
-    let found = c.in_ok-found.found in
-    let result = search_result found.classes.items found.results.items found.termination found.fairness found.states in
-    let trace = trace_output g.T.Write.contents c.args.trace.now c.save_witness.new.trace in
-    rw (p.1, p.2)
-    (not_saved None (problem_of c.args.config c.args.machine.now.image c.args.asked) trace c.args.machine.now c.requires.opens result
-    c.in_ok-found.ensures.results c.in_ok-found.ensures.termination c.in_ok-found.ensures.fairness c.in_err-save_witness.field-0.0
-    (subst (λ image. IsNotSaved None (problem_of c.args.config image c.args.asked) result trace c.in_err-save_witness.field-0.0) c.image.ensures
-    c.in_err-save_witness.ensures.refused))
-
-pub returns-clause-lines : goal.returns-clause-lines
-returns-clause-lines g c =
-    let found = c.in_ok-found.found in
-    let shown = ap₂ (λ (rs : List FinalResult) (cs : List ℕ). results_lines rs cs found.states found.termination)
-    c.as_slice-results.ensures.value c.as_slice-classes.ensures.value in
+pub report_all-requires : goal.report_all-requires
+report_all-requires g c =
+    let found = c.in-Ok.found in
     record {
+      opens = c.requires.opens;
+      words = c.requires.words;
+      works = c.requires.works;
       found = record {
-        classes = found.classes.items;
-        results = found.results.items;
-        termination = found.termination;
-        fairness = found.fairness;
-        states = found.states;
-      };
-      is = record {
         opening = c.args.machine.now;
         opens = c.requires.opens;
-        all = c.in_ok-found.ensures.results;
+        all = c.in-Ok.ensures.results;
         single = λ each. subst (λ (d : Config). AreSingle (2 ^ d.k) found.classes.items) c.requires.opens.config
-            (c.in_ok-found.ensures.single (c.search_of-search.ensures.exchanged ∙ ap not each));
-        fact = c.in_ok-found.ensures.termination;
-        fair = c.in_ok-found.ensures.fairness;
-        counted = c.in_ok-found.ensures.states;
-        few = subst (λ n. found.states < n) c.search_of-search.ensures.limit c.in_ok-found.ensures.few;
+            (c.in-Ok.ensures.single (c.search_of-search.ensures.exchanged ∙ ap not each));
+        fact = c.in-Ok.ensures.termination;
+        fair = c.in-Ok.ensures.fairness;
+        counted = c.in-Ok.ensures.states;
+        few = subst (λ n. found.states < n) c.search_of-search.ensures.limit c.in-Ok.ensures.few;
       };
-      lines = c.in_ok-push_fairness.ensures
-          ∙ ap (λ text. text ++ fairness_text c.args.asked.fair found.fairness) (c.in_ok-text.ensures ∙ shown);
-      exit = subst (λ rs. IsExitOf rs found.termination c.exit_status.result) c.as_slice-results.ensures.value c.exit_status.ensures.exit;
-      witnessed = subst (λ image. IsWitnessed None (problem_of c.args.config image c.args.asked)
-          (search_result found.classes.items found.results.items found.termination found.fairness found.states)
-          (trace_output g.T.Write.contents c.args.trace.now c.save_witness.new.trace)) c.image.ensures c.in_ok-save_witness.ensures.saved;
     }
+
+pub returns-in_ok-report_part-in-Err-clause-report : goal.returns-in_ok-report_part-in-Err-clause-report
+returns-in_ok-report_part-in-Err-clause-report g c =
+    let m = c.args.machine.now in
+    let p = problem_of c.args.config m.image c.args.asked in
+    let given_up = c.in-Err.given_up in
+    part_reported None p (trace_output g.T.Write.contents c.args.trace.now c.args.trace.now) m c.requires.opens refl given_up
+    (subst (λ n. IsGivenUp (flat_state m) n (why_of given_up)) c.search_of-search.ensures.limit c.in-Err.ensures.given_up)
+    c.in-Err.ensures.so_far (string_bytes c.in_ok-report_part-in-Err.field-0.text) c.in_ok-report_part-in-Err.field-0.end
+    (lines_of_all (filter_of c.args.asked) given_up (string_bytes c.in_ok-report_part-in-Err.field-0.text) c.in_ok-report_part-in-Err.ensures.lines)
+    c.in_ok-report_part-in-Err.ensures.end
+
+pub returns-in_err-report_part-in-Err-clause-refused : goal.returns-in_err-report_part-in-Err-clause-refused
+returns-in_err-report_part-in-Err-clause-refused g c =
+    let x = err_from_is_err_and c.from_residual.result c.from_residual.ensures.1 in
+    let m = c.args.machine.now in
+    let p = problem_of c.args.config m.image c.args.asked in
+    let given_up = c.in-Err.given_up in
+    rw (x.1, x.2)
+    (not_given_up None p (trace_output g.T.Write.contents c.args.trace.now c.args.trace.now) m c.requires.opens refl given_up
+    (subst (λ n. IsGivenUp (flat_state m) n (why_of given_up)) c.search_of-search.ensures.limit c.in-Err.ensures.given_up)
+    c.in_err-report_part-in-Err.field-0.0 c.in_err-report_part-in-Err.ensures.fault)

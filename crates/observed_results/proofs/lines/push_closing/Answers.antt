@@ -1,6 +1,6 @@
 use Rattle.std.proofs.Common.{List, ℕ, ◌++◌, ◌∙◌, ap, append_assoc, codes, string_bytes}
 use Rattle.command_io.specs.Digits.{line_feed}
-use Rattle.observed_results.specs.Lines.{counted, schedules_text}
+use Rattle.observed_results.specs.Lines.{counted, end_text}
 use Rattle.observed_results.proofs.lines.push_closing.Goals as goal
 
 pub returns : goal.returns
@@ -15,6 +15,6 @@ returns c =
     let third = ap (λ (x : List ℕ). x ++ line_feed) second ∙ append_assoc before (results ++ comma ++ states) line_feed in
     c.in_ok-push_str.ensures.bytes
     ∙ ap (λ (x : List ℕ). x ++ line_feed)
-    (c.in_ok-push_schedules.ensures
-    ∙ ap (λ (x : List ℕ). x ++ schedules_text c.args.termination)
+    (c.in_ok-push_end.ensures
+    ∙ ap (λ (x : List ℕ). x ++ end_text c.args.termination)
     (c.in_ok-push_counts.ensures ∙ (third ∙ ap (λ (x : List ℕ). x ++ counts) c.in_ok-push_classes.ensures)))

@@ -9,7 +9,8 @@ returns-in_default-part_of c =
     let rest = c.loop-part.rest.now in
     let at = c.in-Some.ensures.byte (omega arith) (λ w o found. found) in
     let cut = cut_at_first 38 rest c.in-Some.part.now c.in-Some.after.now at.0 at.1 at.2 in
-    sym (not_read (λ part. part_in c.args.shared_words (words_of part)) (conjunction_in c.args.shared_words c.args.text.now) c.in-Some.part.now
+    sym (not_read (λ part. part_in c.args.names.now c.args.shared_words (words_of part))
+    (conjunction_in c.args.names.now c.args.shared_words c.args.text.now) c.in-Some.part.now
     (slice_split (λ b. b == 38) c.in-Some.after.now) (slice_split (λ b. b == 38) rest) cut c.loop-part.parts.items c.loop-part.invariant.read
     (sym c.in_default-part_of.is ∙ c.part_of.ensures))
 
@@ -20,7 +21,8 @@ loop-part-preserved c =
     let cut = cut_at_first 38 rest c.in-Some.part.now c.in-Some.after.now at.0 at.1 at.2 in
     record {
       text = search rules;
-      read = read_on (λ part. part_in c.args.shared_words (words_of part)) (conjunction_in c.args.shared_words c.args.text.now) c.in-Some.part.now
+      read = read_on (λ part. part_in c.args.names.now c.args.shared_words (words_of part))
+          (conjunction_in c.args.names.now c.args.shared_words c.args.text.now) c.in-Some.part.now
           (slice_split (λ b. b == 38) c.in-Some.after.now) (slice_split (λ b. b == 38) rest) cut c.loop-part.parts.items c.loop-part.invariant.read
           c.in-Some-part_of.comparison c.push.new.self.items (sym c.in-Some-part_of.is ∙ c.part_of.ensures) c.in_ok-push.ensures.items;
     }
@@ -29,13 +31,15 @@ pub returns-in_default-part_of-2 : goal.returns-in_default-part_of-2
 returns-in_default-part_of-2 c =
     let rest = c.loop-part.rest.now in
     let cut = one_item 38 rest (c.in_default.ensures.byte (omega arith) (λ w o found. found)) in
-    sym (not_read (λ part. part_in c.args.shared_words (words_of part)) (conjunction_in c.args.shared_words c.args.text.now) rest []
+    sym (not_read (λ part. part_in c.args.names.now c.args.shared_words (words_of part))
+    (conjunction_in c.args.names.now c.args.shared_words c.args.text.now) rest []
     (slice_split (λ b. b == 38) rest) cut c.loop-part.parts.items c.loop-part.invariant.read (sym c.in_default-part_of-2.is ∙ c.part_of-2.ensures))
 
 pub returns : goal.returns
 returns c =
     let rest = c.loop-part.rest.now in
     let cut = one_item 38 rest (c.in_default.ensures.byte (omega arith) (λ w o found. found)) in
-    read_last (λ part. part_in c.args.shared_words (words_of part)) (conjunction_in c.args.shared_words c.args.text.now) rest
+    read_last (λ part. part_in c.args.names.now c.args.shared_words (words_of part))
+    (conjunction_in c.args.names.now c.args.shared_words c.args.text.now) rest
     (slice_split (λ b. b == 38) rest) cut c.loop-part.parts.items c.loop-part.invariant.read c.in-Some-part_of-2.comparison c.push-2.new.self.items
     (sym c.in-Some-part_of-2.is ∙ c.part_of-2.ensures) c.in_ok-push-2.ensures.items

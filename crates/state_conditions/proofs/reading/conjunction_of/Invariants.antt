@@ -9,8 +9,8 @@ use Rattle.state_conditions.proofs.reading.conjunction_of.Given as goal
 abbrev pub invariant-loop-part : goal.invariant-loop-part
 invariant-loop-part l = record {
   text : shadow (Utf8 l.rest);
-  read : conjunction_in l.shared_words l.text
-      ≡ option_map (λ more. l.parts.items ++ more) (all_read (λ part. part_in l.shared_words (words_of part)) (slice_split (λ b. b == 38) l.rest));
+  read : conjunction_in l.names l.shared_words l.text
+      ≡ option_map (λ more. l.parts.items ++ more) (all_read (λ part. part_in l.names l.shared_words (words_of part)) (slice_split (λ b. b == 38) l.rest));
 }
 
 abbrev pub decreases-loop-part : goal.decreases-loop-part

@@ -74,13 +74,10 @@ returns-in_default-copied-clause-searched g c =
     subst (Searched c.args.extent c.args.code.now c.args.classes.now c.loop-at.state_tables c.loop-at.found.rows.keys c.loop-at.found.moves
     (means c.args.extent c.args.state_tables.now c.args.first)) all c.loop-at.invariant.searched
 
-pub returns-then-len-limit-clause-many : goal.returns-then-len-limit-clause-many
-returns-then-len-limit-clause-many g c = (
-  c.loop-at.invariant.kept,
-  record {
-    moves = c.loop-at.found.moves;
-    done = c.loop-at.at;
-    searched = c.loop-at.invariant.searched;
-    many = omega arith;
-  },
-)
+pub returns-then-len-limit-clause-some : goal.returns-then-len-limit-clause-some
+returns-then-len-limit-clause-some g c =
+    λ has. (c.loop-at.invariant.kept, record { done = c.loop-at.at; searched = c.loop-at.invariant.searched })
+
+pub returns-then-not-progress-clause-some : goal.returns-then-not-progress-clause-some
+returns-then-not-progress-clause-some g c =
+    λ has. (c.loop-at.invariant.kept, record { done = c.loop-at.at; searched = c.loop-at.invariant.searched })

@@ -1,4 +1,4 @@
-use Rattle.std.proofs.Common.{◌≡◌, ◌+◌, sym, subst, arith}
+use Rattle.std.proofs.Common.{◌+◌, sym, subst, arith}
 use Rattle.std.specs.Prelude.{IfSome}
 use Rattle.state_search.specs.Targets.{AreTargetsOf, IsTarget}
 use Rattle.state_store.specs.StateTables.{means}

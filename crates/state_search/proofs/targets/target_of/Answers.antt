@@ -1,5 +1,4 @@
-use Rattle.std.proofs.Common.{◌≡◌, Some, None, sym, ap, subst, arith}
-use Rattle.std.specs.Prelude.{IfSome}
+use Rattle.std.proofs.Common.{subst}
 use Rattle.state_store.specs.Moves.{IsNext}
 use Rattle.state_store.specs.StateTables.{means}
 use Rattle.state_search.proofs.Targeting.{moved_to}

@@ -3,8 +3,8 @@ use Rattle.std.specs.Prelude.{All}
 use Rattle.std.proofs.lemmas.List.{take_all, take_more}
 use Rattle.std.proofs.lemmas.List.Elements.{All-push}
 use Rattle.flat_machine.specs.Limits.{IsWithinLimits}
-use Rattle.study_command.specs.Sizes.{with_size}
-use Rattle.study_command.specs.declared.size.Size.{Size}
+use Rattle.study_rows.specs.Sizes.{with_size}
+use Rattle.study_rows.specs.declared.size.Size.{Size}
 use Rattle.study_command.proofs.running.check_sizes.Goals as goal
 
 pub loop-size-preserved : goal.loop-size-preserved

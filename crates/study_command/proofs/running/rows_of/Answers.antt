@@ -3,8 +3,8 @@ use Rattle.std.specs.List.{AllZip}
 use Rattle.std.proofs.lemmas.List.{get_or_default, take_more}
 use Rattle.std.proofs.lemmas.Result.{err_from_is_err_and}
 use Rattle.study_command.specs.Rows.{IsRow}
-use Rattle.study_command.specs.declared.row.Row.{Row}
-use Rattle.study_command.specs.declared.size.Size.{Size}
+use Rattle.study_rows.specs.declared.row.Row.{Row}
+use Rattle.study_rows.specs.declared.size.Size.{Size}
 use Rattle.study_command.proofs.Failing.{no_row}
 use Rattle.study_command.proofs.Growing.{zip_more}
 use Rattle.study_command.proofs.running.rows_of.Goals as goal

@@ -1,0 +1,2 @@
+pub mod NotJudged
+pub mod Seen

@@ -1,6 +1,0 @@
-use Rattle.std.proofs.Common.{◌≡◌, ◌++◌}
-use Rattle.std.specs.Prelude.{replicate, string_bytes}
-use Rattle.study_command.proofs.cells.push_blanks.Given as goal
-
-abbrev pub invariant-loop : goal.invariant-loop
-invariant-loop l = string_bytes l.text ≡ string_bytes l.initial.text ++ replicate l.counter 32

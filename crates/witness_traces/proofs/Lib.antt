@@ -1,0 +1,4 @@
+pub mod Leading
+pub mod Refusing
+pub mod Rounds
+pub mod Lemmas

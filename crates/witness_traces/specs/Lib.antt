@@ -1,0 +1,4 @@
+pub mod Rounds
+pub mod Witnesses
+pub mod Refusals
+pub mod Reports
