@@ -1,5 +1,6 @@
 -- What holds of all pages.
-use Rattle.std.specs.Prelude.{◌≡◌, ℕ, List, [], ◌∷◌, take}
+use Rattle.std.specs.Prelude.{◌≡◌, ℕ, ◌==◌, Bool, false, List, [], ◌∷◌, take}
+use Rattle.std.specs.List.{list_any}
 use Rattle.flat_machine.specs.declared.config.Config.{Config}
 use Rattle.elf_image.specs.Images.{ImageContents}
 use Rattle.steps.specs.declared.step.Step.{Step}
@@ -7,6 +8,7 @@ use Rattle.machine_steps.specs.Machines.{IsMachine, MachineLists, machine_of}
 use Rattle.machine_steps.specs.Runs.{IsOpening, IsRun, machine_after}
 use Rattle.page_command.specs.Changes.{Change, with_changes}
 use Rattle.page_command.specs.Openings.{opening_changes}
+use Rattle.page_command.specs.Pages.{escaped}
 use Rattle.page_command.specs.Steps.{changes_from}
 use Rattle.page_command.specs.Views.{AreSameViews, Part, View, blank, view_at, view_on}
 
@@ -37,3 +39,15 @@ ChangesLeadToViews = (c : Config) (image : ImageContents) (m : MachineLists) →
 abbrev pub ViewsAreOfMachines : Type 0
 ViewsAreOfMachines = (opening machine : MachineLists) (steps : List Step) → IsRun opening steps machine →
     (part : Part) → view_on opening.config opening.code (machine_after opening steps) part ≡ view_at machine part
+
+-- whether a byte begins a tag
+abbrev pub is_tag : ℕ → Bool
+is_tag byte = byte == 60
+
+-- whether a tag begins in a text
+abbrev pub has_tag : List ℕ → Bool
+has_tag text = list_any is_tag text
+
+-- No tag begins in an escaped text, so the data ends nowhere before its end.
+abbrev pub NoTagBegins : Type 0
+NoTagBegins = (text : List ℕ) → has_tag (escaped text) ≡ false

@@ -1,0 +1,9 @@
+pub mod Escapes
+pub mod Frames
+pub mod Leading
+pub mod Lists
+pub mod Moving
+pub mod Opening
+pub mod Putting
+pub mod Turning
+pub mod Writing
