@@ -1,5 +1,5 @@
 -- What `ultra page` prints.
-use Rattle.std.specs.Prelude.{◌≡◌, ℕ, ◌==◌, false, List, ◌++◌, None, codes, length, if◌then◌else◌}
+use Rattle.std.specs.Prelude.{◌≡◌, ℕ, ◌==◌, false, List, [], ◌++◌, None, codes, length, if◌then◌else◌}
 use Rattle.std.specs.Char.{encode_utf8}
 use Rattle.std.specs.Fmt.{decimal}
 use Rattle.std.specs.List.{flat_map}
@@ -26,11 +26,13 @@ use Rattle.page_command.specs.Steps.{changes_from}
 abbrev pub all_lines : Choice
 all_lines = record { from = None; to = None; processor = None; word = None }
 
--- `ultra page 1`, the line of the size, and `words W steps N`
+-- `words W steps N`
+unfoldable pub counts_line : (words steps : ℕ) → List ℕ
+counts_line words steps = codes "words " ++ decimal words ++ codes " steps " ++ decimal steps ++ codes "\n"
+
+-- `ultra page 1`, the line of the size, and that of the counts
 unfoldable pub head_lines : Config → (steps : ℕ) → List ℕ
-head_lines c steps =
-    codes "ultra page 1\n" ++ size_line c ++ codes "words " ++ decimal c.shared_words ++ codes " steps "
-    ++ decimal steps ++ codes "\n"
+head_lines c steps = codes "ultra page 1\n" ++ size_line c ++ counts_line c.shared_words steps
 
 -- changes on a line of their own
 abbrev pub changes_line : List Change → List ℕ

@@ -31,9 +31,13 @@ registers_changed p before after (suc r) =
     registers_changed p before after r
     ++ (if slice_index after r == slice_index before r then [] else Register p r ∷ [])
 
+-- the place beside a processor, if it is asked for
+abbrev pub slot_if : (processor : ℕ) → Bool → List Part
+slot_if p wanted = if wanted then Place 0 p ∷ [] else []
+
 -- the place beside a processor, if its reference is opened or closed
 abbrev pub slot_of : (processor : ℕ) → (was_open is_open : Bool) → List Part
-slot_of p was_open is_open = if was_open || is_open then Place 0 p ∷ [] else []
+slot_of p was_open is_open = slot_if p (was_open || is_open)
 
 -- of a turn: the processor, its registers that change, and the place beside it
 abbrev pub parts_of_turn : (processor : ℕ) → (before after : List ℕ) → (was_open is_open : Bool) → List Part
@@ -50,11 +54,14 @@ abbrev pub parts_of_serve : (k number : ℕ) → Option Request → List Part
 parts_of_serve k m None = []
 parts_of_serve k m (Some x) = Place k m ∷ Word x.word ∷ []
 
+-- the places at both inputs of the switch that has an output to this wire
+abbrev pub inputs_of : (k stage wire : ℕ) → List Part
+inputs_of k s w = Place s (wire_before k s w 0) ∷ Place s (wire_before k s w (2 ^ bit_of_stage k s)) ∷ []
+
 -- of the answer to a reply: the place that it leaves, and those at both inputs of the switch
 abbrev pub parts_of_down : (k stage wire : ℕ) → Option Reply → List Part
 parts_of_down k s w None = []
-parts_of_down k s w (Some y) =
-    Place (suc s) w ∷ Place s (wire_before k s w 0) ∷ Place s (wire_before k s w (2 ^ bit_of_stage k s)) ∷ []
+parts_of_down k s w (Some y) = Place (suc s) w ∷ [] ++ inputs_of k s w
 
 -- of a write from outside: the processor and its registers that change, or the word
 abbrev pub parts_of_poke : Poke → (before after : List ℕ) → List Part

@@ -1,9 +1,9 @@
 //! The texts of changes.
 
-ghost use Rattle.std.specs.Prelude.{◌≡◌, ◌++◌, ◌<◌, ◌≤◌, ◌^◌, OnOk, string_bytes};
+ghost use Rattle.std.specs.Prelude.{[], ◌≡◌, ◌==◌, ◌++◌, ◌<◌, ◌≤◌, ◌^◌, OnOk, if◌then◌else◌, string_bytes};
 ghost use Rattle.std.specs.List.{flat_map};
 ghost use Rattle.omega_network.specs.Networks.{net_of};
-ghost use Rattle.machine_steps.specs.machine_theory.Processors.{open_at};
+ghost use Rattle.machine_steps.specs.machine_theory.Processors.{open_at, word_at};
 ghost use Rattle.machine_views.specs.Places.{records_before};
 ghost use Rattle.machine_views.specs.Subjects.{processors_of};
 ghost use Rattle.page_command.specs.Changes.{change_text, change_to, content_text, record_item, reply_item};
@@ -75,19 +75,23 @@ fn word_open(machine: &Machine, processor: u8) -> Option<u32>
     }
 }
 
-/// Appends the change of a register to this value.
+/// Appends the change of a register from one value to another, unless they are the same.
 pub fn push_register(
     alloc: Global,
     text: &mut String,
     processor: u8,
     register: u8,
-    value: u32,
+    before: u32,
+    after: u32,
 ) -> Result<(), AllocError>
-    ensures { OnOk result (string_bytes text.new ≡ string_bytes text.old
-        ++ change_text (record { part = Register processor register; content = Value value })) }
+    ensures { OnOk result (string_bytes text.new ≡ string_bytes text.old ++ (if after == before then []
+        else change_text (record { part = Register processor register; content = Value after }))) }
 {
+    if after == before {
+        return Ok(());
+    }
     write!(text, "{processor}x{register}=")?;
-    push_word(alloc, text, value)?;
+    push_word(alloc, text, after)?;
     text.push('\t')
 }
 
@@ -107,6 +111,24 @@ pub fn push_shared_word(
     write!(text, "w{number}=")?;
     push_word(alloc, text, value)?;
     text.push('\t')
+}
+
+/// Appends the change of a shared word to what its module holds, unless that is 0.
+pub fn push_set_word(
+    alloc: Global,
+    text: &mut String,
+    machine: &Machine,
+    number: u32,
+) -> Result<(), AllocError>
+    ensures { OnOk result (string_bytes text.new ≡ string_bytes text.old
+        ++ (if word_at machine.now.config.k machine.now.modules number == 0 then []
+        else change_text (change_to (view_at machine.now) (Word number)))) }
+{
+    laws::machine_is_well_formed(machine);
+    if machine.word(number).unwrap_or(0) == 0 {
+        return Ok(());
+    }
+    push_shared_word(alloc, text, machine, number)
 }
 
 /// Appends the change of a place: all its messages.
@@ -187,20 +209,20 @@ fn push_request(alloc: Global, text: &mut String, request: &Request) -> Result<(
 fn push_records(alloc: Global, text: &mut String, records: &[Record]) -> Result<(), AllocError>
     ensures { OnOk result (string_bytes text.new ≡ string_bytes text.old ++ flat_map record_item records.now) }
 {
-    for record in records {
-        push_record(alloc, text, record)?;
+    for kept in records {
+        push_record(alloc, text, kept)?;
     }
     Ok(())
 }
 
 /// Appends a record.
-fn push_record(alloc: Global, text: &mut String, record: &Record) -> Result<(), AllocError>
-    ensures { OnOk result (string_bytes text.new ≡ string_bytes text.old ++ record_item record.now) }
+fn push_record(alloc: Global, text: &mut String, kept: &Record) -> Result<(), AllocError>
+    ensures { OnOk result (string_bytes text.new ≡ string_bytes text.old ++ record_item kept.now) }
 {
-    let second = record.second;
-    let leader = record.leader;
+    let second = kept.second;
+    let leader = kept.leader;
     write!(text, "&{second},{leader}:")?;
-    push_function(alloc, text, &record.phi)
+    push_function(alloc, text, &kept.phi)
 }
 
 /// Appends the replies of a place, the first to go on first.

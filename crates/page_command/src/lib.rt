@@ -14,7 +14,7 @@ mod escape;
 pub mod laws;
 mod opening;
 mod page;
-mod steps;
+mod step_changes;
 
 pub use data::data_text;
 pub use page::Page;

@@ -8,9 +8,9 @@ ghost use Rattle.page_command.specs.Openings.{opening_changes, processor_set, pr
 ghost use Rattle.page_command.specs.Openings.{words_set};
 ghost use Rattle.page_command.specs.Views.{view_at};
 
-use crate::changes::{push_core, push_register, push_shared_word};
-use crate::steps::registers_of;
-use machine_steps::{Machine, laws};
+use crate::changes::{push_core, push_register, push_set_word};
+use crate::step_changes::registers_of;
+use machine_steps::Machine;
 use std::alloc::{AllocError, Global};
 
 /// Appends the changes that lead from a blank view to that of a machine without messages.
@@ -24,7 +24,8 @@ pub fn push_opening(alloc: Global, text: &mut String, machine: &Machine) -> Resu
         ≡ string_bytes text.old ++ changes_text (opening_changes machine.now)) }
 {
     push_processors(alloc, text, machine)?;
-    push_words(alloc, text, machine)
+    push_words(alloc, text, machine)?;
+    Ok(())
 }
 
 /// Appends the changes of all processors, and of their registers that are not 0.
@@ -50,7 +51,8 @@ fn push_processor(
         (view_at machine.now) (processor_set processor (processors_of machine.now processor)))) }
 {
     push_core(alloc, text, machine, processor)?;
-    push_registers(alloc, text, machine, processor)
+    push_registers(alloc, text, machine, processor)?;
+    Ok(())
 }
 
 /// Appends the changes of a processor's registers that are not 0.
@@ -67,9 +69,7 @@ fn push_registers(
     let registers = registers_of(machine, processor);
     for register in 0..32_u8 {
         let value = registers[usize::from(register)];
-        if value != 0 {
-            push_register(alloc, text, processor, register, value)?;
-        }
+        push_register(alloc, text, processor, register, 0, value)?;
     }
     Ok(())
 }
@@ -80,11 +80,8 @@ fn push_words(alloc: Global, text: &mut String, machine: &Machine) -> Result<(),
         (view_at machine.now) (words_set (word_at machine.now.config.k machine.now.modules)
         machine.now.config.shared_words))) }
 {
-    laws::machine_is_well_formed(machine);
     for number in 0..machine.config().shared_words {
-        if machine.word(number).unwrap_or(0) != 0 {
-            push_shared_word(alloc, text, machine, number)?;
-        }
+        push_set_word(alloc, text, machine, number)?;
     }
     Ok(())
 }

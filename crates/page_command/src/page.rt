@@ -25,7 +25,7 @@ pub struct Page<'a> {
 impl<'a> TraceReport for Page<'a> {
     ghost use Rattle.page_command.specs.Pages.{prints_page};
 
-    ghost reports = { λ page. prints_page page.front page.back };
+    ghost reports = { λ page. prints_page page.front.now page.back.now };
 
     fn text(
         &self,

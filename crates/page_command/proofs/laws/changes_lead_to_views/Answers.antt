@@ -4,7 +4,7 @@ use Rattle.machine_steps.specs.Machines.{machine_of}
 use Rattle.page_command.specs.Laws.{ChangesLeadToViews, ViewsAreOfMachines, opening_view}
 use Rattle.page_command.specs.Views.{IsPart, View}
 use Rattle.page_command.proofs.Leading.{all_lead, view_first, view_there}
-use Rattle.page_command.proofs.Opening.{opening_shown}
+use Rattle.page_command.proofs.OpeningViews.{opening_shown}
 use Rattle.page_command.proofs.laws.changes_lead_to_views.Goals as goal
 
 there : ViewsAreOfMachines
