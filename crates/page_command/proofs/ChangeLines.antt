@@ -41,7 +41,8 @@ one_line go_on first m next done s old new mid new' has taken shown ends = recor
       ends ∙ ap (λ text. text ++ codes "\n") shown ∙ append_assoc new _ _
       ∙ ap₂ (λ text (changes : List Change). text ++ changes_line changes) has.are (sym (changes_there first m next done s has.run run))
       ∙ append_assoc old _ _
-      ∙ ap (λ text. old ++ text) (sym (flat_map-append changes_line (changes_of first done) _ ∙ ap (λ text. flat_map changes_line (changes_of first done) ++ text) (append-nil _)))
+      ∙ ap (λ text. old ++ text) (sym (flat_map-append changes_line (changes_of first done) _
+      ∙ ap (λ text. flat_map changes_line (changes_of first done) ++ text) (append-nil _)))
       ∙ ap (λ all. old ++ flat_map changes_line all) (sym (changes_more first.config first.code (machine_of first (λ p. [])) done s));
 }
   where

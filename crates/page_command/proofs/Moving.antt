@@ -124,8 +124,8 @@ module _ (c : Config) (code : List ℕ) (M : theory.Machine ObservedCore) (s w :
       let joined = put_requests taken (suc s) v j.queue in
       let kept = put_records joined s v (taken.records s v ++ j.made ∷ []) in
       moved_shows c code M kept (Place s w ∷ Place (suc s) v ∷ []) (two_places s w (suc s) v M.net kept (λ d e one other.
-          then_same d e (requests_put M.net s w rest d e one) (then_same d e (requests_put taken (suc s) v j.queue d e other)
-          (records_put joined s v (taken.records s v ++ j.made ∷ []) d e other))))
+      then_same d e (requests_put M.net s w rest d e one) (then_same d e (requests_put taken (suc s) v j.queue d e other)
+      (records_put joined s v (taken.records s v ++ j.made ∷ []) d e other))))
 
   -- After a move up each part shows the same, or is one of those that the move may change.
   pub up_shows : (requests : List Request) → shows_all (theory.went_up M (up_from (sizes_of c) M.net s w requests)).machine

@@ -70,14 +70,17 @@ pub no_register_yet : (V : View) (p : ℕ) (before after : List ℕ) (old : List
 unfolding registers_changed
 no_register_yet V p before after old = no_text V old
 
+-- The same of the registers that are not 0.
 pub no_register_set_yet : (V : View) (p : ℕ) (registers : List ℕ) (old : List ℕ) → old ≡ old ++ text_to V (registers_set p registers 0)
 unfolding registers_set
 no_register_set_yet V p registers old = no_text V old
 
+-- The same of words.
 pub no_word_yet : (V : View) (memory : ℕ → ℕ) (old : List ℕ) → old ≡ old ++ text_to V (words_set memory 0)
 unfolding words_set
 no_word_yet V memory old = no_text V old
 
+-- The same of processors.
 pub no_processor_yet : (V : View) (states : ℕ → Processor) (old : List ℕ) → old ≡ old ++ text_to V (processors_set states 0)
 unfolding processors_set
 no_processor_yet V states old = no_text V old

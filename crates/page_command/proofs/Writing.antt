@@ -124,7 +124,8 @@ module _ (c : Config) (code : List ℕ) (M : theory.Machine ObservedCore) where
   ups s w x false false = inl refl
 
   downs : (s w : ℕ) (x : Part) → (a b : Bool) → (view_on c code M x ≡ view_on c code
-      (if b then theory.went_down M (if a then down_from (sizes_of c) M.net s w (M.net.replies (suc s) w) else (down.Stalled, M.net)) else theory.stalled M).machine x)
+      (if b then theory.went_down M (if a then down_from (sizes_of c) M.net s w (M.net.replies (suc s) w) else (down.Stalled, M.net))
+      else theory.stalled M).machine x)
       ⊎ In x (if a && b then parts_of_down c.k s w (slice_get (M.net.replies (suc s) w) 0) else [])
   downs s w x true true = down_shows c code M s w (M.net.replies (suc s) w) x
   downs s w x true false = inl refl

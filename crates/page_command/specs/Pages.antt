@@ -70,8 +70,8 @@ escaped_char c = if c == 37 then codes "%25" else if c == 60 then codes "%3c" el
 unfoldable pub escaped : List ℕ → List ℕ
 escaped text = flat_map escaped_char (chars text)
 
--- This is the page of the steps: what stands before the data, the data without a sign that begins a tag, and what stands
--- after it.
+-- This is the page of the steps: what stands before the data, the data, in which no tag begins, and what stands after
+-- it.
 pub record IsPageOf (front back : List ℕ) (c : Config) (image : ImageContents) (steps : List Step) (text : List ℕ)
     (status : ℕ) : Type 0 where
   pub shown : List ℕ

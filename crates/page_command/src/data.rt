@@ -53,7 +53,7 @@ pub fn data_text(
     ensures refused { IfErr result (IsNotTaken config image.now steps.now) }
 {
     let all = drained_steps(alloc, image, config, steps)?;
-    let mut text = told_text(alloc, image, config, all.as_slice())?;
+    let mut text = text_to_story(alloc, image, config, all.as_slice())?;
     push_changes(alloc, &mut text, image, config, all.as_slice())?;
     let status = push_order(alloc, &mut text, image, config, steps)?;
     Ok((text, status))
@@ -80,7 +80,7 @@ fn push_order(
 }
 
 /// The head of the data, the opening line and the story of these steps.
-fn told_text(
+fn text_to_story(
     alloc: Global,
     image: &Image,
     config: Config,

@@ -4,8 +4,8 @@
 //! ([`data_text`]): the view of the machine that opens, the story and the changes of each step, and the serial order.
 //! `specs/Views.antt` says what a view of a machine shows, part by part; `specs/Steps.antt` which parts a step may
 //! change; `specs/Changes.antt` how changes are put on a view, and their texts. [`laws`] says that the changes of the
-//! first steps, put on the opening view, give the view of the machine after these steps. In the page the data is escaped,
-//! so no tag begins in it.
+//! first steps, put on the opening view, give the view of the machine after these steps. In the page the data is
+//! escaped, so no tag begins in it.
 #![tactic(auto)]
 
 mod changes;

@@ -1,6 +1,7 @@
 //! The changes of steps.
 
-ghost use Rattle.std.specs.Prelude.{[], ◌≡◌, ◌++◌, ◌<◌, ◌≤◌, ◌^◌, ◌%◌, ◌||◌, ℕ, OnOk, slice_get, slice_index, string_bytes, suc, true};
+ghost use Rattle.std.specs.Prelude.{[], ◌≡◌, ◌++◌, ◌<◌, ◌^◌, ◌%◌, ◌||◌, ◌≤◌, ℕ, OnOk, slice_get, slice_index};
+ghost use Rattle.std.specs.Prelude.{string_bytes, suc, true};
 ghost use Rattle.steps.specs.Kinds.{is_within};
 ghost use Rattle.omega_wires.specs.Wires.{bit_of_stage, wire_after};
 ghost use Rattle.omega_network.specs.Networks.{net_of};
@@ -34,7 +35,8 @@ pub fn push_change_lines(
     steps: &[Step],
 ) -> Result<(), AllocError>
     ensures { OnOk result (string_bytes text.new ≡ string_bytes text.old
-        ++ change_lines (changes_from machine.old.config machine.old.code (machine_of machine.old (λ p. [])) steps.now)) }
+        ++ change_lines (changes_from machine.old.config machine.old.code (machine_of machine.old (λ p. []))
+        steps.now)) }
 {
     laws::answers_go_on();
     for step in steps {
@@ -383,7 +385,14 @@ fn push_registers(
     let after = registers_of(machine, processor);
     for register in 0..32_u8 {
         let place = usize::from(register);
-        push_register(alloc, text, processor, register, before[place], after[place])?;
+        push_register(
+            alloc,
+            text,
+            processor,
+            register,
+            before[place],
+            after[place],
+        )?;
     }
     Ok(())
 }

@@ -13,7 +13,8 @@ use Rattle.clap.specs.Takes.{is_given}
 use Rattle.clap.specs.Walk.{Row, Text, answers_to, finished, nothing_held, rows_after, settled, walk, walk_from}
 use Rattle.command_forms.specs.Commands.{Bounds, asm_command, budget, check_command, combinations, debug_command}
 use Rattle.command_forms.specs.Commands.{dis_command, explain_command, explore_command, hunt_command, order_command}
-use Rattle.command_forms.specs.Commands.{port, processor, queue, records, picture_command, replay_command, run_command, runs}
+use Rattle.command_forms.specs.Commands.{port, processor, queue, records, page_command, picture_command, replay_command}
+use Rattle.command_forms.specs.Commands.{run_command, runs}
 use Rattle.command_forms.specs.Commands.{shared_word, shared_words, stages, start, states, stats_command, step, steps}
 use Rattle.command_forms.specs.Commands.{first_line, last_line, steps_command, story_command, study_command, sweep_steps}
 use Rattle.command_forms.specs.Commands.{seconds, trace_command, ultra_command, witness, words_command}

@@ -275,6 +275,7 @@ static UNKNOWN: [(&str, &str); 24] = [
     ("hunt a.elf --sweep", "--sweep"),
     ("check --words 7 a.s", "--words"),
     ("picture a.trace a.elf --json", "--json"),
+    ("page a.trace a.elf --step 1", "--step"),
     ("replay a.trace a.elf --csv", "--csv"),
     ("replay a.trace a.elf --latency", "--latency"),
     ("story a.trace a.elf --queues", "--queues"),
@@ -335,6 +336,7 @@ static MISSING: [(&str, &str, &str); 14] = [
     ("hunt", "<FILE>", "hunt <FILE>"),
     ("check", "<FILE>", "check <FILE>"),
     ("picture a.trace", "<FILE>", "picture <TRACE> <FILE>"),
+    ("page a.trace", "<FILE>", "page <TRACE> <FILE>"),
     ("trace", "<TRACE>", "trace <TRACE>"),
     ("steps a.steps", "<OUT>", "steps <FILE> <OUT>"),
 ];
