@@ -128,7 +128,7 @@ DisplayVersion
 ultra 0.1.0
 ";
 
-static CASES: [&str; 24] = [
+static CASES: [&str; 26] = [
     TAKEN,
     REFUSED,
     run::TAKEN,

@@ -258,7 +258,7 @@ fn without_value(rt: &(impl Abort + AllocGlobal), most: usize) -> bool {
 }
 
 /// Command lines with an unknown argument.
-static UNKNOWN: [(&str, &str); 24] = [
+static UNKNOWN: [(&str, &str); 25] = [
     ("words --fast a.hex", "--fast"),
     ("run --k -1 a.elf", "-1"),
     ("run --fast a.elf", "--fast"),
@@ -323,7 +323,7 @@ fn one_too_many(rt: &(impl Abort + AllocGlobal), most: usize) -> bool {
 }
 
 /// Command lines that lack arguments: these, and the usage.
-static MISSING: [(&str, &str, &str); 14] = [
+static MISSING: [(&str, &str, &str); 15] = [
     ("words", "<FILE>", "words <FILE>"),
     ("asm a.s", "<OUT>", "asm <FILE> <OUT>"),
     ("run", "<FILE>", "run <FILE>"),
