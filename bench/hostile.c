@@ -7,8 +7,9 @@
 // closed in the middle.
 //
 // The program has to end by itself within 20 seconds of its own time and 60 on the clock, in bounded memory, with a status from 0 to
-// 6. If the status is 0, 1, 5 or 6, it prints nothing on standard error. Otherwise it prints one fault with a code there, and no output. If sizes
-// are not explored, `explore --every` prints a line for each size, and a fault for each that is not. Each line of a debugger has one
+// 6. If the status is 0, 1, 5 or 6, it prints nothing on standard error. Otherwise it prints one fault with a code there, and no
+// output. There are two exceptions. If sizes are not explored, `explore --every` prints a line for each size, and a fault for each
+// that is not. If `explore` gives up, it prints what it has found, and says that it is incomplete. Each line of a debugger has one
 // reply, up to the first `quit` and while the connection holds, and every reply is of a documented form.
 //
 // Inputs that break this are saved in FOLDER, each with a line on standard output. The last line counts the tries by status.
@@ -36,7 +37,7 @@
 enum { MOST_BYTES = 1 << 15, MOST_FILES = 256, STATUSES = 7 };
 
 // What a command takes after its options.
-enum takes { A_FILE, A_FILE_AND_NOWHERE, A_TRACE_AND_AN_IMAGE, AN_IMAGE_OF_EVERY_SIZE, LINES };
+enum takes { A_FILE, A_SEARCHED_FILE, A_FILE_AND_NOWHERE, A_TRACE_AND_AN_IMAGE, AN_IMAGE_OF_EVERY_SIZE, LINES };
 
 // A command that reads a trace. bench/hostile defines TRACE_COMMANDS as the row of each of them.
 #define ON_A_TRACE(name) { name, { NULL }, A_TRACE_AND_AN_IMAGE, 32 << 10 },
@@ -53,9 +54,9 @@ static const struct command {
     { "dis", { NULL }, A_FILE, 32 << 10 },
     { "run", { "--k", "1", "--budget", "2000" }, A_FILE, 32 << 10 },
     { "run", { "--sweep", "--k", "3", "--budget", "20000" }, A_FILE, 32 << 10 },
-    { "explore", { "--k", "1", "--states", "2000" }, A_FILE, 32 << 10 },
-    { "explore", { "--k", "6", "--states", "100" }, A_FILE, 32 << 10 },
-    { "explore", { "--each", "--k", "2", "--states", "500" }, A_FILE, 32 << 10 },
+    { "explore", { "--k", "1", "--states", "2000" }, A_SEARCHED_FILE, 32 << 10 },
+    { "explore", { "--k", "6", "--states", "100" }, A_SEARCHED_FILE, 32 << 10 },
+    { "explore", { "--each", "--k", "2", "--states", "500" }, A_SEARCHED_FILE, 32 << 10 },
     { "explore", { "--every", "--states", "100" }, AN_IMAGE_OF_EVERY_SIZE, 32 << 10 },
     { "hunt", { "--k", "1", "--runs", "3", "--budget", "1000" }, A_FILE, 32 << 10 },
     TRACE_COMMANDS
@@ -351,17 +352,29 @@ static const char *wrong_replies(const struct ended *ended, const struct bytes *
     return is_right ? NULL : "the number of replies";
 }
 
-// The faults that are printed, each with the line that names its file, and the lines of every size.
-static regex_t fault, faults, sizes;
+// The faults that are printed, each with the line that names its file, and the lines of every size. The faults of a search that gives
+// up, and the end of what it prints.
+static regex_t fault, faults, sizes, given_up, incomplete;
 
-// Whether the output is a line for each size, and standard error the faults of some of them.
-static bool are_sizes(int out, const char *said) {
+// The last bytes of an output.
+static const char *last_bytes(int out, off_t size) {
     static char printed[4096];
-    ssize_t count = pread(out, printed, sizeof printed - 1, 0);
+    off_t most = sizeof printed - 1;
+    ssize_t count = pread(out, printed, most, size > most ? size - most : 0);
     if (count < 0)
         fail("read");
     printed[count] = 0;
+    return printed;
+}
+
+// Whether the output is a line for each size, and standard error the faults of some of them.
+static bool are_sizes(const char *printed, const char *said) {
     return !regexec(&faults, said, 0, NULL, 0) && !regexec(&sizes, printed, 0, NULL, 0);
+}
+
+// Whether the output ends as that of a search that has given up, and standard error says why.
+static bool has_given_up(const char *printed, const char *said) {
+    return !regexec(&given_up, said, 0, NULL, 0) && !regexec(&incomplete, printed, 0, NULL, 0);
 }
 
 // What is wrong with how a run ended, or NULL.
@@ -383,7 +396,9 @@ static const char *wrong(const struct ended *ended, const struct command *comman
     if (ended->status <= 1 || ended->status >= 5)
         return count ? "what it prints on standard error" : NULL;
     if (command->takes == AN_IMAGE_OF_EVERY_SIZE && printed.st_size)
-        return are_sizes(out, said) ? NULL : "the sizes that it reports";
+        return are_sizes(last_bytes(out, printed.st_size), said) ? NULL : "the sizes that it reports";
+    if (command->takes == A_SEARCHED_FILE && ended->status == 4 && printed.st_size)
+        return has_given_up(last_bytes(out, printed.st_size), said) ? NULL : "what it has found before it gives up";
     if (regexec(&fault, said, 0, NULL, 0))
         return "the fault that it reports";
     // A session may fail after it has printed where it listens.
@@ -413,6 +428,9 @@ int main(int argc, char **argv) {
         fail("regcomp");
     if (regcomp(&faults, "^(ultra: (alone|memory|states)\n){1,7}$", REG_EXTENDED | REG_NOSUB) ||
         regcomp(&sizes, "^(k [0-6]: [0-9]+ processors?, [^\n]+\n){7}$", REG_EXTENDED | REG_NOSUB))
+        fail("regcomp");
+    if (regcomp(&given_up, "^ultra: (memory|states)\n$", REG_EXTENDED | REG_NOSUB) ||
+        regcomp(&incomplete, "(^|\n)[0-9]+ results?, [0-9]+ states?\nincomplete: there may be more results\n$", REG_EXTENDED | REG_NOSUB))
         fail("regcomp");
     state = seed * 0x9E3779B97F4A7C15ULL + 1;
     int one = memory_file("one"), other = memory_file("other"), out = memory_file("out"), err = memory_file("err");

@@ -24,6 +24,18 @@ else
     fi
 fi
 
+# examples/pages/README.md says how each page was made.
+makes_its_examples() {
+    local folder=$room/pages
+    rm -rf "$folder" && mkdir "$folder" || return 1
+    sed -n '/^```sh$/,/^```$/p' examples/pages/README.md |
+        sed "/^\`\`\`/d; s|examples/pages/|$folder/|; s,\([a-z_]*\.\(elf\|trace\)\),$folder/\1,g; s|wrong/$folder/|wrong/|" >"$folder/make.sh"
+    # The budget of the hot spot ends its run: status 4.
+    bash "$folder/make.sh" >"$folder/out" 2>&1
+    for page in examples/pages/*.html; do cmp "$page" "$folder/${page##*/}" || return 1; done
+}
+check 'the pages of examples/pages are those that its README makes' makes_its_examples
+
 # ---- refusals
 
 refuses_a_page_of_no_trace() {
