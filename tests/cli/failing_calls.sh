@@ -51,8 +51,8 @@ fails_each_call() {
             [ "$told" != I9 ] || read=${*: -1}
             [ "$1" != hunt ] || written=
             for ((number = 1; number <= many; number++)); do
-                # A picture has some thousand bytes, so only each fiftieth call fails.
-                [ "$how" = interrupted ] && ((many < 1000 || number % 50 == 1 || number == many)) ||
+                # A picture and a page have many bytes, so only some fifty calls fail.
+                [ "$how" = interrupted ] && ((many < 1000 || number % (many / 50) == 1 || number == many)) ||
                     { [ "$kind" != r ] && ((number == 1 || number == many)); } || continue
                 fail_call $((before + number)) "$@"
                 case $kind in

@@ -56,11 +56,11 @@ check 'rt fmt would change no file' is_laid_out
 # nothing; but it sees one file at a time, and so does not know which variables another sets or uses.
 tests_are_sound_shell() {
     local file wrong=0
-    for file in ultra test packaging/install.sh packaging/share/bash-completion/completions/ultra tests/cli/run tests/cli/*.sh; do
+    for file in ultra test packaging/install.sh packaging/share/bash-completion/completions/ultra tests/page/install tests/cli/run tests/cli/*.sh; do
         bash -n "$file" || wrong=1
     done
     grep -hoE '^[a-z_0-9]+\(\)' tests/cli/*.sh | sort | uniq -d | grep . && wrong=1
-    ! command -v shellcheck >/dev/null || shellcheck -S warning -e SC1091,SC2034,SC2154 packaging/install.sh tests/cli/run tests/cli/*.sh || wrong=1
+    ! command -v shellcheck >/dev/null || shellcheck -S warning -e SC1091,SC2034,SC2154 packaging/install.sh tests/page/install tests/cli/run tests/cli/*.sh || wrong=1
     return "$wrong"
 }
 check 'the shell files of the tests are sound' tests_are_sound_shell
@@ -238,14 +238,20 @@ has_commented_lemmas() {
 lists_each_clause() {
     tests/tools/clauses.py --check
 }
+
+# The program has the page whose parts are in page/.
+has_its_page() {
+    tests/tools/page.py --check
+}
 if command -v python3 >/dev/null; then
     check 'docs/rooms.svg is the picture of crates.txt' draws_its_rooms
     check 'docs/REFUSALS.md lists each public call that returns a Result' lists_refusing_calls
     check 'docs/CLAUSES.md lists each clause of each public call' lists_each_clause
     check 'each lemma that another file cites has a comment' has_commented_lemmas
+    check 'crates/ultra/src/page.rt is what page/ has' has_its_page
 else
     left_out 'the picture of the rooms, because python3 is not installed'
-    left_out 'the refusals, the clauses and the comments of lemmas, because python3 is not installed'
+    left_out 'the refusals, the clauses, the comments of lemmas and the page, because python3 is not installed'
 fi
 
 # ---- examples

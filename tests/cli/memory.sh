@@ -178,9 +178,17 @@ refuses_memory_of_an_account() {
         refuses_each_request 0 "$room/account" /dev/null "$1" "$room/two.trace" "$room/example.elf"
 }
 for command in $(tests/tools/trace_commands); do
-    [ "$command" = replay ] ||
+    [[ $command = @(replay|page) ]] ||
         check "$command without memory for one request reports memory, status 4, or prints its lines" refuses_memory_of_an_account "$command"
 done
+
+# A page asks for memory several times a step, so this run is short.
+refuses_memory_of_a_page() {
+    ./ultra run --sweep --k 1 --trace "$room/short.trace" "$room/three.elf" >"$room/out" &&
+        ./ultra page "$room/short.trace" "$room/three.elf" >"$room/paged" &&
+        refuses_each_request 0 "$room/paged" /dev/null page "$room/short.trace" "$room/three.elf"
+}
+check 'page without memory for one request reports memory, status 4, or prints its page' refuses_memory_of_a_page
 
 # ---- searches
 

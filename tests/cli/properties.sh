@@ -31,7 +31,7 @@ judges() {
 # property, and in it the processors of the way in $room/out refer, one after another.
 comes_to_break() {
     local command ended
-    for command in replay order story stats picture; do
+    for command in replay order story stats picture page; do
         ended=0
         # The status is 1 if a processor has stopped with a fault.
         ./ultra "$command" "$room/broken.trace" "$room/judged.elf" >"$room/$command" 2>"$room/err" || ended=$?

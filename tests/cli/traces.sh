@@ -1,5 +1,5 @@
 # shellcheck shell=bash
-# Traces, the commands that read them (`replay`, `order`, `story`, `stats`, `picture` and `trace`), and `steps`.
+# Traces, the commands that read them (`replay`, `order`, `story`, `stats`, `picture` and `trace`; page.sh has `page`), and `steps`.
 
 # ---- the order
 

@@ -206,6 +206,9 @@ stats_command = command (codes "stats") (replay
 unfoldable pub picture_command : App
 picture_command = command (codes "picture") (replay ++ (number step ∷ symbols ∷ []))
 
+unfoldable pub page_command : App
+page_command = command (codes "page") replay
+
 unfoldable pub study_command : App
 study_command = command (codes "study")
     (file ∷ option (codes "k") ∷ option (codes "b") ∷ option (codes "r") ∷ option (codes "plot") ∷ flag (codes "csv")
@@ -247,6 +250,7 @@ ultra_command = with_subcommands (
     ∷ story_command.top
     ∷ stats_command.top
     ∷ picture_command.top
+    ∷ page_command.top
     ∷ study_command.top
     ∷ trace_command.top
     ∷ steps_command.top

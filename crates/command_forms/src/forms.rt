@@ -4,13 +4,14 @@ ghost use Rattle.std.specs.Prelude.{◌≡◌};
 ghost use Rattle.command_forms.specs.Forms.{app_of_form, with_forms};
 ghost use Rattle.command_forms.specs.Commands.{asm_command, check_command, debug_command, dis_command};
 ghost use Rattle.command_forms.specs.Commands.{explain_command, explore_command, hunt_command, order_command};
-ghost use Rattle.command_forms.specs.Commands.{picture_command, program, replay_command, run_command, stats_command};
+ghost use Rattle.command_forms.specs.Commands.{page_command, picture_command, program, replay_command, run_command};
+ghost use Rattle.command_forms.specs.Commands.{stats_command};
 ghost use Rattle.command_forms.specs.Commands.{steps_command, story_command, study_command, trace_command};
 ghost use Rattle.command_forms.specs.Commands.{ultra_command, words_command};
 
 use crate::help::{
     ASM_ENDS, CHECK_ENDS, DEBUG_ENDS, DIS_ENDS, EXPLAIN_ENDS, EXPLORE_ENDS, HUNT_ENDS, ORDER_ENDS,
-    PICTURE_ENDS, REPLAY_ENDS, RUN_ENDS, STATS_ENDS, STEPS_ENDS, STORY_ENDS, STUDY_ENDS,
+    PAGE_ENDS, PICTURE_ENDS, REPLAY_ENDS, RUN_ENDS, STATS_ENDS, STEPS_ENDS, STORY_ENDS, STUDY_ENDS,
     TRACE_ENDS, WORDS_ENDS,
 };
 use crate::ranges::{
@@ -417,6 +418,13 @@ const PICTURE: CommandForm = CommandForm {
     ends: PICTURE_ENDS,
 };
 
+const PAGE: CommandForm = CommandForm {
+    name: "page",
+    about: "Write a page for a browser that plays the steps of a trace",
+    arguments: &[TRACE, TRACED_IMAGE, Argument::Number(SHARED_WORDS)],
+    ends: PAGE_ENDS,
+};
+
 const STUDY: CommandForm = CommandForm {
     name: "study",
     about: "Run an image by the sweep on machines of several sizes, and print a row of figures for each",
@@ -598,6 +606,13 @@ fn picture() -> CommandForm
     PICTURE
 }
 
+#[tactic(auto, unfolding(crate::specs::Commands::page_command))]
+fn page() -> CommandForm
+    ensures { app_of_form result ≡ page_command }
+{
+    PAGE
+}
+
 #[tactic(auto, unfolding(crate::specs::Commands::study_command))]
 fn study() -> CommandForm
     ensures { app_of_form result ≡ study_command }
@@ -635,7 +650,7 @@ fn explain() -> CommandForm
 
 /// All commands, in the order in which the help lists them.
 #[tactic(auto, unfolding(crate::specs::Commands::ultra_command))]
-pub(crate) fn commands() -> [CommandForm; 17]
+pub(crate) fn commands() -> [CommandForm; 18]
     ensures { with_forms result program ≡ ultra_command }
 {
     [
@@ -651,6 +666,7 @@ pub(crate) fn commands() -> [CommandForm; 17]
         story(),
         stats(),
         picture(),
+        page(),
         study(),
         trace_text(),
         steps_text(),

@@ -217,6 +217,19 @@ Errors are reported on standard error as by `ultra replay`, and then nothing is 
 Exit status: 0 done, 1 a fault has stopped a processor of the machine drawn, 2 a refused trace, image or
 command line, 3 a file or standard output failed, 4 out of memory.";
 
+/// What `page` prints, and its exit statuses.
+pub(crate) const PAGE_ENDS: &str = "\
+Writes one file for a browser, which needs no network: `ultra page TRACE FILE > FILE.html`. The steps are
+those of `ultra story`. The page shows the machine before and after each of them, as `ultra picture`
+does, and beside it the registers, the words, the lines of the story and those of `ultra order`. It plays
+them, goes to a step, and to the next combination, service or stop; `FILE.html#step=43` opens at step 43.
+A key for each is listed under `?`.
+
+Errors are reported on standard error as by `ultra replay`, and then nothing is printed.
+
+Exit status: 0 done, 1 a fault stopped a processor, 2 a refused trace, image or command line, 3 a
+file or standard output failed, 4 out of memory.";
+
 /// What `study` prints, and its exit statuses.
 pub(crate) const STUDY_ENDS: &str = "\
 Runs FILE as `ultra run --sweep` does, for each k, then each b, then each r, and counts the steps of each

@@ -13,7 +13,8 @@ use Rattle.clap.specs.Takes.{is_given}
 use Rattle.clap.specs.Walk.{Row, Text, answers_to, finished, nothing_held, rows_after, settled, walk, walk_from}
 use Rattle.command_forms.specs.Commands.{Bounds, asm_command, budget, check_command, combinations, debug_command}
 use Rattle.command_forms.specs.Commands.{dis_command, explain_command, explore_command, hunt_command, order_command}
-use Rattle.command_forms.specs.Commands.{port, processor, queue, records, picture_command, replay_command, run_command, runs}
+use Rattle.command_forms.specs.Commands.{port, processor, queue, records, page_command, picture_command, replay_command}
+use Rattle.command_forms.specs.Commands.{run_command, runs}
 use Rattle.command_forms.specs.Commands.{shared_word, shared_words, stages, start, states, stats_command, step, steps}
 use Rattle.command_forms.specs.Commands.{first_line, last_line, steps_command, story_command, study_command, sweep_steps}
 use Rattle.command_forms.specs.Commands.{seconds, trace_command, ultra_command, witness, words_command}
@@ -75,11 +76,12 @@ Has name rows =
     (Where (bytes_eq name (codes "story")) (HasLines rows)
     (Where (bytes_eq name (codes "stats")) (HasReplay rows)
     (Where (bytes_eq name (codes "picture")) (HasPicture rows)
+    (Where (bytes_eq name (codes "page")) (HasReplay rows)
     (Where (bytes_eq name (codes "study")) (HasStudy rows)
     (Where (bytes_eq name (codes "trace")) (HasPath (codes "TRACE") rows)
     (Where (bytes_eq name (codes "steps")) (HasAsm rows)
     (Where (bytes_eq name (codes "debug")) (HasDebug rows)
-    ⊤)))))))))))))))
+    ⊤))))))))))))))))
 
 is_one_of : (name : Text) (names : List Text) → list_any (λ x. bytes_eq name x) names ≡ true → IsOneOf name names
 is_one_of name [] e = absurd (true≢false (sym e))
@@ -105,6 +107,7 @@ whole name rows known has = record {
   story = λ is. subst (λ n. Has n rows) is has;
   stats = λ is. subst (λ n. Has n rows) is has;
   picture = λ is. subst (λ n. Has n rows) is has;
+  page = λ is. subst (λ n. Has n rows) is has;
   study = λ is. subst (λ n. Has n rows) is has;
   trace = λ is. subst (λ n. Has n rows) is has;
   steps = λ is. subst (λ n. Has n rows) is has;
@@ -256,6 +259,11 @@ picture_provided words e = whole (codes "picture") _ refl (
   number_there (built_leaf picture_command.top) step words refl e,
 )
 
+page_provided : IsProvided (built_leaf page_command.top)
+unfolding commands
+page_provided words e = whole (codes "page") _ refl
+    (replay_there (built_leaf page_command.top) words refl files_required refl e)
+
 explore_provided : IsProvided (built_leaf explore_command.top)
 unfolding commands
 explore_provided words e = whole (codes "explore") _ refl (
@@ -314,12 +322,13 @@ enters : (stop : Option (Text × List Text)) → StopsAtNoHelp stop → entered_
 unfolding built_ultra commands
 enters None unhelped e has = absurd (true≢false (sym has))
 enters (Some p) unhelped e has =
-    let provided : AreProvidedFrom p.0 17 = ((λ is. absurd (helped (bytes_eq (codes "help") p.0) (no_help p.0 unhelped) is)), tt) in
-    let provided : AreProvidedFrom p.0 16 = ((λ is. explain_provided), provided) in
-    let provided : AreProvidedFrom p.0 15 = ((λ is. debug_provided), provided) in
-    let provided : AreProvidedFrom p.0 14 = ((λ is. steps_provided), provided) in
-    let provided : AreProvidedFrom p.0 13 = ((λ is. trace_provided), provided) in
-    let provided : AreProvidedFrom p.0 12 = ((λ is. study_provided), provided) in
+    let provided : AreProvidedFrom p.0 18 = ((λ is. absurd (helped (bytes_eq (codes "help") p.0) (no_help p.0 unhelped) is)), tt) in
+    let provided : AreProvidedFrom p.0 17 = ((λ is. explain_provided), provided) in
+    let provided : AreProvidedFrom p.0 16 = ((λ is. debug_provided), provided) in
+    let provided : AreProvidedFrom p.0 15 = ((λ is. steps_provided), provided) in
+    let provided : AreProvidedFrom p.0 14 = ((λ is. trace_provided), provided) in
+    let provided : AreProvidedFrom p.0 13 = ((λ is. study_provided), provided) in
+    let provided : AreProvidedFrom p.0 12 = ((λ is. page_provided), provided) in
     let provided : AreProvidedFrom p.0 11 = ((λ is. picture_provided), provided) in
     let provided : AreProvidedFrom p.0 10 = ((λ is. stats_provided), provided) in
     let provided : AreProvidedFrom p.0 9 = ((λ is. story_provided), provided) in

@@ -278,6 +278,7 @@ data OnFiles : Type 0 where
   OfStory : OnFiles
   OfStats : OnFiles
   OfPicture : OnFiles
+  OfPage : OnFiles
 
 abbrev name_on_files : OnFiles → Text
 name_on_files OfAsm = codes "asm"
@@ -287,6 +288,7 @@ name_on_files OfOrder = codes "order"
 name_on_files OfStory = codes "story"
 name_on_files OfStats = codes "stats"
 name_on_files OfPicture = codes "picture"
+name_on_files OfPage = codes "page"
 
 abbrev flags_on_files : OnFiles → List Text
 flags_on_files OfAsm = codes "course" ∷ []
@@ -295,6 +297,7 @@ flags_on_files OfOrder = codes "abi" ∷ codes "decimal" ∷ codes "json" ∷ []
 flags_on_files OfStory = codes "rounds" ∷ codes "decimal" ∷ codes "json" ∷ []
 flags_on_files OfStats = codes "latency" ∷ codes "queues" ∷ codes "csv" ∷ codes "json" ∷ []
 flags_on_files OfPicture = []
+flags_on_files OfPage = []
 flags_on_files OfSteps = []
 
 -- both files, and no flag
@@ -319,6 +322,8 @@ files_met OfStory program one other h k =
 files_met OfStats program one other h k =
     rw (no_hyphens one h, no_hyphen one h, no_hyphen one h, no_hyphens other k, no_hyphen other k, no_hyphen other k) (refl, refl)
 files_met OfPicture program one other h k =
+    rw (no_hyphens one h, no_hyphen one h, no_hyphen one h, no_hyphens other k, no_hyphen other k, no_hyphen other k) (refl, refl)
+files_met OfPage program one other h k =
     rw (no_hyphens one h, no_hyphen one h, no_hyphen one h, no_hyphens other k, no_hyphen other k, no_hyphen other k) (refl, refl)
 
 -- A trace and an image that are those read give both files, and 1,024 shared words if no other number is given.
@@ -366,6 +371,10 @@ files_are OfPicture one other words named (asked.Picture p) said =
     let files = said.1.0 in
     let shared = files.2 in
     (trace_read one other p.replay words named files.0 files.1 shared.0, said.1.1, no_text p.symbols said.1.2)
+files_are OfPage one other words named (asked.Page r) said =
+    let files = said.1 in
+    let shared = files.2 in
+    trace_read one other r words named files.0 files.1 shared.0
 files_are c one other words named chosen said = apart (name_of chosen) (name_on_files c) refl said.0
 
 -- The words give both files of the command, 1,024 shared words, no names, no choice, and no flag.
@@ -395,8 +404,8 @@ explain_met (a ∷ b ∷ c ∷ []) words named =
     let h : IsNoOption a = named.2 0 a (omega arith) in
     let k : IsNoOption b = named.2 1 a (omega arith) in
     let l : IsNoOption c = named.2 2 a (omega arith) in
-    rw (named.1, no_hyphens a h, no_hyphen a h, no_hyphen a h, no_hyphens b k, no_hyphen b k, no_hyphen b k, no_hyphens c l, no_hyphen c l, no_hyphen c l)
-    (refl, refl)
+    rw (named.1, no_hyphens a h, no_hyphen a h, no_hyphen a h) (rw (no_hyphens b k, no_hyphen b k, no_hyphen b k)
+    (rw (no_hyphens c l, no_hyphen c l, no_hyphen c l) (refl, refl)))
 explain_met (a ∷ b ∷ c ∷ d ∷ []) words named =
     let h : IsNoOption a = named.2 0 a (omega arith) in
     let k : IsNoOption b = named.2 1 a (omega arith) in
@@ -436,6 +445,7 @@ plain_given (asked.Order o) words said = files_given OfOrder o.lines.replay.trac
 plain_given (asked.Story s) words said = files_given OfStory s.lines.replay.trace.now s.lines.replay.file.now words said.0.0
 plain_given (asked.Stats c) words said = files_given OfStats c.replay.trace.now c.replay.file.now words said.0.0
 plain_given (asked.Picture p) words said = files_given OfPicture p.replay.trace.now p.replay.file.now words said.0.0
+plain_given (asked.Page r) words said = files_given OfPage r.trace.now r.file.now words said.0
 plain_given (asked.Study s) words said = file_given OfStudy s.file.now words said.0
 plain_given (asked.Trace t) words said = file_given OfTrace t.trace.now words said
 plain_given (asked.Steps s) words said = files_given OfSteps s.file.now s.out.now words said

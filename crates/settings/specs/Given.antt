@@ -60,7 +60,7 @@ HasHunt rows =
 abbrev pub command_names : List Text
 command_names =
     codes "words" ∷ codes "check" ∷ codes "asm" ∷ codes "dis" ∷ codes "run" ∷ codes "hunt" ∷ codes "explore"
-    ∷ codes "replay" ∷ codes "order" ∷ codes "story" ∷ codes "stats" ∷ codes "picture" ∷ codes "study"
+    ∷ codes "replay" ∷ codes "order" ∷ codes "story" ∷ codes "stats" ∷ codes "picture" ∷ codes "page" ∷ codes "study"
     ∷ codes "trace" ∷ codes "steps" ∷ codes "debug" ∷ codes "explain" ∷ []
 
 abbrev pub IsOneOf : Text → List Text → Type 0
@@ -82,6 +82,7 @@ pub record IsWhole (name : Text) (rows : List Row) : Type 0 where
   pub story : name ≡ codes "story" → HasLines rows
   pub stats : name ≡ codes "stats" → HasReplay rows
   pub picture : name ≡ codes "picture" → HasPicture rows
+  pub page : name ≡ codes "page" → HasReplay rows
   pub study : name ≡ codes "study" → HasStudy rows
   pub trace : name ≡ codes "trace" → HasPath (codes "TRACE") rows
   pub steps : name ≡ codes "steps" → HasAsm rows

@@ -19,6 +19,8 @@ pub enum Settings<'a> {
     Story(Story<'a>),
     Stats(Counts<'a>),
     Picture(Picture<'a>),
+    /// `page`.
+    Page(Replay<'a>),
     Study(Study<'a>),
     Trace(Trace<'a>),
     Steps(Schedule<'a>),

@@ -440,6 +440,7 @@ pub(crate) fn subcommand_settings<'a>(
         "story" => Ok(Settings::Story(story(inner))),
         "stats" => Ok(Settings::Stats(counts(inner))),
         "picture" => Ok(Settings::Picture(picture(inner))),
+        "page" => Ok(Settings::Page(replay(inner))),
         "study" => Ok(Settings::Study(study(inner))),
         "trace" => Ok(Settings::Trace(trace(inner))),
         "steps" => Ok(Settings::Steps(schedule(inner))),

@@ -10,6 +10,7 @@ mod explain;
 mod explore;
 mod hunt;
 mod order;
+mod page;
 mod picture;
 mod refused;
 mod replay;
@@ -78,7 +79,7 @@ const REFUSED: &str = "\
 $ ultra
 MissingSubcommand
 error: 'ultra' requires a subcommand but one was not provided
-  [subcommands: words, check, asm, dis, run, hunt, explore, replay, order, story, stats, picture, study, trace, steps, debug, explain, help]
+  [subcommands: words, check, asm, dis, run, hunt, explore, replay, order, story, stats, picture, page, study, trace, steps, debug, explain, help]
 
 Usage: ultra <COMMAND>
 $ ultra frob
@@ -127,7 +128,7 @@ DisplayVersion
 ultra 0.1.0
 ";
 
-static CASES: [&str; 24] = [
+static CASES: [&str; 26] = [
     TAKEN,
     REFUSED,
     run::TAKEN,
@@ -150,6 +151,8 @@ static CASES: [&str; 24] = [
     check::HELP,
     picture::TAKEN,
     picture::REFUSED,
+    page::TAKEN,
+    page::HELP,
     study::TAKEN,
     study::HELP,
 ];

@@ -7,6 +7,7 @@ ghost use Rattle.trace_commands.specs.run_reports.RunReports.{IsWorking};
 mod assembling;
 mod loopback_port;
 mod output;
+mod page;
 mod refusal;
 mod reports;
 mod standard_streams;
@@ -15,6 +16,7 @@ mod symbols;
 use crate::assembling::asm_file;
 use crate::loopback_port::LoopbackPort;
 use crate::output::{Output, format_of};
+use crate::page::page;
 use crate::refusal::Refusal;
 use crate::reports::{Reports, place_of};
 use crate::standard_streams::StandardStreams;
@@ -313,6 +315,7 @@ fn execute<
             };
             tell_steps(rt, &asked.replay, &picture, reason, out, err)
         }
+        Settings::Page(replay) => tell_steps(rt, replay, &page(), reason, out, err),
         Settings::Study(study) => Ok(study_file(rt, study, reason, out, err)?),
         Settings::Trace(asked) => {
             let mut trace = Meter::new(open(rt, asked.trace, reason)?);

@@ -258,7 +258,7 @@ fn without_value(rt: &(impl Abort + AllocGlobal), most: usize) -> bool {
 }
 
 /// Command lines with an unknown argument.
-static UNKNOWN: [(&str, &str); 24] = [
+static UNKNOWN: [(&str, &str); 25] = [
     ("words --fast a.hex", "--fast"),
     ("run --k -1 a.elf", "-1"),
     ("run --fast a.elf", "--fast"),
@@ -275,6 +275,7 @@ static UNKNOWN: [(&str, &str); 24] = [
     ("hunt a.elf --sweep", "--sweep"),
     ("check --words 7 a.s", "--words"),
     ("picture a.trace a.elf --json", "--json"),
+    ("page a.trace a.elf --step 1", "--step"),
     ("replay a.trace a.elf --csv", "--csv"),
     ("replay a.trace a.elf --latency", "--latency"),
     ("story a.trace a.elf --queues", "--queues"),
@@ -322,7 +323,7 @@ fn one_too_many(rt: &(impl Abort + AllocGlobal), most: usize) -> bool {
 }
 
 /// Command lines that lack arguments: these, and the usage.
-static MISSING: [(&str, &str, &str); 14] = [
+static MISSING: [(&str, &str, &str); 15] = [
     ("words", "<FILE>", "words <FILE>"),
     ("asm a.s", "<OUT>", "asm <FILE> <OUT>"),
     ("run", "<FILE>", "run <FILE>"),
@@ -335,6 +336,7 @@ static MISSING: [(&str, &str, &str); 14] = [
     ("hunt", "<FILE>", "hunt <FILE>"),
     ("check", "<FILE>", "check <FILE>"),
     ("picture a.trace", "<FILE>", "picture <TRACE> <FILE>"),
+    ("page a.trace", "<FILE>", "page <TRACE> <FILE>"),
     ("trace", "<TRACE>", "trace <TRACE>"),
     ("steps a.steps", "<OUT>", "steps <FILE> <OUT>"),
 ];

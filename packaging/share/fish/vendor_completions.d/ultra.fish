@@ -51,6 +51,7 @@ complete -c ultra -n __ultra_wants_command -a order -d 'Print the serial order o
 complete -c ultra -n __ultra_wants_command -a story -d 'Print what the machine did in each step of a trace'
 complete -c ultra -n __ultra_wants_command -a stats -d 'Count what the switches, the modules and the processors did in the steps of a trace'
 complete -c ultra -n __ultra_wants_command -a picture -d 'Draw the machine after some steps of a trace, as an SVG'
+complete -c ultra -n __ultra_wants_command -a page -d 'Write a page for a browser that plays the steps of a trace'
 complete -c ultra -n __ultra_wants_command -a study -d 'Run an image by the sweep on machines of several sizes, and print a row of figures for each'
 complete -c ultra -n __ultra_wants_command -a trace -d 'Print a trace as a text, which can be edited and made a trace again by `ultra steps`'
 complete -c ultra -n __ultra_wants_command -a steps -d 'Make a trace of a text of steps, which may be written by hand'
@@ -187,6 +188,10 @@ complete -c ultra -n '__ultra_has_command picture' -l symbols -r -F -d 'Draw nam
 complete -c ultra -n '__ultra_has_command picture' -l help -d 'Print help'
 complete -c ultra -n '__ultra_wants_more picture 2 --words --step --symbols' -F
 
+complete -c ultra -n '__ultra_has_command page' -l words -x -d 'Shared words of four bytes that the machine has, 1 to 262144 [default: 1024]'
+complete -c ultra -n '__ultra_has_command page' -l help -d 'Print help'
+complete -c ultra -n '__ultra_wants_more page 2 --words' -F
+
 complete -c ultra -n '__ultra_has_command study' -l k -x -d 'Stages of the networks, numbers and ranges from 0 to 6 that ascend, as `0..3,6` [default: 0..6]'
 complete -c ultra -n '__ultra_has_command study' -l b -x -d 'Records that an output of a switch holds, 0 to 16, as `0,4`; with 0 nothing is combined [default: 4]'
 complete -c ultra -n '__ultra_has_command study' -l r -x -d 'Times that a request in a queue of a switch is combined, 1 to 3, and fewer than --c [default: 1]'
@@ -286,6 +291,7 @@ complete -c ultra -n '__ultra_wants_more help 1' -a order -d 'Print the serial o
 complete -c ultra -n '__ultra_wants_more help 1' -a story -d 'Print what the machine did in each step of a trace'
 complete -c ultra -n '__ultra_wants_more help 1' -a stats -d 'Count what the switches, the modules and the processors did in the steps of a trace'
 complete -c ultra -n '__ultra_wants_more help 1' -a picture -d 'Draw the machine after some steps of a trace, as an SVG'
+complete -c ultra -n '__ultra_wants_more help 1' -a page -d 'Write a page for a browser that plays the steps of a trace'
 complete -c ultra -n '__ultra_wants_more help 1' -a study -d 'Run an image by the sweep on machines of several sizes, and print a row of figures for each'
 complete -c ultra -n '__ultra_wants_more help 1' -a trace -d 'Print a trace as a text, which can be edited and made a trace again by `ultra steps`'
 complete -c ultra -n '__ultra_wants_more help 1' -a steps -d 'Make a trace of a text of steps, which may be written by hand'

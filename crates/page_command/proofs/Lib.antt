@@ -1,0 +1,12 @@
+pub mod ChangeLines
+pub mod Escapes
+pub mod Frames
+pub mod Items
+pub mod Leading
+pub mod Lists
+pub mod Moving
+pub mod OpeningViews
+pub mod Putting
+pub mod Registers
+pub mod Turning
+pub mod Writing

@@ -1,0 +1,11 @@
+use Rattle.std.proofs.Common.{◌≡◌, ◌++◌}
+use Rattle.std.specs.Prelude.{string_bytes}
+use Rattle.machine_views.specs.Subjects.{processors_of}
+use Rattle.page_command.specs.Openings.{processors_set}
+use Rattle.page_command.specs.Views.{view_at}
+use Rattle.page_command.proofs.Lists.{text_to}
+use Rattle.page_command.proofs.opening.push_processors.Given as goal
+
+abbrev pub invariant-loop-processor : goal.invariant-loop-processor
+invariant-loop-processor l = string_bytes l.text ≡ string_bytes l.initial.text
+    ++ text_to (view_at l.machine) (processors_set (processors_of l.machine) l.processor)

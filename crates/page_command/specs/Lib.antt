@@ -1,0 +1,6 @@
+pub mod Views
+pub mod Changes
+pub mod Steps
+pub mod Openings
+pub mod Pages
+pub mod Laws

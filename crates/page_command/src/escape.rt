@@ -1,0 +1,32 @@
+//! Text inside of a page's script.
+
+ghost use Rattle.std.specs.Prelude.{◌≡◌, ◌++◌, OnOk, string_bytes};
+ghost use Rattle.page_command.specs.Pages.{escaped, escaped_char};
+
+use std::alloc::AllocError;
+
+/// Appends a text in which no tag begins: a per cent sign as `%25`, and the sign that begins a tag as `%3c`.
+///
+/// # Errors
+///
+/// [`AllocError`] if there is no memory for it.
+#[tactic(auto, unfolding(crate::specs::Pages::escaped))]
+pub fn push_escaped(text: &mut String, shown: &str) -> Result<(), AllocError>
+    ensures { OnOk result (string_bytes text.new ≡ string_bytes text.old ++ escaped shown.now) }
+{
+    for letter in shown.chars() {
+        push_escaped_char(text, letter)?;
+    }
+    Ok(())
+}
+
+/// Appends a character in which no tag begins.
+fn push_escaped_char(text: &mut String, letter: char) -> Result<(), AllocError>
+    ensures { OnOk result (string_bytes text.new ≡ string_bytes text.old ++ escaped_char letter) }
+{
+    match letter {
+        '%' => text.push_str("%25"),
+        '<' => text.push_str("%3c"),
+        _ => text.push(letter),
+    }
+}
