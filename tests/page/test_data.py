@@ -83,8 +83,9 @@ class View:
 
     def processor_text(self, p):
         pc, _, status = self.processors[p].partition(" ")
-        opened = re.fullmatch(r"run (\d+)", status)
-        return f"{p} run {pc} word {opened[1]}" if opened else f"{p} {status} {pc}"
+        if status.isdigit():
+            return f"{p} run {pc} word {status}"
+        return f"{p} {status or 'run'} {pc}"
 
     def requests(self, depth, wire):
         return [f"{f}{' ' if f == 'load' else ' to '}word {w} {self.group(depth, p)}" for f, w, p in self.items(depth, wire)[0]]

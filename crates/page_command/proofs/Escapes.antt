@@ -1,13 +1,18 @@
 -- No tag begins in escaped text.
-use Rattle.std.proofs.Common.{◌≡◌, ℕ, zero, suc, ◌+◌, ◌%◌, ◌/◌, ◌<◌, ◌≤◌, ◌==◌, ◌||◌, Bool, true, false, cond, List, [], ◌∷◌, ◌++◌, flat_map, chars, codes}
+use Rattle.std.proofs.Common.{◌≡◌, ℕ, zero, suc, ◌+◌, ◌%◌, ◌/◌, ◌<◌, ◌≤◌, ◌==◌, ◌||◌, Bool, true, false, cond, List, [], ◌∷◌, ◌++◌, ◌⊎◌, inl, inr, flat_map, chars, codes, IsUtf8, encode_utf8_all}
 use Rattle.std.proofs.Common.{refl, sym, ap, ap₂, ◌∙◌, arith, ltb, ne_eqb}
 use Rattle.std.specs.Prelude.{if◌then◌else◌}
 use lib.Utf8.{encode as encode_utf8}
 use Rattle.std.specs.List.{list_any}
-use Rattle.std.proofs.lemmas.Bool.{eqb-false}
+use Rattle.std.proofs.lemmas.Bool.{cases_eq}
+use Rattle.std.proofs.lemmas.Str.{chars-encodes}
 use Rattle.std.proofs.lemmas.List.Folds.{list_any-append}
 use Rattle.page_command.specs.Laws.{has_tag, is_tag}
-use Rattle.page_command.specs.Pages.{escaped, escaped_char}
+use Rattle.page_command.specs.Pages.{escaped, escaped_char, is_special}
+
+or_parts : (x y : Bool) → (x || y) ≡ false → (x ≡ false) × (y ≡ false)
+or_parts true y e = absurd cc
+or_parts false y e = (refl, e)
 
 -- A byte of 128 or more begins no tag.
 high : (b : ℕ) → 128 ≤ b → is_tag b ≡ false
@@ -56,3 +61,27 @@ of_chars (c ∷ cs) =
 pub none_begins : (text : List ℕ) → has_tag (escaped text) ≡ false
 unfolding escaped
 none_begins text = of_chars (chars text)
+
+-- A character that is not special is itself.
+plain_char : (c : ℕ) → list_any is_special (encode_utf8 c) ≡ false → escaped_char c ≡ encode_utf8 c
+unfolding encode_utf8
+plain_char c none = by (cases_eq c 37) (cases_eq c 60)
+  where
+    by : (c ≡ 37) ⊎ (c ≡ 37 → ⊥) → (c ≡ 60) ⊎ (c ≡ 60 → ⊥) → escaped_char c ≡ encode_utf8 c
+    by (inl is) other = absurd (let none = ap (λ n. list_any is_special (encode_utf8 n)) (sym is) ∙ none in cc)
+    by (inr one) (inl is) = absurd (let none = ap (λ n. list_any is_special (encode_utf8 n)) (sym is) ∙ none in cc)
+    by (inr one) (inr other) = rw (ne_eqb c 37 one, ne_eqb c 60 other) refl
+
+plain_chars : (cs : List ℕ) → list_any is_special (encode_utf8_all cs) ≡ false → flat_map escaped_char cs ≡ encode_utf8_all cs
+plain_chars [] none = refl
+plain_chars (c ∷ cs) none =
+    let parts = or_parts (list_any is_special (encode_utf8 c)) (list_any is_special (encode_utf8_all cs))
+    (sym (list_any-append is_special (encode_utf8 c) (encode_utf8_all cs)) ∙ none) in
+    ap₂ (λ xs ys. xs ++ ys) (plain_char c parts.0) (plain_chars cs parts.1)
+
+-- A text without special bytes is escaped as it is.
+pub none_special : (text : List ℕ) → IsUtf8 text → list_any is_special text ≡ false → escaped text ≡ text
+unfolding escaped
+none_special text utf8 none =
+    ap (λ bytes. flat_map escaped_char (chars bytes)) (sym utf8.1.1) ∙ ap (flat_map escaped_char) (chars-encodes utf8.0 utf8.1.0)
+    ∙ plain_chars utf8.0 (ap (list_any is_special) utf8.1.1 ∙ none) ∙ utf8.1.1

@@ -4,6 +4,8 @@ use Rattle.std.specs.Prelude.{if◌then◌else◌}
 use Rattle.std.specs.Fmt.{decimal}
 use Rattle.std.specs.List.{flat_map}
 use Rattle.command_io.specs.Digits.{hex_of_word, status_text}
+use Rattle.flat_machine.specs.declared.event.Status.{Status}
+use Rattle.flat_machine.specs.declared.event.Status.TheVariants.{Running, Halted, Faulted}
 use Rattle.messages.specs.declared.message.Request.{Request}
 use Rattle.messages.specs.declared.message.Record.{Record}
 use Rattle.messages.specs.declared.message.Reply.{Reply}
@@ -69,9 +71,16 @@ abbrev pub word_suffix : Option ℕ → List ℕ
 word_suffix None = []
 word_suffix (Some word) = codes " " ++ decimal word
 
--- `PC STATUS`, and the word of an open reference; the messages of a place, requests first, and then records; a value
+-- ` STATUS`, and nothing for a processor that runs
+abbrev pub status_suffix : Status → List ℕ
+status_suffix Running = []
+status_suffix (Halted byte) = codes " " ++ status_text (Halted byte)
+status_suffix (Faulted fault) = codes " " ++ status_text (Faulted fault)
+
+-- `PC`, a status other than `run`, and the word of an open reference; the messages of a place, requests first, and then
+-- records; a value
 abbrev pub content_text : Content → List ℕ
-content_text (Stands pc status word) = hex_of_word pc ++ codes " " ++ status_text status ++ word_suffix word
+content_text (Stands pc status word) = hex_of_word pc ++ status_suffix status ++ word_suffix word
 content_text (Messages requests records replies) =
     flat_map request_item requests ++ flat_map record_item records ++ flat_map reply_item replies
 content_text (Value value) = hex_of_word value

@@ -1,5 +1,5 @@
 -- What `ultra page` prints.
-use Rattle.std.specs.Prelude.{◌≡◌, ℕ, ◌==◌, false, List, [], ◌++◌, None, codes, length, if◌then◌else◌}
+use Rattle.std.specs.Prelude.{◌≡◌, ℕ, ◌==◌, ◌||◌, Bool, false, List, [], ◌++◌, None, codes, length, if◌then◌else◌}
 use Rattle.std.specs.Char.{encode_utf8}
 use Rattle.std.specs.Fmt.{decimal}
 use Rattle.std.specs.List.{flat_map}
@@ -62,6 +62,10 @@ pub record AreDataOf (c : Config) (image : ImageContents) (steps : List Step) (t
   pub are : text ≡ data_text opening all order
 
 -- ---- the page
+
+-- whether a character is escaped: a per cent sign, or the sign that begins a tag
+abbrev pub is_special : ℕ → Bool
+is_special c = (c == 37) || (c == 60)
 
 -- `%25` for a per cent sign, `%3c` for the sign that begins a tag, and any other character as it is
 abbrev pub escaped_char : ℕ → List ℕ

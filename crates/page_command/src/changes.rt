@@ -7,7 +7,7 @@ ghost use Rattle.machine_steps.specs.machine_theory.Processors.{open_at, word_at
 ghost use Rattle.machine_views.specs.Places.{records_before};
 ghost use Rattle.machine_views.specs.Subjects.{processors_of};
 ghost use Rattle.page_command.specs.Changes.{change_text, change_to, content_text, record_item, reply_item};
-ghost use Rattle.page_command.specs.Changes.{request_item, word_suffix};
+ghost use Rattle.page_command.specs.Changes.{request_item, status_suffix, word_suffix};
 ghost use Rattle.page_command.specs.Views.{Core, Messages, Place, Register, Stands, Value, Word, view_at, word_open};
 
 use command_io::{push_status, push_word};
@@ -54,12 +54,25 @@ fn push_stand(
     ensures { OnOk result (string_bytes text.new ≡ string_bytes text.old ++ content_text (Stands pc status word)) }
 {
     push_word(alloc, text, pc)?;
-    text.push(' ')?;
-    push_status(alloc, text, status)?;
+    push_stop(alloc, text, status)?;
     match word {
         Some(word) => write!(text, " {word}"),
         None => Ok(()),
     }
+}
+
+/// Appends how a processor has stopped, and nothing if it runs.
+fn push_stop(alloc: Global, text: &mut String, status: Status) -> Result<(), AllocError>
+    ensures { OnOk result (string_bytes text.new ≡ string_bytes text.old ++ status_suffix status) }
+{
+    match status {
+        Status::Running => (),
+        Status::Halted(_) | Status::Faulted(_) => {
+            text.push(' ')?;
+            push_status(alloc, text, status)?;
+        }
+    }
+    Ok(())
 }
 
 /// The word of a processor's reference, if it is open.

@@ -1,7 +1,8 @@
 //! Text inside of a page's script.
 
 ghost use Rattle.std.specs.Prelude.{◌≡◌, ◌++◌, OnOk, string_bytes};
-ghost use Rattle.page_command.specs.Pages.{escaped, escaped_char};
+ghost use Rattle.std.specs.List.{list_any};
+ghost use Rattle.page_command.specs.Pages.{escaped, escaped_char, is_special};
 
 use std::alloc::AllocError;
 
@@ -10,8 +11,27 @@ use std::alloc::AllocError;
 /// # Errors
 ///
 /// [`AllocError`] if there is no memory for it.
-#[tactic(auto, unfolding(crate::specs::Pages::escaped))]
+// The data of a page has no such sign, so it is appended whole, and not letter by letter.
 pub fn push_escaped(text: &mut String, shown: &str) -> Result<(), AllocError>
+    ensures { OnOk result (string_bytes text.new ≡ string_bytes text.old ++ escaped shown.now) }
+{
+    if has_special(shown.as_bytes()) {
+        push_each(text, shown)?;
+    } else {
+        text.push_str(shown)?;
+    }
+    Ok(())
+}
+
+/// Whether some byte is escaped.
+fn has_special(bytes: &[u8]) -> bool
+    ensures { result ≡ list_any is_special bytes.now }
+{
+    bytes.iter().any(|byte| *byte == b'%' || *byte == b'<')
+}
+
+/// Appends each character of a text, escaped.
+fn push_each(text: &mut String, shown: &str) -> Result<(), AllocError>
     ensures { OnOk result (string_bytes text.new ≡ string_bytes text.old ++ escaped shown.now) }
 {
     for letter in shown.chars() {

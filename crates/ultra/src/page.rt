@@ -468,9 +468,9 @@ words: new Map(view.words), places: view.places.slice(),
 }
 function setProcessor(view, p, value) {
 const state = value.slice(9);
-const open = /^run (\d+)$/.exec(state);
+const open = /^(\d+)$/.exec(state);
 view.pc[p] = value.slice(0, 8);
-view.status[p] = open ? 'run' : state;
+view.status[p] = open || state === '' ? 'run' : state;
 view.word[p] = open ? Number(open[1]) : -1;
 }
 function putChanges(view, line, placed) {
