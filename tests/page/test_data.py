@@ -96,7 +96,7 @@ class View:
     def words_of(self, module):
         opened = []
         for it in self.processors:
-            found = re.fullmatch(r"[0-9a-f]{8} run (\d+)", it)
+            found = re.fullmatch(r"[0-9a-f]{8} (\d+)", it)
             if found and int(found[1]) % self.n == module and int(found[1]) not in opened:
                 opened.append(int(found[1]))
         return [f"word {w} = {self.words.get(w, '00000000')}" for w in opened]
