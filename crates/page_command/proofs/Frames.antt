@@ -1,15 +1,12 @@
 -- What each part holds depends on little of a machine.
-use Rattle.std.proofs.Common.{◌≡◌, ℕ, zero, suc, ◌⊎◌, inl, inr, Bool, List, refl, sym, ap, ap₂, ◌∙◌}
+use Rattle.std.proofs.Common.{◌≡◌, ℕ, List, ap, ap₂}
 use Rattle.std.specs.Prelude.{slice_index}
 use Rattle.flat_machine.specs.declared.config.Config.{Config}
-use Rattle.messages.specs.declared.message.Request.{Request}
-use Rattle.messages.specs.declared.message.Record.{Record}
-use Rattle.messages.specs.declared.message.Reply.{Reply}
 use Rattle.messages.specs.Network.{Net}
 use Rattle.machine_steps.specs.machine_theory.Processors.{ObservedCore}
 use Rattle.machine_steps.specs.machine_theory.Theory as theory
 use Rattle.machine_views.specs.Places.{records_before}
-use Rattle.page_command.specs.Views.{Content, Core, Messages, Part, Place, Register, Stands, Value, Word, view_by, view_on, word_open}
+use Rattle.page_command.specs.Views.{Core, Messages, Place, Register, Stands, Value, Word, view_by, view_on, word_open}
 
 -- The machines hold the same messages at a place, and the same records before it.
 pub record IsSamePlace (M N : Net) (d w : ℕ) : Type 0 where

@@ -1,24 +1,21 @@
 -- The changes of steps lead from view to view.
-use Rattle.std.proofs.Common.{◌≡◌, ℕ, zero, suc, ◌⊎◌, inl, inr, List, [], ◌∷◌, ◌++◌, take, map, refl, sym, ap, ap₂, ◌∙◌}
+use Rattle.std.proofs.Common.{◌≡◌, ℕ, zero, suc, ◌⊎◌, inl, inr, List, [], ◌∷◌, ◌++◌, take, refl, sym, ap, ap₂, ◌∙◌}
 use Rattle.flat_machine.specs.declared.config.Config.{Config}
-use Rattle.flat_machine.specs.declared.event.Event.{Event}
 use Rattle.messages.specs.Places.{In}
 use Rattle.elf_image.specs.Images.{ImageContents}
 use Rattle.omega_network.specs.Networks.{net_of}
 use Rattle.steps.specs.declared.step.Step.{Step}
-use Rattle.steps.specs.declared.step.Outcome.{Outcome}
-use Rattle.machine_steps.specs.Answers.{AnswersGoOn}
-use Rattle.machine_steps.specs.Machines.{IsStep, MachineLists, machine_of}
-use Rattle.machine_steps.specs.Runs.{IsOpening, IsRun, all_after, events_of, machine_after}
+use Rattle.machine_steps.specs.Machines.{MachineLists, machine_of}
+use Rattle.machine_steps.specs.Runs.{IsOpening, IsRun, all_after, machine_after}
 use Rattle.machine_steps.specs.machine_theory.Processors.{ObservedCore, open_at, word_at}
 use Rattle.machine_steps.specs.machine_theory.Steps.{after, machine_of_parts}
 use Rattle.machine_steps.specs.machine_theory.Theory as theory
 use Rattle.machine_steps.proofs.Lemmas.{all_after_more, same_code, same_config, same_machine}
 use Rattle.machine_views.specs.Subjects.{processors_of}
-use Rattle.page_command.specs.Changes.{Change, changes_to, with_changes}
+use Rattle.page_command.specs.Changes.{changes_to, with_changes}
 use Rattle.page_command.specs.Laws.{view_after}
 use Rattle.page_command.specs.Steps.{changes_between, changes_from, parts_by, parts_on, step_changes}
-use Rattle.page_command.specs.Views.{AreSameViews, IsPart, Part, View, view_at, view_by, view_on}
+use Rattle.page_command.specs.Views.{AreSameViews, View, view_at, view_by, view_on}
 use Rattle.page_command.proofs.Putting.{put_shown}
 use Rattle.page_command.proofs.Writing.{step_shows}
 

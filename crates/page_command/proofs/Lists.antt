@@ -1,5 +1,5 @@
 -- Lists of parts, and the texts of their changes.
-use Rattle.std.proofs.Common.{◌≡◌, ℕ, zero, suc, ◌<◌, ◌⊎◌, inl, inr, ◌==◌, Bool, true, false, List, [], ◌∷◌, ◌++◌, map, flat_map, refl, sym, ap, ap}
+use Rattle.std.proofs.Common.{◌≡◌, ℕ, zero, suc, ◌<◌, ◌⊎◌, inl, inr, ◌==◌, Bool, true, false, List, [], ◌∷◌, ◌++◌, flat_map, refl, sym, ap, ap}
 use Rattle.std.proofs.Common.{◌∙◌, append_assoc, arith}
 use Rattle.std.specs.Prelude.{if◌then◌else◌, slice_index}
 use Rattle.std.proofs.lemmas.Bool.{cases_eq, eqb-true}
@@ -7,7 +7,7 @@ use Rattle.std.proofs.lemmas.Grind.{flat_map-append}
 use Rattle.std.proofs.lemmas.List.{append-nil, map-append}
 use Rattle.messages.specs.Places.{In}
 use Rattle.messages.proofs.Lemmas.{In-append_left, In-append_right}
-use Rattle.page_command.specs.Changes.{Change, change_text, changes_text, change_to, changes_to}
+use Rattle.page_command.specs.Changes.{change_text, changes_text, change_to, changes_to}
 use Rattle.page_command.specs.Steps.{registers_changed}
 use Rattle.page_command.specs.Views.{Part, Register, View}
 

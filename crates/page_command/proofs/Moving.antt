@@ -1,6 +1,6 @@
 -- What moves of messages, services and writes from outside change.
-use Rattle.std.proofs.Common.{◌≡◌, ℕ, zero, suc, ◌+◌, ◌-◌, ◌*◌, ◌/◌, ◌%◌, ◌<◌, ◌^◌, ◌⊎◌, inl, inr, Bool, true, false, ◌&&◌, List, [], ◌∷◌, ◌++◌}
-use Rattle.std.proofs.Common.{Option, Some, None, refl, sym, ap, ap₂, ◌∙◌, subst, arith, nat_lt}
+use Rattle.std.proofs.Common.{◌≡◌, ℕ, zero, suc, ◌+◌, ◌*◌, ◌/◌, ◌%◌, ◌^◌, ◌⊎◌, inl, inr, Bool, true, false, List, [], ◌∷◌, ◌++◌}
+use Rattle.std.proofs.Common.{Option, Some, None, refl, sym, ap, ap₂, ◌∙◌, arith, nat_lt}
 use Rattle.std.specs.Prelude.{if◌then◌else◌, length, slice_get}
 use Rattle.std.proofs.lemmas.Bool.{cases_eq}
 use Rattle.std.proofs.lemmas.Nat.{div-mul-add, mod_below, pow_pos}
@@ -9,18 +9,15 @@ use Rattle.omega_wires.specs.Wires.{bit, bit_of_stage, rotated_right, wire_after
 use Rattle.messages.specs.declared.message.Request.{Request}
 use Rattle.messages.specs.declared.message.Record.{Record}
 use Rattle.messages.specs.declared.message.Reply.{Reply}
-use Rattle.messages.specs.declared.moves.UpMove.{UpMove}
 use Rattle.messages.specs.declared.moves.UpMove.TheVariants as up
-use Rattle.messages.specs.declared.moves.DownMove.{DownMove}
 use Rattle.messages.specs.declared.moves.DownMove.TheVariants as down
 use Rattle.messages.specs.Moves.{accepted, answer, answered, down_from, has_room, module_replied, module_taken, push_all, up_from}
 use Rattle.messages.specs.Network.{Net, put_records, put_replies, put_requests}
 use Rattle.messages.specs.Places.{In}
 use Rattle.messages.specs.Queues.{Combination, answers, combination, records_but, records_of, unmarked}
 use Rattle.messages.proofs.Lemmas.{put2_other, put_other}
-use Rattle.machine_steps.specs.machine_theory.Processors.{ObservedCore, program, sizes_of}
+use Rattle.machine_steps.specs.machine_theory.Processors.{ObservedCore, sizes_of}
 use Rattle.machine_steps.specs.machine_theory.Theory as theory
-use Rattle.machine_views.specs.Places.{records_before}
 use Rattle.page_command.specs.Steps.{parts_of_down, parts_of_serve, parts_of_up}
 use Rattle.page_command.specs.Views.{Core, Part, Place, Register, Word, view_on}
 use Rattle.page_command.proofs.Frames.{IsSamePlace, core_kept, place_kept, register_kept, word_kept}

@@ -10,7 +10,7 @@ use Rattle.messages.specs.Network.{Net, empty_net}
 use Rattle.messages.specs.Places.{In}
 use Rattle.messages.proofs.Lemmas.{In-append_left, In-append_right}
 use Rattle.omega_network.specs.Networks.{net_of}
-use Rattle.machine_steps.specs.Machines.{IsMachine, MachineLists, machine_of}
+use Rattle.machine_steps.specs.Machines.{IsMachine, MachineLists}
 use Rattle.machine_steps.specs.Runs.{IsOpening}
 use Rattle.machine_steps.specs.machine_theory.Processors.{ObservedCore, word_at}
 use Rattle.machine_steps.specs.machine_theory.Steps.{machine_of_parts}

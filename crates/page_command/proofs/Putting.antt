@@ -1,9 +1,9 @@
 -- Changes put on a view.
-use Rattle.std.proofs.Common.{◌≡◌, ℕ, ◌⊎◌, inl, inr, ◌==◌, ◌&&◌, Bool, true, false, cond, List, [], ◌∷◌, ◌++◌, refl, sym, ap, ap₂, ◌∙◌}
+use Rattle.std.proofs.Common.{◌≡◌, ◌⊎◌, inl, inr, ◌==◌, Bool, true, false, List, [], ◌∷◌, refl, sym, ap, ap₂, ◌∙◌}
 use Rattle.std.specs.Prelude.{if◌then◌else◌}
 use Rattle.std.proofs.lemmas.Bool.{and_from, and_parts, eq-eqb, eqb-true}
 use Rattle.messages.specs.Places.{In}
-use Rattle.page_command.specs.Changes.{Change, change_to, changes_to, is_same, with_change, with_changes}
+use Rattle.page_command.specs.Changes.{change_to, changes_to, is_same, with_change, with_changes}
 use Rattle.page_command.specs.Views.{Core, Part, Place, Register, View, Word}
 
 -- ---- parts that are the same

@@ -1,6 +1,6 @@
 -- What a turn changes.
-use Rattle.std.proofs.Common.{◌≡◌, ℕ, ◌<◌, ◌^◌, ◌⊎◌, inl, inr, Bool, true, false, ◌||◌, List, [], ◌∷◌, ◌++◌, refl, sym, ap, ◌∙◌, subst}
-use Rattle.std.specs.Prelude.{if◌then◌else◌, slice_index}
+use Rattle.std.proofs.Common.{◌≡◌, ℕ, ◌⊎◌, inl, inr, Bool, true, false, List, [], ◌∷◌, ◌++◌, refl, sym, ap, ◌∙◌, subst}
+use Rattle.std.specs.Prelude.{slice_index}
 use Rattle.std.proofs.lemmas.Bool.{cases_eq}
 use Rattle.flat_machine.specs.declared.config.Config.{Config}
 use Rattle.messages.specs.declared.message.Reply.{Reply}
@@ -9,7 +9,7 @@ use Rattle.messages.specs.Moves.{injected, port_taken}
 use Rattle.messages.specs.Places.{In}
 use Rattle.machine_views.specs.Places.{records_before}
 use Rattle.messages.proofs.Lemmas.{In-append_left, In-append_right, put2_other, put_other, put_same}
-use Rattle.machine_steps.specs.machine_theory.Processors.{ObservedCore, program, sizes_of}
+use Rattle.machine_steps.specs.machine_theory.Processors.{ObservedCore, program}
 use Rattle.machine_steps.specs.machine_theory.Theory as theory
 use Rattle.machine_steps.specs.serialization.Program.{Kind, Rests, Alone, Refers}
 use Rattle.page_command.specs.Steps.{parts_of_turn, registers_changed, slot_of}

@@ -1,5 +1,5 @@
 -- What a write from outside changes, and what any step changes.
-use Rattle.std.proofs.Common.{◌≡◌, ℕ, ◌-◌, ◌/◌, ◌<◌, ◌^◌, ◌⊎◌, inl, inr, Bool, true, false, ◌&&◌, List, [], ◌∷◌, ◌++◌, refl, sym, ap, ◌∙◌, subst}
+use Rattle.std.proofs.Common.{◌≡◌, ℕ, ◌-◌, ◌/◌, ◌<◌, ◌^◌, ◌⊎◌, inl, inr, Bool, true, false, ◌&&◌, List, [], refl, sym, ap, ◌∙◌, subst}
 use Rattle.std.proofs.Common.{nat_lt, arith}
 use Rattle.std.specs.Prelude.{if◌then◌else◌, slice_get, slice_index, suc}
 use Rattle.std.proofs.lemmas.Bool.{cases_eq, ltb-false}

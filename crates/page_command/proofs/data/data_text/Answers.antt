@@ -1,5 +1,4 @@
-use Rattle.std.proofs.Common.{ℕ, ◌++◌, List, [], false, length, ap, ap₂, ◌∙◌}
-use Rattle.std.specs.Prelude.{string_bytes}
+use Rattle.std.proofs.Common.{◌++◌, List, [], false, length, ap, ap₂, ◌∙◌}
 use Rattle.steps.specs.declared.step.Step.{Step}
 use Rattle.machine_steps.specs.Machines.{machine_of}
 use Rattle.trace_commands.specs.Stories.{story_steps_of}

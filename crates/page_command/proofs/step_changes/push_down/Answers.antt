@@ -1,4 +1,4 @@
-use Rattle.std.proofs.Common.{◌++◌, [], ◌∷◌, sym, ap, ◌∙◌}
+use Rattle.std.proofs.Common.{◌++◌, ◌∷◌, sym, ap, ◌∙◌}
 use Rattle.std.specs.Prelude.{string_bytes, suc}
 use Rattle.flat_machine.specs.declared.config.Config.{Config}
 use Rattle.page_command.specs.Steps.{inputs_of, parts_of_down}

@@ -1,4 +1,4 @@
-use Rattle.std.proofs.Common.{ℕ, ◌++◌, ◌-◌, ◌/◌, ◌^◌, List, [], ◌∷◌, sym, ap, ◌∙◌}
+use Rattle.std.proofs.Common.{ℕ, ◌++◌, ◌-◌, ◌/◌, ◌^◌, List, sym, ap, ◌∙◌}
 use Rattle.std.specs.Prelude.{string_bytes}
 use Rattle.flat_machine.specs.declared.poke.Poke.{Poke}
 use Rattle.steps.specs.declared.step.Step.TheVariants as step

@@ -1,4 +1,4 @@
-use Rattle.std.proofs.Common.{◌++◌, ◌||◌, sym, ap, ◌∙◌}
+use Rattle.std.proofs.Common.{◌++◌, ◌||◌, ap, ◌∙◌}
 use Rattle.std.specs.Prelude.{string_bytes}
 use Rattle.machine_steps.specs.machine_theory.Processors.{open_at}
 use Rattle.machine_views.specs.Subjects.{processors_of}
