@@ -19,6 +19,8 @@ function setUpProgram(run, choose) {
       const value = parseInt(pc, 16), known = run.facts.listing.get(pc);
       if (last >= 0 && value !== last + 4) list.append(make('div', { class: 'gap' }, '..'));
       last = value;
+      const place = placeOfAddress(value);
+      if (place && place.offset === 0) list.append(make('div', { class: 'program-label' }, place.name + ':'));
       const line = make('div', { class: 'program-line' + (at.has(pc) ? ' here' : '') });
       const marks = make('span', { class: 'marks' });
       for (const p of (at.get(pc) || []).slice(0, 8)) {

@@ -94,6 +94,13 @@ witness = record { name = codes "witness"; low = 0; high = 4294967295 }
 abbrev pub step : Bounds
 step = record { name = codes "step"; low = 0; high = 4294967295 }
 
+-- the number of the first step of a page, and how many steps it has at most
+abbrev pub first_step : Bounds
+first_step = record { name = codes "from"; low = 0; high = 4294967295 }
+
+abbrev pub step_count : Bounds
+step_count = record { name = codes "steps"; low = 1; high = 500000 }
+
 -- ---- the arguments
 
 -- a file, which is required
@@ -197,7 +204,8 @@ unfoldable pub order_command : App
 order_command = command (codes "order") (lines ++ (flag (codes "abi") ∷ decimal ∷ json ∷ []))
 
 unfoldable pub story_command : App
-story_command = command (codes "story") (lines ++ (flag (codes "rounds") ∷ decimal ∷ json ∷ []))
+story_command = command (codes "story")
+    (lines ++ (flag (codes "network") ∷ flag (codes "rounds") ∷ decimal ∷ json ∷ []))
 
 unfoldable pub stats_command : App
 stats_command = command (codes "stats") (replay
@@ -207,7 +215,7 @@ unfoldable pub picture_command : App
 picture_command = command (codes "picture") (replay ++ (number step ∷ symbols ∷ []))
 
 unfoldable pub page_command : App
-page_command = command (codes "page") replay
+page_command = command (codes "page") (replay ++ (number first_step ∷ number step_count ∷ symbols ∷ []))
 
 unfoldable pub study_command : App
 study_command = command (codes "study")

@@ -17,7 +17,7 @@ use Rattle.command_forms.specs.Commands.{port, processor, queue, records, page_c
 use Rattle.command_forms.specs.Commands.{run_command, runs}
 use Rattle.command_forms.specs.Commands.{shared_word, shared_words, stages, start, states, stats_command, step, steps}
 use Rattle.command_forms.specs.Commands.{first_line, last_line, steps_command, story_command, study_command, sweep_steps}
-use Rattle.command_forms.specs.Commands.{seconds, trace_command, ultra_command, witness, words_command}
+use Rattle.command_forms.specs.Commands.{first_step, seconds, step_count, trace_command, ultra_command, witness, words_command}
 use Rattle.command_forms.proofs.Lemmas.{commands}
 use Rattle.settings.specs.Given.{HasAsm, HasDebug, HasDis, HasExplore, HasHunt, HasLines, HasPath, HasPicture}
 use Rattle.settings.specs.Given.{HasReplay, HasRun, HasSizes, HasStudy, IsComplete, IsOneOf, IsWhole, command_names}
@@ -76,7 +76,7 @@ Has name rows =
     (Where (bytes_eq name (codes "story")) (HasLines rows)
     (Where (bytes_eq name (codes "stats")) (HasReplay rows)
     (Where (bytes_eq name (codes "picture")) (HasPicture rows)
-    (Where (bytes_eq name (codes "page")) (HasReplay rows)
+    (Where (bytes_eq name (codes "page")) (HasPage rows)
     (Where (bytes_eq name (codes "study")) (HasStudy rows)
     (Where (bytes_eq name (codes "trace")) (HasPath (codes "TRACE") rows)
     (Where (bytes_eq name (codes "steps")) (HasAsm rows)
@@ -261,8 +261,11 @@ picture_provided words e = whole (codes "picture") _ refl (
 
 page_provided : IsProvided (built_leaf page_command.top)
 unfolding commands
-page_provided words e = whole (codes "page") _ refl
-    (replay_there (built_leaf page_command.top) words refl files_required refl e)
+page_provided words e = whole (codes "page") _ refl (
+  replay_there (built_leaf page_command.top) words refl files_required refl e,
+  number_there (built_leaf page_command.top) first_step words refl e,
+  number_there (built_leaf page_command.top) step_count words refl e,
+)
 
 explore_provided : IsProvided (built_leaf explore_command.top)
 unfolding commands

@@ -38,6 +38,7 @@ const ALL: Choice = Choice {
     word: None,
     from: None,
     to: None,
+    network: false,
 };
 
 /// A report on a trace.

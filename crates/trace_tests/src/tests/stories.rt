@@ -124,6 +124,7 @@ fn chosen_lines(rt: HostRuntime) -> Result<(), Fail> {
             word,
             from,
             to,
+            network: false,
         };
         let story = Asked::Story(choice);
         let ran = run(alloc, story, trace.as_slice(), Ok(image.as_slice()), 1);
@@ -211,6 +212,7 @@ fn marked_rounds(rt: HostRuntime) -> Result<(), Fail> {
             word: None,
             from,
             to: None,
+            network: false,
         };
         let asked = Asked::Rounds(choice);
         let ran = run(alloc, asked, trace.as_slice(), Ok(image.as_slice()), 1);
