@@ -30,9 +30,11 @@ function setUpProgram(run, choose) {
         marks.append(mark);
       }
       if ((at.get(pc) || []).length > 8) marks.append(make('span', {}, '+' + (at.get(pc).length - 8)));
-      const text = known && (known.from < now) ? known.text : 'not yet executed';
-      line.append(marks, make('code', { class: 'address' }, pc), make('code', { class: known && known.from < now ? ''
-        : 'faint' }, text));
+      // a page that begins later does not know what was executed before
+      const seen = known && (known.from < now || run.data.first > 0);
+      const text = seen ? known.text : run.data.first > 0 ? 'not executed here' : 'not yet executed';
+      line.append(marks, make('code', { class: 'address' }, pc), make('code', { class: seen ? '' : 'faint' },
+        text));
       list.append(line);
     }
   };

@@ -60,7 +60,7 @@ impl Display for TooLong {
         let steps = self.steps;
         write!(
             f,
-            "a page shows 500000 steps, and the trace has {steps}: choose some with '--from <STEP>' and '--steps <NUMBER>'"
+            "a page shows 500000 steps, and the trace has {steps}: choose some with '--from <NUMBER>' and '--steps <NUMBER>'"
         )
     }
 }

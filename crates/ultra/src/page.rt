@@ -1755,9 +1755,10 @@ mark.style.background = colourOf(p);
 marks.append(mark);
 }
 if ((at.get(pc) || []).length > 8) marks.append(make('span', {}, '+' + (at.get(pc).length - 8)));
-const text = known && (known.from < now) ? known.text : 'not yet executed';
-line.append(marks, make('code', { class: 'address' }, pc), make('code', { class: known && known.from < now ? ''
-: 'faint' }, text));
+const seen = known && (known.from < now || run.data.first > 0);
+const text = seen ? known.text : run.data.first > 0 ? 'not executed here' : 'not yet executed';
+line.append(marks, make('code', { class: 'address' }, pc), make('code', { class: seen ? '' : 'faint' },
+text));
 list.append(line);
 }
 };
