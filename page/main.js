@@ -138,8 +138,8 @@ function start() {
     if (element) element.classList.add('last');
   }
 
-  const told = { instructionAt, consoleNow: (p) => run.consoleOf(p, step) };
-  const point = (key) => showDetail(key || detail.pinned || null, view, items, told);
+  const facts = { instructionAt, consoleNow: (p) => run.consoleOf(p, step) };
+  const point = (key) => showDetail(key || detail.pinned || null, view, items, facts);
 
   // a machine that is too large to be seen at once is shown where the last step was
   function lookAtLast() {

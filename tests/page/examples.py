@@ -120,7 +120,7 @@ def parts(folder, made):
     yield Part(folder, "many", made["sixty_four"], 500, 300)
     yield Part(folder, "first", hot_spot, 0, 1)
     yield Part(folder, "sent", hot_spot, next(i for i, line in enumerate(hot_spot.story) if "sends" in line), 1)
-    yield Part(folder, "end", made["fault"], 20, 500000)
+    yield Part(folder, "end", made["fault"], 10, 500000)
     yield Part(folder, "none", made["fault"], 4294967295, 500000)
 
 

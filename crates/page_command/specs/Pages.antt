@@ -70,8 +70,8 @@ view_lines m steps = changes_line (opening_changes m)
 abbrev pub window_story : Window → (opening : MachineLists) → List Step → List ℕ
 window_story w opening all = story_of (story_choice w) (story_steps_of false opening all)
 
--- The data of a page of a window: the symbols; the view of the machine after the steps before the window, and the changes
--- of each step in it; the story of these steps; and their entries in the serial order.
+-- The data of a page of a window: the symbols; the view of the machine after the steps before the window, and the
+-- changes of each step in it; the story of these steps; and their entries in the serial order.
 abbrev pub data_text : Window → List SymbolRow → (opening first : MachineLists) → List Step → (order : List ℕ) → List ℕ
 data_text w rows opening first all order =
     head_lines opening.config (counts_of opening.config w rows all) ++ symbol_lines rows

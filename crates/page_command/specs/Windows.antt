@@ -1,6 +1,6 @@
--- Windows of a run: steps with numbers from a first one up to a last one, their lines in the story, and their entries in
--- the serial order.
-use Rattle.std.specs.Prelude.{ℕ, ◌+◌, ◌-◌, ◌≤◌, Bool, false, List, take, drop, length, Option, Some, None, nat_lt, is_none}
+-- Windows of a run: steps with numbers from a first one up to a last one, their lines in the story, and their entries
+-- in the serial order.
+use Rattle.std.specs.Prelude.{ℕ, ◌+◌, ◌-◌, false, List, take, drop, length, Option, Some, None, nat_lt, is_none}
 use Rattle.std.specs.Prelude.{◌&&◌, if◌then◌else◌}
 use Rattle.steps.specs.declared.step.Step.{Step}
 use Rattle.flat_machine.specs.declared.config.Config.{Config}

@@ -126,7 +126,8 @@ fn text_to_changes(
     requires words { image.now.shared_words ≡ config.shared_words }
     ensures are { IfOk result (λ text. (opening first : MachineLists) × IsOpening config image.now opening
         × IsRun opening (steps_before window all.now) first
-        × (string_bytes text ≡ head_lines config (counts_of config window (rows_in (option_copied symbols.entry)) all.now)
+        × (string_bytes text ≡ head_lines config
+        (counts_of config window (rows_in (option_copied symbols.entry)) all.now)
         ++ symbol_lines (rows_in (option_copied symbols.entry)) ++ view_lines first (steps_within window all.now))) }
     ensures refused { IfErr result (IsFaultOfSize config) }
 {

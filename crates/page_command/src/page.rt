@@ -14,8 +14,8 @@ use steps::Step;
 use symbol_table::SymbolTable;
 use trace_commands::TraceReport;
 
-/// What `ultra page` prints for a trace ([`trace_commands::lines_command`]): a text, the data ([`data_text`]) in which no
-/// tag begins, and another text. The exit status is 1 if a fault has stopped a processor.
+/// What `ultra page` prints for a trace ([`trace_commands::lines_command`]): a text, the data ([`data_text`]) in which
+/// no tag begins, and another text. The exit status is 1 if a fault has stopped a processor.
 #[derive(Clone, Copy, Debug, Drop)]
 pub struct Page<'a> {
     /// What stands before the data.

@@ -29,7 +29,7 @@ pub trait Selection {
     ghost use Rattle.trace_commands.specs.Choices.{Refusal};
 
     /// Why a trace is refused, in the words of the parser of command lines.
-    type Refusal: Display;
+    type Refusal: Display + Drop;
 
     /// Whether steps on a machine of this size are refused.
     ghost refuses: { Self → Refusal };

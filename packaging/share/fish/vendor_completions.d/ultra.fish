@@ -168,6 +168,7 @@ complete -c ultra -n '__ultra_has_command story' -l word -x -d 'Print the lines 
 complete -c ultra -n '__ultra_has_command story' -l from -x -d 'Print no line before the line of this number, 0 to 4294967295'
 complete -c ultra -n '__ultra_has_command story' -l to -x -d 'Print no line after the line of this number, 0 to 4294967295'
 complete -c ultra -n '__ultra_has_command story' -l symbols -r -F -d 'Print names beside addresses and words, from the symbol table of an ELF file or from what `nm` prints; not with --json'
+complete -c ultra -n '__ultra_has_command story' -l network -d 'Print only what the network does: moves of messages, and services'
 complete -c ultra -n '__ultra_has_command story' -l rounds -d 'Print `round N` before the first printed step of each round of the sweep'
 complete -c ultra -n '__ultra_has_command story' -l decimal -d 'Print values in decimal, in two\'s complement; not with --json'
 complete -c ultra -n '__ultra_has_command story' -l json -d 'Print each line as a JSON object'
@@ -189,8 +190,11 @@ complete -c ultra -n '__ultra_has_command picture' -l help -d 'Print help'
 complete -c ultra -n '__ultra_wants_more picture 2 --words --step --symbols' -F
 
 complete -c ultra -n '__ultra_has_command page' -l words -x -d 'Shared words of four bytes that the machine has, 1 to 262144 [default: 1024]'
+complete -c ultra -n '__ultra_has_command page' -l from -x -d 'Begin with the step of this number, 0 to 4294967295 [default: 0]'
+complete -c ultra -n '__ultra_has_command page' -l steps -x -d 'Play at most this many steps, 1 to 500000 [default: all, of which a trace may have 500000]'
+complete -c ultra -n '__ultra_has_command page' -l symbols -r -F -d 'Show names of words and program counters, from the symbol table of an ELF file or from what `nm` prints'
 complete -c ultra -n '__ultra_has_command page' -l help -d 'Print help'
-complete -c ultra -n '__ultra_wants_more page 2 --words' -F
+complete -c ultra -n '__ultra_wants_more page 2 --words --from --steps --symbols' -F
 
 complete -c ultra -n '__ultra_has_command study' -l k -x -d 'Stages of the networks, numbers and ranges from 0 to 6 that ascend, as `0..3,6` [default: 0..6]'
 complete -c ultra -n '__ultra_has_command study' -l b -x -d 'Records that an output of a switch holds, 0 to 16, as `0,4`; with 0 nothing is combined [default: 4]'
