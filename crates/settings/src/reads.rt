@@ -14,8 +14,8 @@ ghost use Rattle.settings.specs.Given.{IsComplete};
 ghost use Rattle.command_forms.specs.Forms.{bounded, bounds_as, ranged, ranged_as};
 
 use crate::choice::{
-    Asm, Check, Counts, Dis, Explain, Explore, Hunt, LineStyle, Lines, Order, Page, Picture, Replay,
-    Report, Run, Schedule, Session, Settings, Sizes, Story, Study, Trace, Words,
+    Asm, Check, Counts, Dis, Explain, Explore, Hunt, LineStyle, Lines, Order, Page, Picture,
+    Replay, Report, Run, Schedule, Session, Settings, Sizes, Story, Study, Trace, Words,
 };
 use clap::ArgMatches;
 use command_forms::{

@@ -54,13 +54,20 @@ impl Selection for Choice {
 }
 
 /// Reads a trace and an image, and prints what is selected of the trace's steps: an [`Order`](crate::order::Order) or a
-/// [`Story`](crate::story::Story) with this choice, or a page of some of the steps. The machine has the trace's size and
-/// this many shared words, and opens on the image.
+/// [`Story`](crate::story::Story) with this choice, or a page of some of the steps. The machine has the trace's size
+/// and this many shared words, and opens on the image.
 ///
 /// Returns the exit status: that of the text if it is printed; 2 if the trace is refused, which standard error reports;
 /// else that of the fault reported there. A fault of the trace comes before such a refusal, and all others come after
 /// it, in the order of [`trace_command`](crate::trace_command).
-pub fn lines_command<S: Selection, A: TraceReport, T: LinkRead, R: LinkRead, W: LinkWrite, E: Write>(
+pub fn lines_command<
+    S: Selection,
+    A: TraceReport,
+    T: LinkRead,
+    R: LinkRead,
+    W: LinkWrite,
+    E: Write,
+>(
     alloc: Global,
     trace: &mut T,
     file: &mut io::Result<R>,
@@ -73,11 +80,13 @@ pub fn lines_command<S: Selection, A: TraceReport, T: LinkRead, R: LinkRead, W: 
     requires reads { T.has_failed trace.old ≡ false }
     requires reads_image { IfOk file.old (λ reader. R.has_failed reader ≡ false) }
     requires prints { W.has_failed out.old ≡ false }
-    ensures printed { result ≤ 1 → PrintsTraceReport (UnlessRefused (S.refuses selection.now) (A.reports trace_report.now))
+    ensures printed { result ≤ 1 → PrintsTraceReport
+        (UnlessRefused (S.refuses selection.now) (A.reports trace_report.now))
         (trace_input (input T.remaining T.has_failed trace.old trace.new)
         (opened_input R.remaining R.has_failed file.old file.new) shared_words)
         (output W.contents W.has_failed out.old out.new) result }
-    ensures fault { 2 ≤ result → (RefusesTrace (S.refuses selection.now) shared_words (T.remaining trace.old) × (result ≡ 2))
+    ensures fault { 2 ≤ result →
+        (RefusesTrace (S.refuses selection.now) shared_words (T.remaining trace.old) × (result ≡ 2))
         ⊎ ReportsCause (TraceCommandFails (A.reports trace_report.now)
         (trace_input (input T.remaining T.has_failed trace.old trace.new)
         (opened_input R.remaining R.has_failed file.old file.new) shared_words)

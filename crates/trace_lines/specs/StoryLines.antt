@@ -1,7 +1,7 @@
 -- The lines of a run's story: a line for each step that is chosen, read off the step, its outcome, the values that it
 -- tells and the groups of requests before it. If steps have rounds, a mark stands before the first chosen step of each.
-use Rattle.std.specs.Prelude.{◌≡◌, ℕ, ◌+◌, Bool, true, not, ◌==◌, ◌&&◌, ◌||◌, List, [], ◌∷◌, ◌++◌, codes, length, Option, Some}
-use Rattle.std.specs.Prelude.{None, if◌then◌else◌, unwrap_or}
+use Rattle.std.specs.Prelude.{◌≡◌, ℕ, ◌+◌, Bool, true, not, ◌==◌, ◌&&◌, ◌||◌, List, [], ◌∷◌, ◌++◌, codes, length}
+use Rattle.std.specs.Prelude.{Option, Some, None, if◌then◌else◌, unwrap_or}
 use Rattle.std.specs.Fmt.{decimal}
 use Rattle.command_io.specs.Digits.{line_feed}
 use Rattle.steps.specs.declared.step.Step.{Step}

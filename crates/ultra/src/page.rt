@@ -1960,8 +1960,8 @@ marks.prepend(draw('path', { d: path, class: 'saw' + (inside ? '' : ' before'), 
 marks.append(draw('path', { d: `M${x - 4} ${y - 14}L${x} ${y - 7}L${x + 4} ${y - 14}Z`, fill: writer.p < 0
 ? '#777' : colourOf(writer.p) }));
 }
-const text = 'step ' + (data.first + step) + ': processor ' + reference.p + ', ' + line.instruction + ', word ' + reference.word
-+ ' ' + valueText(line.before) + (reference.writes ? ' to ' + valueText(line.after) : '');
+const text = 'step ' + (data.first + step) + ': processor ' + reference.p + ', ' + line.instruction + ', '
++ wordTitle(reference.word) + ' ' + valueText(line.before) + (reference.writes ? ' to ' + valueText(line.after) : '');
 const g = draw('g', { class: 'reference', role: 'button', tabindex: '0', 'aria-label': text, 'data-go': step + 1 });
 g.append(draw('title', {}, text), draw('text', { x: 4, y: y + 4, class: 'small faint' }, String(data.first + step)));
 if (reference.writes) g.append(draw('circle', { cx: x, cy: y, r: 7, fill: reference.p < 0 ? '#777'
@@ -2278,8 +2278,8 @@ if (!outcome) return;
 const element = stage.keyed.get(keyOfStep(outcome));
 if (element) element.classList.add('last');
 }
-const told = { instructionAt, consoleNow: (p) => run.consoleOf(p, step) };
-const point = (key) => showDetail(key || detail.pinned || null, view, items, told);
+const facts = { instructionAt, consoleNow: (p) => run.consoleOf(p, step) };
+const point = (key) => showDetail(key || detail.pinned || null, view, items, facts);
 function lookAtLast() {
 if (data.k < 4) { fitCamera(); return; }
 const at = placeOfKey(step > 0 ? keyOfStep(outcomeOf(data.story(step - 1))) : 'p0');

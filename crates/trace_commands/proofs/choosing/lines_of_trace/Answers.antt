@@ -11,7 +11,7 @@ use Rattle.trace_commands.proofs.Statuses.{error_is}
 use Rattle.trace_commands.proofs.choosing.lines_of_trace.Goals as goal
 
 -- A trace without a refusal is not refused.
-not_refused : {X : Type 0} (refusal : Option X) (b : Bool) → None ≡ refusal → is_some refusal ≡ b → b ≡ false
+not_refused : {X : Type 0} (refusal : Option X) (b : Bool) → refusal ≡ None → is_some refusal ≡ b → b ≡ false
 not_refused None b none is = sym is
 not_refused (Some x) b none is = absurd (let e = none in cc)
 
@@ -20,6 +20,8 @@ returns-clause-printed g c read is low =
     let refuses = g.S.Selection.refuses c.args.selection.now in
     let reports = g.A.TraceReport.reports c.args.trace_report.now in
     let image = opened_input {R = g.row.R.Denot} g.R.Read.remaining g.R.Link.has_failed c.args.file.now c.print_trace-outcome.new.file in
+    let granted = ap₂ refuses (sym c.config.ensures) (sym c.steps.ensures)
+    ∙ not_refused c.refusal.result _ c.in_default.is c.refusal.ensures in
     prints_weaker (OfTrace reports c.args.trace.now c.args.shared_words) (UnlessRefused refuses reports) (trace_input read image c.args.shared_words)
     (output {W = g.row.W.Denot} g.W.Write.contents g.W.Link.has_failed c.args.out.now c.print_trace-outcome.new.out) _
     (λ d i steps text p. (ap₂ refuses p.0 p.1 ∙ granted, p.2))
