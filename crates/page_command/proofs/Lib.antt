@@ -9,5 +9,6 @@ pub mod OpeningViews
 pub mod PlacesSet
 pub mod Putting
 pub mod Registers
+pub mod SymbolLines
 pub mod Turning
 pub mod Writing

@@ -1,6 +1,6 @@
 -- The opening line gives the view of the machine.
 use Rattle.std.proofs.Common.{◌≡◌, ℕ, zero, suc, ◌<◌, ◌≤◌, ◌^◌, ◌⊎◌, inl, inr, ◌==◌, Bool, true, false, List, [], ◌∷◌, ◌++◌, refl, sym, ap, ◌∙◌}
-use Rattle.std.proofs.Common.{arith, subst, ap₂, ◌+◌, ◌&&◌}
+use Rattle.std.proofs.Common.{arith, subst, ◌+◌}
 use Rattle.std.specs.Prelude.{if◌then◌else◌, slice_get, slice_index, is_none}
 use Rattle.std.proofs.lemmas.Bool.{and_parts, cases_eq, cases_lt, eqb-true}
 use Rattle.flat_machine.specs.State.{Processor}

@@ -50,7 +50,7 @@ places_set net n (suc d) = places_set net n d ++ places_at net d n
 -- all processors, the registers and words that are not 0, and the places at which something stands
 unfoldable pub parts_set : Config → (memory : ℕ → ℕ) → (ℕ → Processor) → Net → List Part
 parts_set c memory states net =
-    processors_set states (2 ^ c.k) ++ words_set memory c.shared_words ++ places_set net (2 ^ c.k) (c.k + 1)
+    processors_set states (2 ^ c.k) ++ (words_set memory c.shared_words ++ places_set net (2 ^ c.k) (c.k + 1))
 
 -- the changes that lead to a machine
 abbrev pub opening_changes : MachineLists → List Change

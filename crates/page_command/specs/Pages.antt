@@ -6,7 +6,8 @@ use Rattle.std.specs.List.{flat_map}
 use Rattle.std.specs.Str.{chars}
 use Rattle.flat_machine.specs.declared.config.Config.{Config}
 use Rattle.elf_image.specs.Images.{ImageContents}
-use Rattle.symbol_table.specs.Rows.{SymbolRow}
+use Rattle.symbol_table.specs.Rows.{SymbolRow, row_of}
+use Rattle.symbol_table.specs.declared.row.Symbol.{Symbol}
 use Rattle.steps.specs.declared.step.Step.{Step}
 use Rattle.machine_steps.specs.Machines.{MachineLists, machine_of}
 use Rattle.machine_steps.specs.Runs.{IsOpening, IsRun}
@@ -38,6 +39,9 @@ head_lines c n = codes "ultra page 1\n" ++ size_line c ++ counts_line n
 -- `ADDRESS SIZE NAME`
 unfoldable pub symbol_line : SymbolRow → List ℕ
 symbol_line row = hex_of_word row.address ++ codes " " ++ hex_of_word row.size ++ codes " " ++ row.name ++ codes "\n"
+
+abbrev pub line_of : Symbol → List ℕ
+line_of symbol = symbol_line (row_of symbol)
 
 -- a line for each symbol
 unfoldable pub symbol_lines : List SymbolRow → List ℕ
@@ -72,9 +76,10 @@ window_story w opening all = story_of (story_choice w) (story_steps_of false ope
 
 -- The data of a page of a window: the symbols; the view of the machine after the steps before the window, and the
 -- changes of each step in it; the story of these steps; and their entries in the serial order.
-abbrev pub data_text : Window → List SymbolRow → (opening first : MachineLists) → List Step → (order : List ℕ) → List ℕ
-data_text w rows opening first all order =
-    head_lines opening.config (counts_of opening.config w rows all) ++ symbol_lines rows
+abbrev pub data_text : Config → Window → List SymbolRow → (opening first : MachineLists) → List Step →
+    (order : List ℕ) → List ℕ
+data_text c w rows opening first all order =
+    head_lines c (counts_of c w rows all) ++ symbol_lines rows
     ++ view_lines first (steps_within w all) ++ window_story w opening all ++ order
 
 -- This is the data of a window of the steps of a trace and those of a drain, with the lines of their entries in the
@@ -89,7 +94,7 @@ pub record AreDataOf (w : Window) (rows : List SymbolRow) (c : Config) (image : 
   pub reached : IsRun opening (steps_before w all) first
   pub order : List ℕ
   pub ordered : AreOrderLines (entry_choice w opening all) c image steps order status
-  pub are : text ≡ data_text w rows opening first all order
+  pub are : text ≡ data_text c w rows opening first all order
 
 -- ---- the page
 

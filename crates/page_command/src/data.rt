@@ -1,12 +1,13 @@
 //! The data of a page.
 
-ghost use Rattle.std.specs.Prelude.{[], ◌≡◌, false, ◌≤◌, ◌++◌, List, IfOk, IfErr, OnOk, length, string_bytes};
+ghost use Rattle.std.specs.Prelude.{◌≡◌, ◌≤◌, ◌++◌, ℕ, List, IfOk, IfErr, OnOk, length, string_bytes};
 ghost use Rattle.std.specs.Option.{option_copied};
 ghost use Rattle.machine_steps.specs.Machines.{MachineLists};
 ghost use Rattle.machine_steps.specs.Runs.{IsOpening, IsRun};
 ghost use Rattle.command_io.specs.Files.{IsFaultOfSize};
 ghost use Rattle.machine_views.specs.Names.{rows_in};
 ghost use Rattle.trace_commands.specs.Causes.{IsNotTaken};
+ghost use Rattle.trace_commands.specs.Explained.{IsDrainedWithSteps};
 ghost use Rattle.trace_commands.specs.Orders.{AreOrderLines};
 ghost use Rattle.page_command.specs.Openings.{opening_changes};
 ghost use Rattle.page_command.specs.Pages.{AreDataOf, changes_line, counts_of, head_lines, symbol_lines, view_lines};
@@ -51,9 +52,31 @@ pub fn data_text(
     ensures refused { IfErr result (IsNotTaken config image.now steps.now) }
 {
     let all = drained_steps(alloc, image, config, steps)?;
-    let mut text = text_to_changes(alloc, image, config, all.as_slice(), window, symbols)?;
-    push_story(alloc, &mut text, image, config, all.as_slice(), window)?;
-    let choice = entry_choice(alloc, image, config, all.as_slice(), window)?;
+    data_of_all(alloc, image, config, steps, all.as_slice(), window, symbols)
+}
+
+/// The data of a page, and the exit status, by all steps: those of the trace, and then those of a drain.
+// A separate function, so that neither has many values to drop at each return.
+fn data_of_all(
+    alloc: Global,
+    image: &Image,
+    config: Config,
+    steps: &[Step],
+    all: &[Step],
+    window: Window,
+    symbols: Option<&SymbolTable<'_>>,
+) -> Result<(String, u8), Fault>
+    requires few { length steps.now ≤ 4194304 }
+    requires words { image.now.shared_words ≡ config.shared_words }
+    ensures are { IfOk result (λ done. IsDrainedWithSteps config image.now steps.now all.now →
+        AreDataOf window (rows_in (option_copied symbols.entry)) config image.now steps.now (string_bytes done.0)
+        done.1) }
+    ensures low { IfOk result (λ done. done.1 ≤ 1) }
+    ensures refused { IfErr result (IsNotTaken config image.now steps.now) }
+{
+    let mut text = text_to_changes(alloc, image, config, all, window, symbols)?;
+    push_story(alloc, &mut text, image, config, all, window)?;
+    let choice = entry_choice(alloc, image, config, all, window)?;
     let status = push_order(alloc, &mut text, image, config, steps, choice)?;
     Ok((text, status))
 }
@@ -133,7 +156,7 @@ fn text_to_changes(
 {
     let (before, within) = window.cut(all);
     let counts = Counts {
-        words: config.shared_words,
+        words: config.shared_words as usize,
         steps: within.len(),
         before: before.len(),
         all: all.len(),

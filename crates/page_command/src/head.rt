@@ -1,10 +1,12 @@
 //! The lines at the head of a page's data.
 
-ghost use Rattle.std.specs.Prelude.{◌≡◌, ◌++◌, OnOk, map, string_bytes};
+ghost use Rattle.std.specs.Prelude.{◌≡◌, ◌++◌, OnOk, string_bytes};
+ghost use Rattle.std.specs.Fmt.{decimal};
+ghost use Rattle.std.specs.List.{flat_map};
 ghost use Rattle.std.specs.Option.{option_copied};
 ghost use Rattle.machine_views.specs.Names.{rows_in};
 ghost use Rattle.symbol_table.specs.Rows.{row_of};
-ghost use Rattle.page_command.specs.Pages.{counts_line, head_lines, symbol_line, symbol_lines};
+ghost use Rattle.page_command.specs.Pages.{counts_line, head_lines, line_of, symbol_line, symbol_lines};
 
 use command_io::push_word;
 use flat_machine::Config;
@@ -17,7 +19,7 @@ use trace_commands::push_size;
 #[derive(Clone, Copy, Debug, Drop)]
 pub struct Counts {
     /// The number of shared words of the machine.
-    pub words: u32,
+    pub words: usize,
     /// The number of steps in the window.
     pub steps: usize,
     /// The number of steps before it.
@@ -48,17 +50,20 @@ pub fn push_head(text: &mut String, config: Config, counts: Counts) -> Result<()
 fn push_counts(text: &mut String, counts: Counts) -> Result<(), AllocError>
     ensures { OnOk result (string_bytes text.new ≡ string_bytes text.old ++ counts_line counts) }
 {
-    let Counts {
-        words,
-        steps,
-        before,
-        all,
-        symbols,
-    } = counts;
-    write!(
-        text,
-        "words {words} steps {steps} from {before} of {all} symbols {symbols}\n"
-    )
+    push_count(text, "words ", counts.words)?;
+    push_count(text, " steps ", counts.steps)?;
+    push_count(text, " from ", counts.before)?;
+    push_count(text, " of ", counts.all)?;
+    push_count(text, " symbols ", counts.symbols)?;
+    text.push('\n')
+}
+
+/// Appends a text and a count.
+fn push_count(text: &mut String, front: &str, count: usize) -> Result<(), AllocError>
+    ensures { OnOk result (string_bytes text.new ≡ string_bytes text.old ++ front.now ++ decimal count) }
+{
+    text.push_str(front)?;
+    write!(text, "{count}")
 }
 
 /// Appends a line for each symbol of a table, if there is one.
@@ -86,7 +91,7 @@ fn push_each_symbol(
     text: &mut String,
     symbols: &[Symbol<'_>],
 ) -> Result<(), AllocError>
-    ensures { OnOk result (string_bytes text.new ≡ string_bytes text.old ++ symbol_lines (map row_of symbols.now)) }
+    ensures { OnOk result (string_bytes text.new ≡ string_bytes text.old ++ flat_map line_of symbols.now) }
 {
     for symbol in symbols {
         push_symbol(alloc, text, symbol)?;
