@@ -52,8 +52,8 @@ pub record IsNamed (labels : Labels) (firsts : FirstLines) (at : Place) (line : 
 abbrev pub place_after : List (List ℕ) → ℕ → Place
 place_after lines count = fold after start (take count lines)
 
--- The word is in the line with the fault's number, and is the word at fault there. A label that is there twice is on a
--- line before, and the advice names the first of them.
+-- The word is in the line with the fault's number, and is the word at fault there. If the fault is that its label is
+-- there twice, a line before has the label, and the advice names the first such line.
 pub record IsInPlace (labels : Labels) (lines : List (List ℕ)) (t : TextFault) : Type 0 where
   pub line : List ℕ
   pub stands : slice_get lines (t.line - 1) ≡ Some line

@@ -55,7 +55,7 @@ IsLabelAdvice labels word (near_label name) = IsNearLabel labels word name
 IsLabelAdvice labels word no_label = Unit {0}
 IsLabelAdvice labels word other = ⊥
 
--- the advice for a label that is there twice: the first line that has it
+-- the advice for a label that is there twice: the first line that has it, if there is one
 abbrev pub twice_advice : (first : Option ℕ) → Advice
 twice_advice (Some line) = stands_on line
 twice_advice None = no_label

@@ -194,6 +194,7 @@ fn twice<'a>(around: &Around<'_, 'a>, parts: &Parts<'a>) -> Spot<'a>
     };
     let hint = match around.cursor.line_of(piece.bytes) {
         Some(line) => Hint::StandsOn(line),
+        // Never for a line that has this fault: an earlier line has its label.
         None => Hint::NoLabel,
     };
     Spot { piece, hint }
