@@ -15,9 +15,9 @@ use crate::help::{
     TRACE_ENDS, WORDS_ENDS,
 };
 use crate::ranges::{
-    BUDGET, COMBINATIONS, ChoiceOption, FIRST_LINE, FIRST_START, LAST_LINE, NumberOption, PORT,
-    PROCESSOR, QUEUE, RECORDS, RUN_STEPS, RUNS, SECONDS, SHARED_WORD, SHARED_WORDS, STAGES, START,
-    STATES, STEP, STEPS, SWEEP_STEPS, WITNESS,
+    BUDGET, COMBINATIONS, ChoiceOption, FIRST_LINE, FIRST_START, JOBS, LAST_LINE, NumberOption,
+    PORT, PROCESSOR, QUEUE, RECORDS, RUN_STEPS, RUNS, SECONDS, SHARED_WORD, SHARED_WORDS, STAGES,
+    START, STATES, STEP, STEPS, SWEEP_STEPS, WITNESS,
 };
 
 /// A command of the program.
@@ -247,6 +247,7 @@ const HUNT: CommandForm = CommandForm {
         Argument::Number(RUN_STEPS),
         Argument::Number(RUNS),
         Argument::Number(FIRST_START),
+        Argument::Choice(JOBS),
     ],
     ends: HUNT_ENDS,
 };

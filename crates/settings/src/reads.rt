@@ -17,9 +17,9 @@ use crate::choice::{
 };
 use clap::ArgMatches;
 use command_forms::{
-    BUDGET, COMBINATIONS, ChoiceOption, FIRST_LINE, FIRST_START, LAST_LINE, NumberOption, PORT,
-    PROCESSOR, QUEUE, RECORDS, RUN_STEPS, RUNS, SECONDS, SHARED_WORD, SHARED_WORDS, STAGES, START,
-    STATES, STEP, STEPS, SWEEP_STEPS, WITNESS,
+    BUDGET, COMBINATIONS, ChoiceOption, FIRST_LINE, FIRST_START, JOBS, LAST_LINE, NumberOption,
+    PORT, PROCESSOR, QUEUE, RECORDS, RUN_STEPS, RUNS, SECONDS, SHARED_WORD, SHARED_WORDS, STAGES,
+    START, STATES, STEP, STEPS, SWEEP_STEPS, WITNESS,
 };
 use std::alloc::{AllocError, Global};
 
@@ -415,6 +415,7 @@ fn hunt<'a>(matches: &ArgMatches<'a>) -> Hunt<'a>
         budget: number(matches, RUN_STEPS),
         runs: number(matches, RUNS),
         start: number(matches, FIRST_START),
+        jobs: byte_choice(matches, JOBS),
     }
 }
 
