@@ -1,10 +1,9 @@
 //! Runs that threads take ahead, side by side.
 
-ghost use Rattle.std.specs.Prelude.{◌≡◌, ◌≤◌, All, IfErr, IfOk, IfSome, OnOk, option_map};
-ghost use Rattle.schedules.specs.Sweeps.{most_of};
+ghost use Rattle.std.specs.Prelude.{◌≡◌, ◌≤◌, ◌<◌, ◌^◌, [], All, IfErr, IfOk, OnOk};
 ghost use Rattle.command_io.specs.Files.{IsFaultOfSize};
-ghost use Rattle.hunt_command.specs.Hunts.{IsResultOf, number_at};
-ghost use Rattle.hunt_command.specs.Taken.{IsTaken, state_of};
+ghost use Rattle.hunt_command.specs.declared.ahead.Taken.{Taken as TakenValue};
+ghost use Rattle.hunt_command.specs.Taken.{IsResultAt, IsTaken};
 
 use crate::command::Hunt;
 use crate::runs::{RunResult, result_of};
@@ -31,7 +30,7 @@ pub(crate) struct Taken {
 /// The results of a batch of runs that were taken ahead.
 #[derive(Drop)]
 pub(crate) struct Ahead {
-    /// The results, that of the first run last.
+    /// The results that were not asked for yet, that of the first run last.
     taken: Vec<Taken>,
     /// The place after those of the batch.
     end: u32,
@@ -48,8 +47,8 @@ impl Ahead {
         }
     }
 
-    /// The result of the run at the next place of a hunt. If it comes after the batch, the next batch is taken first, on
-    /// this many threads.
+    /// The result of the run at the next place of a hunt. If the place comes after the batch, the next batch is taken
+    /// first, on this many threads.
     ///
     /// # Errors
     ///
@@ -63,15 +62,22 @@ impl Ahead {
         config: Config,
         hunt: Hunt<'_>,
         place: u32,
-    ) -> Result<RunResult, Fault> {
+    ) -> Result<RunResult, Fault>
+        requires words { image.now.shared_words ≡ config.shared_words }
+        requires place { place < hunt.entry.runs }
+        requires ahead { All (IsTaken hunt.entry config image.now) self.old.taken.items }
+        ensures ahead { OnOk result (All (IsTaken hunt.entry config image.now) self.new.taken.items) }
+        ensures result { IfOk result (IsResultAt hunt.entry config image.now place) }
+        ensures refused { IfErr result (IsFaultOfSize config) }
+    {
         if self.end <= place {
             self.end = batch_end(jobs, place, hunt.runs);
             self.taken = take_batch(rt, jobs, alloc, image, config, hunt, place, self.end)?;
         }
-        match self.taken.pop_if(|taken| taken.place == place) {
-            Some(taken) => Ok(taken.result),
-            // No thread took the run, or the one that did was out of memory.
-            None => {
+        match self.taken.pop() {
+            Some(taken) if taken.place == place => Ok(taken.result),
+            // There is one thread, or the one that took the run was out of memory.
+            _ => {
                 let number = hunt.start.wrapping_add(place);
                 result_of(alloc, image, config, hunt.budget, number, hunt.observed)
             }
@@ -80,8 +86,12 @@ impl Ahead {
 }
 
 /// The place after those of a batch. It has as many runs as were taken before, so that a hunt shows its progress early.
-fn batch_end(jobs: u8, first: u32, runs: u32) -> u32 {
-    let jobs = u32::from(jobs);
+fn batch_end(jobs: u8, first: u32, runs: u32) -> u32
+    requires { first < runs }
+    ensures some { first < result }
+    ensures within { result ≤ runs }
+{
+    let jobs = u32::from(jobs).max(1);
     first + first.clamp(jobs * LEAST, jobs * MOST).min(runs - first)
 }
 
@@ -96,30 +106,50 @@ fn take_batch<P: Threads + Sync>(
     hunt: Hunt<'_>,
     first: u32,
     end: u32,
-) -> Result<Vec<Taken>, AllocError> {
-    let mut all = Vec::new(alloc);
+) -> Result<Vec<Taken>, AllocError>
+    requires words { image.now.shared_words ≡ config.shared_words }
+    requires batch { first < end }
+    ensures { IfOk result (λ all. All (IsTaken hunt.entry config image.now) all.items) }
+{
     let threads = u32::from(jobs).min(end - first);
     if threads < 2 {
-        return Ok(all);
+        return Ok(Vec::new(alloc));
     }
     let next = AtomicU32::new(first);
-    let work = |_: usize| take_runs(alloc, image, config, hunt, &next, end);
-    for mut taken in thread::map_indices(rt, alloc, threads as usize, &work)? {
-        all.append(&mut taken)?;
+    let work = |_: usize| -> Vec<Taken>
+        requires { image.now.shared_words ≡ config.shared_words }
+        ensures { All (IsTaken hunt.entry config image.entry.now) result.items }
+    { take_runs(alloc, image, config, hunt, end, &next) };
+    let parts = thread::map_indices(rt, alloc, threads as usize, &work)?;
+    in_order(alloc, parts)
+}
+
+/// The results of all threads, that of the first run last.
+fn in_order(alloc: Global, parts: Vec<Vec<Taken>>) -> Result<Vec<Taken>, AllocError>
+    ensures { (IsRight : TakenValue → Type 0) → All (λ part. All IsRight part.items) parts.items →
+        IfOk result (λ all. All IsRight all.items) }
+{
+    let mut all = Vec::new(alloc);
+    for part in parts {
+        let mut part = part;
+        all.append(&mut part)?;
     }
-    all.sort_unstable_by(|one, other| other.place.cmp(&one.place));
+    all.sort_unstable_by(|one: &Taken, other: &Taken| other.place.cmp(&one.place));
     Ok(all)
 }
 
-/// Takes runs, each at the next place that no thread has taken, until none is left or a run is refused.
+/// Takes runs, each at the next place that no thread has taken, until none is left or one is refused.
 fn take_runs(
     alloc: Global,
     image: &Image,
     config: Config,
     hunt: Hunt<'_>,
-    next: &AtomicU32,
     end: u32,
-) -> Vec<Taken> {
+    next: &AtomicU32,
+) -> Vec<Taken>
+    requires words { image.now.shared_words ≡ config.shared_words }
+    ensures { All (IsTaken hunt.entry config image.now) result.items }
+{
     let mut all = Vec::new(alloc);
     for _ in 0..end {
         let place = next.fetch_add(1, Ordering::SeqCst);
