@@ -2,7 +2,9 @@
 
 ghost use Rattle.std.specs.Prelude.{◌≡◌, ◌≤◌, ◌<◌, ◌^◌, [], All, IfErr, IfOk, OnOk};
 ghost use Rattle.command_io.specs.Files.{IsFaultOfSize};
-ghost use Rattle.hunt_command.specs.declared.ahead.Taken.{Taken as TakenValue};
+ghost use Rattle.flat_machine.specs.declared.config.Config.{Config as ConfigValue};
+ghost use Rattle.elf_image.specs.Images.{ImageContents};
+ghost use Rattle.hunt_command.specs.declared.command.Hunt.{Hunt as HuntValue};
 ghost use Rattle.hunt_command.specs.Taken.{IsResultAt, IsTaken};
 
 use crate::command::Hunt;
@@ -64,8 +66,8 @@ impl Ahead {
         place: u32,
     ) -> Result<RunResult, Fault>
         requires words { image.now.shared_words ≡ config.shared_words }
-        requires place { place < hunt.entry.runs }
-        requires ahead { All (IsTaken hunt.entry config image.now) self.old.taken.items }
+        requires place { place < hunt.runs }
+        requires ahead { All (IsTaken hunt config image.now) self.old.taken.items }
         ensures ahead { OnOk result (All (IsTaken hunt.entry config image.now) self.new.taken.items) }
         ensures result { IfOk result (IsResultAt hunt.entry config image.now place) }
         ensures refused { IfErr result (IsFaultOfSize config) }
@@ -126,8 +128,9 @@ fn take_batch<P: Threads + Sync>(
 
 /// The results of all threads, that of the first run last.
 fn in_order(alloc: Global, parts: Vec<Vec<Taken>>) -> Result<Vec<Taken>, AllocError>
-    ensures { (IsRight : TakenValue → Type 0) → All (λ part. All IsRight part.items) parts.items →
-        IfOk result (λ all. All IsRight all.items) }
+    ensures { (hunt : HuntValue) (c : ConfigValue) (image : ImageContents) →
+        All (λ part. All (IsTaken hunt c image) part.items) parts.items →
+        IfOk result (λ all. All (IsTaken hunt c image) all.items) }
 {
     let mut all = Vec::new(alloc);
     for part in parts {
