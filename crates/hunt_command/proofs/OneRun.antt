@@ -16,8 +16,9 @@ use Rattle.hunt_command.specs.Runs.{EndsWith, IsRandomRun}
 use Rattle.hunt_command.specs.Schedules.{schedule}
 use Rattle.hunt_command.proofs.Plans.{no_poke_schedule}
 
--- ---- of two prefixes of one list, one continues the other
+-- ---- prefixes of one list
 
+-- Of two prefixes of one list, one continues the other.
 pub either_goes_on : (xs r ys s : List Step) → xs ++ r ≡ ys ++ s → GoesOnFrom xs ys ⊎ GoesOnFrom ys xs
 either_goes_on [] r ys s e = inl (ys, refl)
 either_goes_on (x ∷ xs) r [] s e = inr (x ∷ xs, refl)

@@ -62,7 +62,14 @@ pub struct Hunt<'a> {
 ///
 /// The runs are taken on `jobs` threads, or on one if `jobs` is 0. No clause speaks of threads: what is printed and
 /// written is what the runs give in their order.
-pub fn hunt_command<P: Threads + Sync, R: LinkRead, T: Traces, G: HuntObserver, W: LinkWrite, E: Write>(
+pub fn hunt_command<
+    P: Threads + Sync,
+    R: LinkRead,
+    T: Traces,
+    G: HuntObserver,
+    W: LinkWrite,
+    E: Write,
+>(
     rt: &P,
     jobs: u8,
     alloc: Global,

@@ -195,7 +195,13 @@ fn one_result(rt: HostRuntime) -> Result<(), Fail> {
         ),
     ] {
         let image = image_of(alloc, text)?;
-        let ran = hunted(&rt, image.as_slice(), size(0), runs_from(start, 3), keeping(alloc));
+        let ran = hunted(
+            &rt,
+            image.as_slice(),
+            size(0),
+            runs_from(start, 3),
+            keeping(alloc),
+        );
         assert_same!(rt; str::from_utf8(ran.out.as_slice())?, lines);
         assert_same!(rt; ran.err.len(), 0);
         assert_same!(rt; ran.status, status);
@@ -228,7 +234,13 @@ fn unfinished_runs(rt: HostRuntime) -> Result<(), Fail> {
     ] {
         let text = format!(in alloc; "{SECOND}{rest}")?;
         let image = image_of(alloc, text.as_str())?;
-        let ran = hunted(&rt, image.as_slice(), size(1), runs_from(8, 2), keeping(alloc));
+        let ran = hunted(
+            &rt,
+            image.as_slice(),
+            size(1),
+            runs_from(8, 2),
+            keeping(alloc),
+        );
         let printed = str::from_utf8(ran.out.as_slice())?;
         assert!(rt; printed.ends_with(last), "{printed}");
         assert_same!(rt; printed.contains("unfinished"), !last.is_empty());
@@ -246,7 +258,13 @@ const ADDS: &str = "lui x5, 0x80000\nlw x6, 0(x5)\naddi x6, x6, 1\nsw x6, 0(x5)\
 fn lost_add(rt: HostRuntime) -> Result<(), Fail> {
     let alloc = rt.alloc();
     let image = image_of(alloc, ADDS)?;
-    let ran = hunted(&rt, image.as_slice(), size(1), runs_from(1, 24), keeping(alloc));
+    let ran = hunted(
+        &rt,
+        image.as_slice(),
+        size(1),
+        runs_from(1, 24),
+        keeping(alloc),
+    );
     let text = str::from_utf8(ran.out.as_slice())?;
     assert!(rt; text.contains("word 0 00000001\n"), "{text}");
     assert!(rt; text.contains("word 0 00000002\n"), "{text}");
@@ -305,10 +323,7 @@ fn expected_results(rt: HostRuntime) -> Result<(), Fail> {
 fn number_of_threads(rt: HostRuntime) -> Result<(), Fail> {
     let alloc = rt.alloc();
     let waits = format!(in alloc; "{SECOND}wait: jal x0, wait\nfirst: ecall")?;
-    for (text, start, status) in [
-        (ADDS, 4_294_967_290, 0),
-        (waits.as_str(), 1, UNFINISHED),
-    ] {
+    for (text, start, status) in [(ADDS, 4_294_967_290, 0), (waits.as_str(), 1, UNFINISHED)] {
         let image = image_of(alloc, text)?;
         let hunt = runs_from(start, 20);
         let one = hunted(&rt, image.as_slice(), size(1), hunt, keeping(alloc));
