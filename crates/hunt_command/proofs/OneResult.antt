@@ -16,7 +16,7 @@ use Rattle.machine_steps.specs.Runs.{IsOpening, all_after, answer_after, events_
 use Rattle.machine_steps.specs.Standing.{HasFaulted, IsFaulted, processor_of}
 use Rattle.machine_steps.proofs.Lemmas.{alike, same_code, same_config}
 use Rattle.machine_log.specs.Logs.{Log, entered}
-use Rattle.schedules.specs.Sweeps.{IsFault, IsOver, RunsAfter, entered_of, status_after}
+use Rattle.schedules.specs.Sweeps.{IsFault, IsOver, RunsAfter, entered_of}
 use Rattle.schedules.specs.declared.sweeping.SweepEnd.{SweepEnd}
 use Rattle.schedules.specs.declared.sweeping.SweepEnd.TheVariants.{Over, Budget}
 use Rattle.schedules.proofs.Lemmas.{GoesOnFrom, asked_append, longer}
@@ -229,8 +229,7 @@ module _ (observed : Option (List Bool)) (c : Config) (image : ImageContents) (m
   text_is has_pc =
       result_by has_pc r.end m one.tally.shown first_config
       ∙ ap (λ (e : SweepEnd). end_line e ++ outcome_lines has_pc m one.tally.shown (2 ^ c.k) ++ observed_lines observed m c.shared_words) end_is
-      ∙ ap (λ (xs : List ℕ). end_line s.end ++ xs)
-      (ap₂ (λ (xs ys : List ℕ). xs ++ ys) (outcomes has_pc (2 ^ c.k) (omega arith)) (chosen_words observed c.shared_words))
+      ∙ ap₂ (λ (xs ys : List ℕ). end_line s.end ++ xs ++ ys) (outcomes has_pc (2 ^ c.k) (omega arith)) (chosen_words observed c.shared_words)
       ∙ sym (result_by has_pc s.end n two.tally.shown second_config)
 
   status_is : r.status ≡ s.status

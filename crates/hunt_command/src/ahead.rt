@@ -1,6 +1,6 @@
 //! Runs that threads take ahead, side by side.
 
-ghost use Rattle.std.specs.Prelude.{◌≡◌, ◌≤◌, ◌<◌, ◌^◌, [], All, IfErr, IfOk, OnOk};
+ghost use Rattle.std.specs.Prelude.{◌≡◌, ◌≤◌, ◌<◌, [], All, IfErr, IfOk, IfSome, OnOk};
 ghost use Rattle.command_io.specs.Files.{IsFaultOfSize};
 ghost use Rattle.flat_machine.specs.declared.config.Config.{Config as ConfigValue};
 ghost use Rattle.elf_image.specs.Images.{ImageContents};
@@ -72,17 +72,50 @@ impl Ahead {
         ensures result { IfOk result (IsResultAt hunt.entry config image.now place) }
         ensures refused { IfErr result (IsFaultOfSize config) }
     {
-        if self.end <= place {
-            self.end = batch_end(jobs, place, hunt.runs);
-            self.taken = take_batch(rt, jobs, alloc, image, config, hunt, place, self.end)?;
-        }
-        match self.taken.pop() {
-            Some(taken) if taken.place == place => Ok(taken.result),
+        self.reach(rt, jobs, alloc, image, config, hunt, place)?;
+        match self.pop(place) {
+            Some(result) => Ok(result),
             // There is one thread, or the one that took the run was out of memory.
-            _ => {
+            None => {
                 let number = hunt.start.wrapping_add(place);
                 result_of(alloc, image, config, hunt.budget, number, hunt.observed)
             }
+        }
+    }
+
+    /// Takes the next batch of runs if a place comes after this one.
+    fn reach<P: Threads + Sync>(
+        &mut self,
+        rt: &P,
+        jobs: u8,
+        alloc: Global,
+        image: &Image,
+        config: Config,
+        hunt: Hunt<'_>,
+        place: u32,
+    ) -> Result<(), AllocError>
+        requires words { image.now.shared_words ≡ config.shared_words }
+        requires place { place < hunt.runs }
+        requires ahead { All (IsTaken hunt config image.now) self.old.taken.items }
+        ensures { OnOk result (All (IsTaken hunt.entry config image.now) self.new.taken.items) }
+    {
+        if place < self.end {
+            return Ok(());
+        }
+        self.end = batch_end(jobs, place, hunt.runs);
+        self.taken = take_batch(rt, jobs, alloc, image, config, hunt, place, self.end)?;
+        Ok(())
+    }
+
+    /// The next result, if it is that of the run at this place.
+    fn pop(&mut self, place: u32) -> Option<RunResult>
+        ensures { (hunt : HuntValue) (c : ConfigValue) (image : ImageContents) →
+            All (IsTaken hunt c image) self.old.taken.items →
+            All (IsTaken hunt c image) self.new.taken.items × IfSome result (IsResultAt hunt c image place) }
+    {
+        match self.taken.pop() {
+            Some(taken) if taken.place == place => Some(taken.result),
+            _ => None,
         }
     }
 }
