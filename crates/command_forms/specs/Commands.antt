@@ -82,6 +82,10 @@ first_line = record { name = codes "from"; low = 0; high = 4294967295 }
 abbrev pub last_line : Bounds
 last_line = record { name = codes "to"; low = 0; high = 4294967295 }
 
+-- the number of threads that take the runs of a hunt
+abbrev pub jobs : Bounds
+jobs = record { name = codes "jobs"; low = 1; high = 64 }
+
 -- the seconds after which an exploration gives up
 abbrev pub seconds : Bounds
 seconds = record { name = codes "seconds"; low = 1; high = 4294967295 }
@@ -188,7 +192,7 @@ unfoldable pub hunt_command : App
 hunt_command = command (codes "hunt")
     (file ∷ option (codes "trace") ∷ option (codes "observe") ∷ flag (codes "overwrite") ∷ flag (codes "expect-one")
     ∷ flag (codes "quiet") ∷ symbols ∷ decimal ∷ json
-    ∷ (sizes ++ (number steps.bounds ∷ number runs.bounds ∷ number start.bounds ∷ [])))
+    ∷ (sizes ++ (number steps.bounds ∷ number runs.bounds ∷ number start.bounds ∷ number jobs ∷ [])))
 
 unfoldable pub explore_command : App
 explore_command = command (codes "explore")

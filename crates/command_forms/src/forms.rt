@@ -15,7 +15,7 @@ use crate::help::{
     TRACE_ENDS, WORDS_ENDS,
 };
 use crate::ranges::{
-    BUDGET, COMBINATIONS, ChoiceOption, FIRST_LINE, FIRST_START, FIRST_STEP, LAST_LINE,
+    BUDGET, COMBINATIONS, ChoiceOption, FIRST_LINE, FIRST_START, FIRST_STEP, JOBS, LAST_LINE,
     NumberOption, PORT, PROCESSOR, QUEUE, RECORDS, RUN_STEPS, RUNS, SECONDS, SHARED_WORD,
     SHARED_WORDS, STAGES, START, STATES, STEP, STEP_COUNT, STEPS, SWEEP_STEPS, WITNESS,
 };
@@ -247,6 +247,7 @@ const HUNT: CommandForm = CommandForm {
         Argument::Number(RUN_STEPS),
         Argument::Number(RUNS),
         Argument::Number(FIRST_START),
+        Argument::Choice(JOBS),
     ],
     ends: HUNT_ENDS,
 };

@@ -377,6 +377,9 @@ are such runs, a last line `unfinished S S ..` has their numbers.
 
 With --expect-one the exit status is 6 if the runs came to more than one result, unless it is 1 or 5.
 
+The runs are taken by --jobs threads, or else by as many as the host has processors. Results are counted in
+the order of the runs, so the number of threads changes nothing that is printed or written.
+
 With --trace nothing is written before all runs are over. If a file that would be written exists then, no
 trace is written and no result is printed, unless --overwrite is given. Meanwhile a line on a terminal
 shows how many runs are over and how many results are found, unless --quiet is given.

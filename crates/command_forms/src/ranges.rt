@@ -158,6 +158,14 @@ pub const PROCESSOR: ChoiceOption = ChoiceOption {
     help: "Print the lines of this processor alone, 0 to 63",
 };
 
+/// The number of threads that take the runs of a hunt.
+pub const JOBS: ChoiceOption = ChoiceOption {
+    name: "jobs",
+    low: 1,
+    high: 64,
+    help: "Threads that take the runs, 1 to 64; what is printed is the same with any number [default: the host's processors]",
+};
+
 /// The seconds after which an exploration gives up.
 pub const SECONDS: ChoiceOption = ChoiceOption {
     name: "seconds",

@@ -16,10 +16,10 @@ use Rattle.command_forms.specs.Commands.{dis_command, explain_command, explore_c
 use Rattle.command_forms.specs.Commands.{port, processor, queue, records, page_command, picture_command, replay_command}
 use Rattle.command_forms.specs.Commands.{run_command, runs}
 use Rattle.command_forms.specs.Commands.{shared_word, shared_words, stages, start, states, stats_command, step, steps}
-use Rattle.command_forms.specs.Commands.{first_line, last_line, steps_command, story_command, study_command, sweep_steps}
-use Rattle.command_forms.specs.Commands.{first_step, seconds, step_count, trace_command, ultra_command, witness, words_command}
+use Rattle.command_forms.specs.Commands.{first_line, first_step, jobs, last_line, steps_command, story_command, study_command, sweep_steps}
+use Rattle.command_forms.specs.Commands.{seconds, step_count, trace_command, ultra_command, witness, words_command}
 use Rattle.command_forms.proofs.Lemmas.{commands}
-use Rattle.settings.specs.Given.{HasAsm, HasDebug, HasDis, HasExplore, HasHunt, HasLines, HasPath, HasPicture}
+use Rattle.settings.specs.Given.{HasAsm, HasDebug, HasDis, HasExplore, HasHunt, HasLines, HasPage, HasPath, HasPicture}
 use Rattle.settings.specs.Given.{HasReplay, HasRun, HasSizes, HasStudy, IsComplete, IsOneOf, IsWhole, command_names}
 use Rattle.settings.proofs.NoHelp.{IsNoHelp, StopsAtNoHelp, walk_stops}
 use Rattle.settings.proofs.Numbers.{is_apart_or_number, number_there}
@@ -285,6 +285,7 @@ hunt_provided words e = whole (codes "hunt") _ refl (
   number_there (built_leaf hunt_command.top) steps.bounds words refl e,
   number_there (built_leaf hunt_command.top) runs.bounds words refl e,
   number_there (built_leaf hunt_command.top) start.bounds words refl e,
+  number_there (built_leaf hunt_command.top) jobs words refl e,
 )
 
 -- ---- the subcommand that words name

@@ -212,6 +212,7 @@ file_are OfHunt file words named (asked.Hunt h) said =
       budget.0,
       runs.0,
       start.0,
+      said.1.11,
     )
 file_are OfExplore file words named (asked.Explore x) said =
     let sizes = said.1.9 in

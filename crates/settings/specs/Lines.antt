@@ -31,8 +31,8 @@ use Rattle.settings.specs.declared.choice.Explain.{Explain}
 use Rattle.settings.specs.declared.choice.Sizes.{Sizes}
 use Rattle.command_forms.specs.Commands.{Bounds, Ranged, stages, queue, records, combinations, shared_words}
 use Rattle.command_forms.specs.Commands.{budget, steps, port, seconds, states, runs, start, processor, shared_word}
-use Rattle.command_forms.specs.Commands.{witness, step, first_step, step_count, first_line, last_line, sweep_steps}
-use Rattle.command_forms.specs.Commands.{ultra_command}
+use Rattle.command_forms.specs.Commands.{jobs, witness, step, first_step, step_count, first_line, last_line}
+use Rattle.command_forms.specs.Commands.{sweep_steps, ultra_command}
 
 abbrev pub IsPath : Text → List Row → Text → Type 0
 IsPath id rows file = first_of id rows ≡ Some file
@@ -95,6 +95,7 @@ GivesHunt rows h = IsPath (codes "FILE") rows h.file.now
     × IsFlag (codes "overwrite") rows h.overwrite × IsFlag (codes "expect-one") rows h.expect_one
     × IsFlag (codes "quiet") rows h.quiet × GivesStyle rows h.style × AreSizes rows h.sizes
     × IsNumber steps rows h.budget × IsNumber runs rows h.runs × IsNumber start rows h.start
+    × IsChoice jobs rows h.jobs
 
 abbrev pub GivesExplore : List Row → Explore → Type 0
 GivesExplore rows x = IsPath (codes "FILE") rows x.file.now

@@ -63,7 +63,7 @@ IsPlain (asked.Run r) words = HasFile (codes "run") r.file.now words
 IsPlain (asked.Hunt h) words = HasFile (codes "hunt") h.file.now words
     × (h.trace ≡ None) × (h.observe ≡ None) × (h.overwrite ≡ false) × (h.expect_one ≡ false) × (h.quiet ≡ false)
     × IsAsItIs h.style × AreUsual h.sizes × (h.budget ≡ 100000) × (h.runs ≡ 1000)
-    × (h.start ≡ 1)
+    × (h.start ≡ 1) × (h.jobs ≡ None)
 IsPlain (asked.Explore x) words = HasFile (codes "explore") x.file.now words
     × (x.trace ≡ None) × (x.observe ≡ None) × (x.against ≡ None) × (x.each ≡ false) × (x.fair ≡ false)
     × (x.every ≡ false) × (x.quiet ≡ false)

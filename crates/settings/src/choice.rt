@@ -366,4 +366,6 @@ pub struct Hunt<'a> {
     pub runs: u32,
     /// The number with which the first run's choices begin: any number. Each later run begins with the next number.
     pub start: u32,
+    /// The number of threads that take the runs, from 1 to 64; None for as many as the host has processors.
+    pub jobs: Option<u8>,
 }

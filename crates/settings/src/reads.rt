@@ -19,7 +19,7 @@ use crate::choice::{
 };
 use clap::ArgMatches;
 use command_forms::{
-    BUDGET, COMBINATIONS, ChoiceOption, FIRST_LINE, FIRST_START, FIRST_STEP, LAST_LINE,
+    BUDGET, COMBINATIONS, ChoiceOption, FIRST_LINE, FIRST_START, FIRST_STEP, JOBS, LAST_LINE,
     NumberOption, PORT, PROCESSOR, QUEUE, RECORDS, RUN_STEPS, RUNS, SECONDS, SHARED_WORD,
     SHARED_WORDS, STAGES, START, STATES, STEP, STEP_COUNT, STEPS, SWEEP_STEPS, WITNESS,
 };
@@ -430,6 +430,7 @@ fn hunt<'a>(matches: &ArgMatches<'a>) -> Hunt<'a>
         budget: number(matches, RUN_STEPS),
         runs: number(matches, RUNS),
         start: number(matches, FIRST_START),
+        jobs: byte_choice(matches, JOBS),
     }
 }
 

@@ -115,8 +115,9 @@ complete -c ultra -n '__ultra_has_command hunt' -l words -x -d 'Shared words of 
 complete -c ultra -n '__ultra_has_command hunt' -l budget -x -d 'Steps that each run may take, 1 to 4000000 [default: 100000]'
 complete -c ultra -n '__ultra_has_command hunt' -l runs -x -d 'Runs to take, 1 to 1000000 [default: 1000]'
 complete -c ultra -n '__ultra_has_command hunt' -l start -x -d 'Number of the first run, which decides its choices, 0 to 4294967295; the next run has the next number [default: 1]'
+complete -c ultra -n '__ultra_has_command hunt' -l jobs -x -a '1 2 3 4 5 6 7 8 9 10 11 12 13 14 15 16 17 18 19 20 21 22 23 24 25 26 27 28 29 30 31 32 33 34 35 36 37 38 39 40 41 42 43 44 45 46 47 48 49 50 51 52 53 54 55 56 57 58 59 60 61 62 63 64' -d 'Threads that take the runs, 1 to 64; what is printed is the same with any number [default: the host\'s processors]'
 complete -c ultra -n '__ultra_has_command hunt' -l help -d 'Print help'
-complete -c ultra -n '__ultra_wants_more hunt 1 --trace --observe --symbols --k --c --b --r --words --budget --runs --start' -F
+complete -c ultra -n '__ultra_wants_more hunt 1 --trace --observe --symbols --k --c --b --r --words --budget --runs --start --jobs' -F
 
 complete -c ultra -n '__ultra_has_command explore' -l trace -r -F -d 'Where to write the steps to the result of --witness, those of a lasso, or those that break a property, for `ultra replay`; opened then'
 complete -c ultra -n '__ultra_has_command explore' -l observe -x -d 'Words by which results differ, as `0-3,8`; they are printed without others [default: all]'
