@@ -23,10 +23,12 @@ function setUpControls(player, actions) {
   speed.addEventListener('input', () => setSpeed(Number(speed.value)));
   setSpeed(1);
 
+  // the number of steps of the run, of which some may come before the page's first
   const number = byId('step-number');
-  number.max = String(player.steps);
+  number.min = String(player.first);
+  number.max = String(player.first + player.steps);
   number.addEventListener('change', () => { player.pause(); player.go(Math.max(0, Math.min(player.steps,
-    Math.round(Number(number.value) || 0)))); });
+    Math.round(Number(number.value) || 0) - player.first))); });
 
   const jump = (kind, forwards) => {
     player.pause();
@@ -83,8 +85,8 @@ function setUpControls(player, actions) {
 
   return { show: (step) => {
     slider.value = String(step);
-    slider.setAttribute('aria-valuetext', 'after ' + step + ' of ' + count(player.steps, 'step'));
-    if (document.activeElement !== number) number.value = String(step);
+    slider.setAttribute('aria-valuetext', 'after ' + (player.first + step) + ' of ' + count(player.all, 'step'));
+    if (document.activeElement !== number) number.value = String(player.first + step);
     byId('button-back').disabled = byId('button-first').disabled = step === 0;
     byId('button-forth').disabled = byId('button-last').disabled = step === player.steps;
   }, playing: (on) => {
@@ -101,10 +103,10 @@ function letGo(event) {
 
 // ---- the address
 
-// the step that an address names, or -1
-function stepInAddress(address, steps) {
+// the step of the page that an address names by its number in the run, or -1
+function stepInAddress(address, data) {
   const found = /#step=(\d+)$/.exec(address);
-  return found ? Math.min(steps, Number(found[1])) : -1;
+  return found ? Math.max(0, Math.min(data.steps, Number(found[1]) - data.first)) : -1;
 }
 
 // Writes the step into the address without a new entry in the browser's history. Browsers refuse too many of these.

@@ -19,7 +19,13 @@ function numberAfter(line, name) {
   return Number(found[1]);
 }
 
-// The data by its parts. Story line i and change line i are those of step i, from 0.
+// A line `ADDRESS SIZE NAME`.
+function symbolOf(line) {
+  return { address: parseInt(line.slice(0, 8), 16), size: parseInt(line.slice(9, 17), 16), name: line.slice(18) };
+}
+
+// The data by its parts. Story line i and change line i are those of step i of the page, which is step `first` + i of the
+// run. The run has `all` steps.
 function readData(element) {
   const raw = element.textContent;
   const text = raw.charCodeAt(0) === 10 ? raw.slice(1) : raw;
@@ -29,15 +35,16 @@ function readData(element) {
   if (lines < 4 || line(0) !== 'ultra page 1') throw new Error('this page holds no run that it can read');
   const machine = line(1);
   const k = numberAfter(machine, 'k');
-  const steps = numberAfter(line(2), 'steps');
+  const steps = numberAfter(line(2), 'steps'), named = numberAfter(line(2), 'symbols'), begin = 3 + named;
   return {
-    machine, k, n: 1 << k, steps,
+    machine, k, n: 1 << k, steps, first: numberAfter(line(2), 'from'), all: numberAfter(line(2), 'of'),
     c: numberAfter(machine, 'c'), b: numberAfter(machine, 'b'), r: numberAfter(machine, 'r'),
     words: numberAfter(line(2), 'words'),
-    opening: line(3),
-    story: (i) => line(4 + i),
-    change: (i) => line(4 + steps + i),
-    order: (i) => line(4 + 2 * steps + i),
-    orders: Math.max(0, lines - 4 - 2 * steps),
+    symbols: Array.from({ length: named }, (_, i) => symbolOf(line(3 + i))),
+    opening: line(begin),
+    change: (i) => line(begin + 1 + i),
+    story: (i) => line(begin + 1 + steps + i),
+    order: (i) => line(begin + 1 + 2 * steps + i),
+    orders: Math.max(0, lines - begin - 1 - 2 * steps),
   };
 }

@@ -35,21 +35,23 @@ function tellItem(it, view) {
   const rows = [['What', request ? 'request, on its way to memory' : 'reply, on its way back'], ['Text', it.text],
     ['Where', whereText(it, view.k)], ['Leader', 'processor ' + it.leader],
     ['Stands for', it.group.length > 1 ? members + ' (in the order of service)' : members]];
-  if (!request) return rows.concat([['Value', bothBases(it.it.value)], ['Word', String(view.word[it.leader])]]);
+  if (!request) return rows.concat([['Value', bothBases(it.it.value)], ['Word', wordTitle(view.word[it.leader])]]);
   const { word, f } = it.it;
   const now = bothBases(view.words.get(word) || 0);
-  return rows.concat([['Word', word + ', of module ' + word % view.n + ', now ' + now], ['Function', f]]);
+  return rows.concat([['Word', wordTitle(word) + ', of module ' + word % view.n + ', now ' + now], ['Function', f]]);
 }
 
-function tellProcessor(p, view, items, instructionAt) {
+function tellProcessor(p, view, items, run) {
   const rows = [['What', 'processor ' + p], ['Text', processorText(view, p)]];
-  const instruction = instructionAt(view.pc[p]);
+  const instruction = run.instructionAt(view.pc[p]), printed = run.consoleNow(p);
+  if (names.symbols.length) rows.push(['Program counter', view.pc[p]]);
   if (instruction && view.status[p] === 'run') rows.push(['Instruction', instruction]);
   if (view.word[p] >= 0) {
     const it = itemFor(items, p);
-    rows.push(['Waits for', 'word ' + view.word[p]]);
+    rows.push(['Waits for', wordTitle(view.word[p])]);
     if (it) rows.push(['Its message', it.text + ', ' + whereText(it, view.k)]);
   }
+  if (printed) rows.push(['Console', printed]);
   return rows;
 }
 
@@ -68,19 +70,19 @@ function tellSwitch(key, view, items) {
 function tellWord(word, view) {
   const waiting = [];
   view.word.forEach((it, p) => { if (it === word) waiting.push(p); });
-  return [['What', 'word ' + word + ', of module ' + word % view.n], ['Text', wordText(word, view.words.get(word)
+  return [['What', wordTitle(word) + ', of module ' + word % view.n], ['Text', wordText(word, view.words.get(word)
     || 0)],
     ['Value', bothBases(view.words.get(word) || 0)], ['Waiting', waiting.length ? 'processors ' + waiting.join(' ')
       : 'nobody']];
 }
 
-function tell(key, view, items, instructionAt) {
+function tell(key, view, items, run) {
   const number = Number(key.slice(1));
   if (key[0] === 'm' || key[0] === 'r') {
     const it = items.find((x) => x.key === key);
     return it ? tellItem(it, view) : null;
   }
-  if (key[0] === 'p') return tellProcessor(number, view, items, instructionAt);
+  if (key[0] === 'p') return tellProcessor(number, view, items, run);
   if (key[0] === 'w') return tellWord(number, view);
   if (key[0] === 's') return tellSwitch(key, view, items);
   if (key[0] !== 'd') return null;
@@ -109,9 +111,9 @@ function markRelated(key, items) {
   }
 }
 
-function showDetail(key, view, items, instructionAt) {
+function showDetail(key, view, items, run) {
   const list = byId('detail-list');
-  const rows = key ? tell(key, view, items, instructionAt) : null;
+  const rows = key ? tell(key, view, items, run) : null;
   detail.key = rows ? key : null;
   markRelated(detail.key, items);
   list.replaceChildren();

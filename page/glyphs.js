@@ -79,7 +79,7 @@ function recordGlyph(it, text) {
 // ---- processors, modules and switches
 
 function statusText(view, p) {
-  if (view.word[p] >= 0) return 'waits: word ' + view.word[p];
+  if (view.word[p] >= 0) return 'waits: ' + wordName(view.word[p]);
   return view.status[p] === 'run' ? 'runs' : view.status[p];
 }
 
@@ -93,7 +93,7 @@ function processorGlyph(view, p, x, y, w, h, instruction) {
     return g;
   }
   g.append(draw('text', { x: x + 49, y: y + 27, class: 'state' }, statusText(view, p)));
-  g.append(draw('text', { x: x + 49, y: y + 51, class: 'mono' }, view.pc[p]));
+  g.append(draw('text', { x: x + 49, y: y + 51, class: 'mono' }, pcText(view.pc[p])));
   const shown = view.status[p] !== 'run' ? '' : instruction.length > 24 ? instruction.slice(0, 23) + '\u2026'
     : instruction;
   g.append(draw('text', { x: x + 49, y: y + 75, class: 'mono faint' }, shown));
@@ -113,7 +113,7 @@ function wordGlyph(word, value, isOpen) {
   const text = draw('text', { x: 0, y: 0, 'text-anchor': 'end', class: isOpen ? 'value' : 'value faint' },
     shortValue(value));
   g.append(draw('text', { x: -Math.max(1, shortValue(value).length) * (isOpen ? 18.5 : 11.5) - 8, y: 0,
-    'text-anchor': 'end', class: 'small' }, 'word ' + word + ' ='), text);
+    'text-anchor': 'end', class: 'small' }, wordName(word) + ' ='), text);
   return g;
 }
 

@@ -21,6 +21,8 @@ function makeHistory(data) {
     // order lines that refer to a shared word: { order, word, p, saw: the index of the writer or -1, writes }
     references: [],
     refersAt: new Uint32Array(steps + 1),
+    // bytes that processors printed: { order, p, byte }
+    prints: [],
   };
 
   // ---- the pass
@@ -47,6 +49,24 @@ function makeHistory(data) {
       if (requests[it] > longest[0][depth]) longest[0][depth] = requests[it];
       if (replies[it] > longest[1][depth]) longest[1][depth] = replies[it];
     }
+  }
+
+  // A page may begin with messages on their way.
+  function begin() {
+    const seconds = secondsOf(opening);
+    for (let place = 0; place < opening.places.length; place++) {
+      if (!opening.places[place]) continue;
+      placed(place, opening.places[place]);
+      const depth = Math.floor(place / n), items = itemsAt(opening, depth, place % n);
+      for (const it of items.requests.concat(items.replies)) {
+        for (const p of groupOf(seconds, depth, it.leader)) {
+          if (p < 32) groupLow[it.leader] |= 1 << p; else groupHigh[it.leader] |= 1 << (p - 32);
+        }
+      }
+    }
+    openWord.set(opening.word);
+    facts.moving[0] = moving;
+    for (let it = 0; it < k; it++) facts.queues[it][0] = Math.max(longest[0][it + 1], longest[1][it]);
   }
 
   // the leader of the first message with this mark at a place, or -1
@@ -85,6 +105,7 @@ function makeHistory(data) {
     const it = orderedBy(data.order(at));
     if (!it.poke && !facts.listing.has(it.pc)) facts.listing.set(it.pc, { text: it.instruction, from: at });
     if (it.word >= 0) addReference(at, it);
+    if (it.console) facts.prints.push({ order: at, p: it.p, byte: parseInt(it.console, 16) });
   }
 
   function learn(i) {
@@ -141,6 +162,7 @@ function makeHistory(data) {
 
   // ---- the view that is shown
 
+  begin();
   let view = copyOfView(opening);
   let shown = 0;
 
@@ -172,5 +194,12 @@ function makeHistory(data) {
     return Boolean((p < 32 ? facts.low[i] >>> p : facts.high[i] >>> (p - 32)) & 1);
   }
 
-  return { data, facts, seek, reach, learnAll, find, concerns };
+  // what a processor has printed since the page's first step
+  function consoleOf(p, step) {
+    const bytes = facts.prints.filter((it) => it.p === p && it.order < facts.afterStep[step]).map((it) => it.byte);
+    return bytes.map((it) => (it >= 32 && it < 127 && it !== 92 ? String.fromCharCode(it)
+      : it === 10 ? '\\n' : '\\x' + it.toString(16).padStart(2, '0'))).join('');
+  }
+
+  return { data, facts, seek, reach, learnAll, find, concerns, consoleOf };
 }

@@ -2,12 +2,15 @@
 
 function start() {
   const data = readData(byId('data'));
+  names.symbols = data.symbols;
   const run = makeHistory(data);
   const still = matchMedia('(prefers-reduced-motion: reduce)');
   let step = 0, view = run.seek(0), items = [], playing = 0, playedAt = 0;
   const writeAddress = makeAddressWriter();
 
-  byId('machine').textContent = data.machine + ', ' + count(data.n, 'processor') + ', ' + count(data.steps, 'step');
+  const isPart = data.steps < data.all;
+  byId('machine').textContent = data.machine + ', ' + count(data.n, 'processor') + ', ' + (isPart
+    ? count(data.steps, 'step') + ' from ' + data.first + ' on of ' + data.all : count(data.steps, 'step'));
   document.title = 'Ultracomputer: ' + data.machine;
   for (let p = 0; p < data.n; p++) byId('event-processor').append(make('option', { value: p }, 'processor ' + p));
   setUpStage(byId('drawing'));
@@ -16,7 +19,7 @@ function start() {
 
   const instructionAt = (pc) => { const it = run.facts.listing.get(pc); return it ? it.text : ''; };
   const player = {
-    steps: data.steps, speed: 1, step: () => step, playing: () => playing !== 0,
+    steps: data.steps, first: data.first, all: data.all, speed: 1, step: () => step, playing: () => playing !== 0,
     go: (to, moved) => show(Math.max(0, Math.min(data.steps, to)), moved),
     find: (forwards, kinds, p, w) => run.find(step, forwards, kinds, p, w),
     pause: () => {
@@ -81,13 +84,15 @@ function start() {
   // ---- a step
 
   function sayCaption() {
-    const last = step > 0 ? storyText(data.story(step - 1)) : 'Nothing has happened yet.';
-    const next = step < data.steps ? storyText(data.story(step)) : 'The run is over.';
+    const last = step > 0 ? storyText(data.story(step - 1)) : data.first === 0 ? 'Nothing has happened yet.'
+      : 'The page begins after ' + count(data.first, 'step') + '.';
+    const next = step < data.steps ? storyText(data.story(step)) : data.first + step === data.all ? 'The run is over.'
+      : 'The page ends here.';
     byId('caption').textContent = last;
     byId('caption').classList.toggle('long', last.length > 76);
     byId('next-line').textContent = next;
     // said only when the play stands, or slowly goes on: a reader cannot follow more
-    if (!playing || player.speed <= 1) byId('said').textContent = 'After ' + step + ': ' + last;
+    if (!playing || player.speed <= 1) byId('said').textContent = 'After ' + (data.first + step) + ': ' + last;
   }
 
   function show(to, moved) {
@@ -101,8 +106,8 @@ function start() {
     showPanels();
     controls.show(step);
     sayCaption();
-    byId('drawing').setAttribute('aria-label', 'the machine after ' + count(step, 'step'));
-    writeAddress(step);
+    byId('drawing').setAttribute('aria-label', 'the machine after ' + count(data.first + step, 'step'));
+    writeAddress(data.first + step);
   }
 
   function drawAll(outcome, moving, time) {
@@ -133,7 +138,8 @@ function start() {
     if (element) element.classList.add('last');
   }
 
-  const point = (key) => showDetail(key || detail.pinned || null, view, items, instructionAt);
+  const facts = { instructionAt, consoleNow: (p) => run.consoleOf(p, step) };
+  const point = (key) => showDetail(key || detail.pinned || null, view, items, facts);
 
   // a machine that is too large to be seen at once is shown where the last step was
   function lookAtLast() {
@@ -232,7 +238,7 @@ function start() {
   pressed('button-map', map.on);
   // The event's address counts: that of the page may be the step before again, which is written a little late.
   addEventListener('hashchange', (event) => {
-    const to = stepInAddress(event.newURL, data.steps);
+    const to = stepInAddress(event.newURL, data);
     if (to >= 0 && to !== step) goThere(to);
   });
   // on paper stands the whole drawing, whatever part is seen
@@ -247,7 +253,7 @@ function start() {
     placeCamera();
   });
 
-  show(Math.max(0, stepInAddress(location.href, data.steps)));
+  show(Math.max(0, stepInAddress(location.href, data)));
   fitCamera();
   run.learnAll((done) => {
     if (!done) return;

@@ -40,16 +40,16 @@ function setUpOrder(run, go, choose) {
   const list = makeLongList(byId('order-list'), (i) => {
     const it = orderedBy(run.data.order(i));
     const line = make('button', { class: 'order-line', type: 'button', 'data-order': i,
-      title: orderText(run.data.order(i)) + ', in step ' + facts.orderStep[i] });
+      title: orderText(run.data.order(i)) + ', in step ' + (run.data.first + facts.orderStep[i]) });
     if (i >= order.now) line.classList.add('later');
     if (facts.orderStep[i] === order.step - 1) line.classList.add('new');
     if (it.p >= 0) line.style.setProperty('--own', colourOf(it.p));
     line.setAttribute('data-text', run.data.order(i));
     line.append(make('span', { class: 'own', 'data-processor': it.p }, it.p < 0 ? '-' : String(it.p)),
-      make('span', { class: 'faint' }, String(i)));
+      make('span', { class: 'faint' }, String(it.number)));
     const more = (it.result ? ' = ' + withValues(it.result) : '') + (it.console ? ' prints ' + it.console : '');
     line.append(make('span', { class: 'text' }, it.instruction + more));
-    if (it.word >= 0) line.append(make('span', { class: 'refers' }, 'w' + it.word + ': ' + shortValue(it.before)
+    if (it.word >= 0) line.append(make('span', { class: 'refers' }, shortWord(it.word) + ': ' + shortValue(it.before)
       + (it.before === it.after ? '' : ' \u2192 ' + shortValue(it.after))));
     return line;
   });

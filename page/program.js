@@ -19,6 +19,8 @@ function setUpProgram(run, choose) {
       const value = parseInt(pc, 16), known = run.facts.listing.get(pc);
       if (last >= 0 && value !== last + 4) list.append(make('div', { class: 'gap' }, '..'));
       last = value;
+      const place = placeOfAddress(value);
+      if (place && place.offset === 0) list.append(make('div', { class: 'program-label' }, place.name + ':'));
       const line = make('div', { class: 'program-line' + (at.has(pc) ? ' here' : '') });
       const marks = make('span', { class: 'marks' });
       for (const p of (at.get(pc) || []).slice(0, 8)) {
@@ -28,9 +30,11 @@ function setUpProgram(run, choose) {
         marks.append(mark);
       }
       if ((at.get(pc) || []).length > 8) marks.append(make('span', {}, '+' + (at.get(pc).length - 8)));
-      const text = known && (known.from < now) ? known.text : 'not yet executed';
-      line.append(marks, make('code', { class: 'address' }, pc), make('code', { class: known && known.from < now ? ''
-        : 'faint' }, text));
+      // a page that begins later does not know what was executed before
+      const seen = known && (known.from < now || run.data.first > 0);
+      const text = seen ? known.text : run.data.first > 0 ? 'not executed here' : 'not yet executed';
+      line.append(marks, make('code', { class: 'address' }, pc), make('code', { class: seen ? '' : 'faint' },
+        text));
       list.append(line);
     }
   };

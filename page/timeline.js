@@ -75,10 +75,10 @@ function setUpTimeline(run, go) {
       marks.append(draw('path', { d: `M${x - 4} ${y - 14}L${x} ${y - 7}L${x + 4} ${y - 14}Z`, fill: writer.p < 0
         ? '#777' : colourOf(writer.p) }));
     }
-    const text = 'step ' + step + ': processor ' + reference.p + ', ' + line.instruction + ', word ' + reference.word
-      + ' ' + valueText(line.before) + (reference.writes ? ' to ' + valueText(line.after) : '');
+    const text = 'step ' + (data.first + step) + ': processor ' + reference.p + ', ' + line.instruction + ', '
+      + wordTitle(reference.word) + ' ' + valueText(line.before) + (reference.writes ? ' to ' + valueText(line.after) : '');
     const g = draw('g', { class: 'reference', role: 'button', tabindex: '0', 'aria-label': text, 'data-go': step + 1 });
-    g.append(draw('title', {}, text), draw('text', { x: 4, y: y + 4, class: 'small faint' }, String(step)));
+    g.append(draw('title', {}, text), draw('text', { x: 4, y: y + 4, class: 'small faint' }, String(data.first + step)));
     if (reference.writes) g.append(draw('circle', { cx: x, cy: y, r: 7, fill: reference.p < 0 ? '#777'
       : colourOf(reference.p) }));
     else g.append(draw('circle', { cx: x, cy: y, r: 6, class: 'load', stroke: colourOf(reference.p) }));
@@ -108,7 +108,7 @@ function setUpTimeline(run, go) {
   it.words = () => {
     const known = new Set(facts.references.map((reference) => reference.word));
     for (const word of [...known].sort((a, b) => a - b).slice(0, 500)) select.append(make('option', { value: word },
-      'word ' + word));
+      wordTitle(word)));
   };
   select.addEventListener('change', () => { it.word = Number(select.value); it.show(it.step); });
   return it;

@@ -24,13 +24,13 @@ function withValues(text) {
 // a line of a story in the chosen base; an address of a write from outside stays as it is
 function storyText(line) {
   const poke = /^(\d+ poke \S+ [0-9a-f]{8}\b)(.*)$/.exec(line);
-  return poke ? poke[1] + withValues(poke[2]) : withValues(line);
+  return withWordNames(poke ? poke[1] + withValues(poke[2]) : withValues(line));
 }
 
 // a line of an order in the chosen base: after its third word, the address
 function orderText(line) {
   const parts = /^(\S+ \S+ (?:poke )?\S+)(.*)$/.exec(line);
-  return parts ? parts[1] + withValues(parts[2]) : line;
+  return withWordNames(parts ? parts[1] + withValues(parts[2]) : line);
 }
 
 const shortSigns = { store: '=', and: '&', or: '|', xor: '^', min: 'min ', max: 'max ', minu: 'minu ', maxu: 'maxu ' };
@@ -51,7 +51,7 @@ function groupText(group) {
 }
 
 function requestText(it, group) {
-  return withValues(it.f) + (it.f === 'load' ? ' ' : ' to ') + 'word ' + it.word + ' ' + groupText(group);
+  return withValues(it.f) + (it.f === 'load' ? ' ' : ' to ') + wordName(it.word) + ' ' + groupText(group);
 }
 
 function recordText(it) {
@@ -63,11 +63,16 @@ function replyText(it, group) {
 }
 
 function processorText(view, p) {
-  return p + ' ' + view.status[p] + ' ' + view.pc[p] + (view.word[p] >= 0 ? ' word ' + view.word[p] : '');
+  return p + ' ' + view.status[p] + ' ' + pcText(view.pc[p]) + (view.word[p] >= 0 ? ' ' + wordName(view.word[p]) : '');
 }
 
 function wordText(word, value) {
-  return 'word ' + word + ' = ' + valueText(value);
+  return wordName(word) + ' = ' + valueText(value);
+}
+
+// a word as short as it can be
+function shortWord(word) {
+  return placeOfWord(word) ? wordName(word) : 'w' + word;
 }
 
 function count(number, one, many) {

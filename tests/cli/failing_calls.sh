@@ -109,7 +109,7 @@ fails_a_trace() {
 }
 check 'each command on a trace reports any call that fails, and keeps the bytes written before it: X5, I9 or link, status 3' fails_a_trace
 
-# Of two runs with the same result, the first has a trace.
+# Of two runs with the same result, the first has a trace. Without --jobs the number of processors is read, too.
 fails_a_search() {
     local saved=$room/saved1.trace
     ./ultra explore --k 0 "$room/ebreak.elf" >"$room/ample"
@@ -120,7 +120,7 @@ fails_a_search() {
     fails_each_call "89r:I9 $(stat -c %s "$room/ample")w:link" "$room/ample" study --k 0 "$room/ebreak.elf" || return 1
     ./ultra hunt --k 0 --runs 2 --trace "$room/ample" "$room/ebreak.elf" >"$room/ample"
     mv "$room/ample1.trace" "$room/ample.trace" &&
-        fails_each_call "89r:I9 24t:X5 $(stat -c %s "$room/ample")w:link" "$room/ample" hunt --k 0 --runs 2 --trace "$room/saved" "$room/ebreak.elf" || return 1
+        fails_each_call "89r:I9 24t:X5 $(stat -c %s "$room/ample")w:link" "$room/ample" hunt --jobs 1 --k 0 --runs 2 --trace "$room/saved" "$room/ebreak.elf" || return 1
     # The steps to the fault, which breaks a property, are those of the run.
     saved=$room/saved.trace
     printf 'never any fault: broken\nway\n' >"$room/ample"

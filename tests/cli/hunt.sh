@@ -47,6 +47,22 @@ names_the_unfinished_runs() {
     [ "$ended" -eq 5 ] && grep -x "unfinished $number" "$room/again"
 }
 
+# hunts_on_threads NAME STATUS OPTION ..: on two and on seven threads a hunt prints, reports and writes what it does on
+# one. It has several results.
+hunts_on_threads() {
+    local name=$1 status=$2 jobs ended
+    shift 2
+    rm -rf "$room/on" && mkdir "$room/on" || return 1
+    for jobs in 1 2 7; do
+        ended=0
+        mkdir "$room/on/$jobs" || return 1
+        ./ultra hunt --k 1 --jobs "$jobs" "$@" --trace "$room/on/$jobs/" "$room/$name.elf" \
+            >"$room/on/$jobs/out" 2>"$room/on/$jobs/err" || ended=$?
+        diff <(echo "$status") <(echo "$ended") && diff -r "$room/on/1" "$room/on/$jobs" || return 1
+    done
+    [ "$(grep -c '^runs ' "$room/on/1/out")" -gt 1 ] && [ -s "$room/on/1/1.trace" ]
+}
+
 # Both processors add 1 to word 0 by a load and a store, so that one of the adds may be lost. If one result is expected, the
 # status is 6, unless word 0 is not observed.
 expects_one_result() {
@@ -60,6 +76,9 @@ expects_one_result() {
             echo 'runs 50 first 1 over' && printf 'processor %d pc 00010010 halt 00 console -\n' 0 1)
 }
 check 'if random runs come to two results and one is expected, the status is 6' expects_one_result
+then_check 'random runs on several threads come to the results of one thread' hunts_on_threads lost 0 --runs 300
+check 'random runs on several threads are unfinished as on one' hunts_on_threads barrier_phase_late 5 --runs 100 --budget 20000
+check 'random runs on several threads find a fault as on one' hunts_on_threads readers_writers_one_look 1 --runs 100 --budget 20000
 
 # The number of the first run of each result gives the result again, and its trace replays to it.
 finds_again() {

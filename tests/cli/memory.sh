@@ -112,10 +112,33 @@ refuses_memory_of_threads() {
 check 'a run on threads without memory for one request reports memory or Start, status 4, or prints its report' refuses_memory_of_threads
 
 refuses_memory_of_a_hunt() {
-    ./ultra hunt --k 1 --runs 3 "$room/example.elf" >"$room/hunted" && refuses_each_request 0 "$room/hunted" /dev/null \
-        hunt --k 1 --runs 3 "$room/example.elf"
+    ./ultra hunt --jobs 1 --k 1 --runs 3 "$room/example.elf" >"$room/hunted" && refuses_each_request 0 "$room/hunted" /dev/null \
+        hunt --jobs 1 --k 1 --runs 3 "$room/example.elf"
 }
 check 'a hunt without memory for one request reports memory, status 4, or prints its results' refuses_memory_of_a_hunt
+
+# Here, too, the number of a request differs from run to run. A run that lacks memory on its thread is taken again after
+# the others of its batch, so most hunts print their results.
+refuses_memory_of_a_hunt_on_threads() {
+    local number=0 last=0 refusals=0 ended
+    make_library refuse || return 1
+    while [ "$last" -eq 0 ] || [ "$number" -lt "$last" ]; do
+        number=$((number + 1))
+        ended=0
+        REFUSE=$number LD_PRELOAD=$room/refuse.so crates/ultra/out/ultra hunt --jobs 2 --k 1 --runs 3 "$room/example.elf" \
+            >"$room/out" 2>"$room/err" 9>"$room/refused" || ended=$?
+        [ -s "$room/refused" ] || [ "$last" -gt 0 ] || last=$((2 * number))
+        if [ "$ended" -eq 4 ]; then
+            refusals=$((refusals + 1))
+            diff /dev/null "$room/out" && diff <(echo 'ultra: memory') "$room/err" || return 1
+        else
+            diff <(echo 0) <(echo "$ended") && diff "$room/hunted" "$room/out" && diff /dev/null "$room/err" || return 1
+        fi
+    done
+    echo "$refusals of $number hunts reported it"
+    [ "$refusals" -gt 5 ]
+}
+then_check 'a hunt on threads without memory for one request reports memory, status 4, or prints its results' refuses_memory_of_a_hunt_on_threads
 
 refuses_memory_of_a_study() {
     ./ultra study --k 0,1 "$room/three.elf" >"$room/rows" && refuses_each_request 0 "$room/rows" /dev/null study --k 0,1 "$room/three.elf"
@@ -324,6 +347,23 @@ refuses_each_thread() {
     [ "$number" -eq 6 ] && [ "$ended" -eq 0 ] && diff "$room/report" "$room/out"
 }
 check 'a run reports that one of its threads cannot start: Start, status 4, and no trace' refuses_each_thread
+
+# If one of the threads of a hunt cannot start, the others take all runs.
+hunts_without_a_thread() {
+    local number=0
+    ./ultra hunt --jobs 1 --k 1 --runs 40 "$room/example.elf" >"$room/hunted"
+    make_library refuse_thread || return 1
+    while true; do
+        number=$((number + 1))
+        REFUSE=$number LD_PRELOAD=$room/refuse_thread.so crates/ultra/out/ultra hunt --jobs 4 --k 1 --runs 40 "$room/example.elf" \
+            >"$room/out" 2>"$room/err" 9>"$room/refused" || return 1
+        diff "$room/hunted" "$room/out" && diff /dev/null "$room/err" || return 1
+        [ -s "$room/refused" ] || break
+    done
+    echo "$((number - 1)) threads were refused"
+    [ "$number" -gt 3 ]
+}
+check 'a hunt prints its results if one of its threads cannot start' hunts_without_a_thread
 
 # ---- calls of the libraries, by the programs of their tests
 

@@ -29,7 +29,7 @@ makes_its_examples() {
     local folder=$room/pages
     rm -rf "$folder" && mkdir "$folder" || return 1
     sed -n '/^```sh$/,/^```$/p' examples/pages/README.md |
-        sed "/^\`\`\`/d; s|examples/pages/|$folder/|; s,\([a-z_]*\.\(elf\|trace\)\),$folder/\1,g; s|wrong/$folder/|wrong/|" >"$folder/make.sh"
+        sed "/^\`\`\`/d; s|examples/pages/|$folder/|; s,\([a-z_]*\.\(elf\|trace\|sym\)\),$folder/\1,g; s|wrong/$folder/|wrong/|" >"$folder/make.sh"
     # The budget of the hot spot ends its run: status 4.
     bash "$folder/make.sh" >"$folder/out" 2>&1
     for page in examples/pages/*.html; do cmp "$page" "$folder/${page##*/}" || return 1; done
@@ -72,3 +72,31 @@ ends_a_page_with_a_fault() {
     diff /dev/null "$room/err" && [ "$ended" -eq 1 ] && [ "$(tail -n 1 "$room/ebreak.html")" = '</html>' ]
 }
 check 'page ends with status 1 if a fault has stopped a processor' ends_a_page_with_a_fault
+
+# A trace of more than 500,000 steps, of which a page is refused, and pages of its end.
+refuses_a_page_of_many_steps() {
+    local ended=0 all
+    printf 'start: jal x0, start\n' >"$room/spin.s" && ./ultra asm "$room/spin.s" "$room/spin.elf" || return 1
+    ./ultra run --sweep --unfinished --k 0 --budget 500001 --trace "$room/long.trace" "$room/spin.elf" >"$room/out" 2>"$room/err" || ended=$?
+    [ "$ended" -eq 4 ] && ended=0 || return 1
+    ./ultra page "$room/long.trace" "$room/none.elf" >"$room/out" 2>"$room/err" || ended=$?
+    [ "$ended" -eq 2 ] && [ ! -s "$room/out" ] || return 1
+    diff <(echo "error: a page shows 500000 steps, and the trace has 500001: choose some with '--from <NUMBER>' and '--steps <NUMBER>'") "$room/err" || return 1
+    ./ultra page --from 499990 "$room/long.trace" "$room/spin.elf" | grep -x 'words 1024 steps 11 from 499990 of 500001 symbols 0' &&
+        ./ultra page --from 7 --steps 20 "$room/long.trace" "$room/spin.elf" | grep -x 'words 1024 steps 20 from 7 of 500001 symbols 0' &&
+        ./ultra page --from 4294967295 --steps 500000 "$room/long.trace" "$room/spin.elf" | grep -x 'words 1024 steps 0 from 500001 of 500001 symbols 0' &&
+        ./ultra page --from 1 "$room/long.trace" "$room/spin.elf" | grep -x 'words 1024 steps 500000 from 1 of 500001 symbols 0'
+}
+check 'page refuses more than 500,000 steps, and plays parts of a longer run' refuses_a_page_of_many_steps
+
+# Options that name no number in range.
+refuses_page_options() {
+    local words ended
+    for words in '--steps 0' '--steps 500001' '--from -1' '--from x' '--steps'; do
+        ended=0
+        # shellcheck disable=SC2086
+        ./ultra page $words "$room/three.trace" "$room/three.elf" >"$room/out" 2>"$room/err" || ended=$?
+        [ "$ended" -eq 2 ] && [ ! -s "$room/out" ] && grep '^error: ' "$room/err" || return 1
+    done
+}
+check 'page refuses numbers of steps that are out of range' refuses_page_options

@@ -128,6 +128,14 @@ marks_rounds() {
 }
 then_check 'with --rounds a story marks the rounds that the statistics count' marks_rounds
 
+# With --network a story has the lines of moves and services, and with other options those of them that these choose.
+tells_of_the_network() {
+    ./ultra story --network "$room/hot_spot.trace" "$room/hot_spot.elf" | diff <(grep -E '^[0-9]+ (up|down|serve) ' "$room/story") - &&
+        ./ultra story --network --processor 3 --from 900 --to 9000 "$room/hot_spot.trace" "$room/hot_spot.elf" >"$room/chosen" && [ -s "$room/chosen" ] &&
+        ./ultra story --processor 3 --from 900 --to 9000 "$room/hot_spot.trace" "$room/hot_spot.elf" | grep -E '^[0-9]+ (up|down|serve) ' | diff - "$room/chosen"
+}
+then_check 'with --network a story has only moves and services' tells_of_the_network
+
 # has_the_longest_queues TRACE FILE: the statistics have the same longest queues as the story, and the same lengths at the ends of rounds.
 has_the_longest_queues() {
     ./ultra story "$1" "$2" >"$room/story" && ./ultra stats --queues "$1" "$2" >"$room/stats" &&

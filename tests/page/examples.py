@@ -57,13 +57,15 @@ def ultra(*words, **more):
 
 
 class Run:
-    """A run: its trace and image, and the texts that the program tells of it."""
+    """A run: its trace and image, and the texts that the program tells of it. Its page may have other steps than all: `options` are
+    those of `ultra page`, and `symbols` is a file of names."""
 
-    def __init__(self, folder, name, image, trace):
+    def __init__(self, folder, name, image, trace, options=(), symbols=None):
         self.name, self.image, self.trace = name, image, trace
         self.path = os.path.join(folder, name + ".html")
+        self.named = ["--symbols", symbols] if symbols else []
         with open(self.path, "w", encoding="utf-8") as file:
-            file.write(ultra("page", trace, image))
+            file.write(ultra("page", *options, *self.named, trace, image))
         self.machine = ultra("trace", trace).split("\n", 1)[0]
         self.k = int(self.machine.split()[2])
         self.story = ultra("story", trace, image).splitlines()
@@ -77,12 +79,49 @@ class Run:
 
     def picture(self, step):
         if step not in self.pictures:
-            self.pictures[step] = ultra("picture", "--step", str(step), self.trace, self.image)
+            self.pictures[step] = ultra("picture", "--step", str(step), *self.named, self.trace, self.image)
         return self.pictures[step]
 
     def chosen_steps(self, count):
         """So many steps of the run, the first and the last among them, spread over it."""
         return sorted({round(i * self.steps / (count - 1)) for i in range(count)})
+
+
+class Part(Run):
+    """A run of which the page has a part: `count` steps from `first` on. `symbols` is the text of the file of names."""
+
+    def __init__(self, folder, name, run, first, count, symbols=None):
+        path = None
+        if symbols is not None:
+            path = os.path.join(folder, name + ".sym")
+            with open(path, "w", encoding="ascii") as file:
+                file.write(symbols)
+        super().__init__(folder, name, run.image, run.trace, ["--from", str(first), "--steps", str(count)], path)
+        self.symbols = symbols or ""
+        self.first = min(first, self.steps)
+        self.count = min(count, self.steps - self.first)
+
+    def chosen_steps(self, count):
+        return sorted({self.first + round(i * self.count / (count - 1)) for i in range(count)})
+
+    def named_story(self):
+        return ultra("story", *self.named, self.trace, self.image).splitlines()
+
+
+def parts(folder, made):
+    """Parts of runs: with messages on their way at both ends, with names, one step without an entry, the end, and none."""
+    hot_spot = made["hot_spot"]
+    labels = os.path.join(folder, "labels")
+    ultra("asm", "--symbols", labels, os.path.join(TOP, "examples", "algorithms", "hot_spot.s"), os.path.join(folder, "again.elf"))
+    with open(labels, encoding="ascii") as file:
+        symbols = file.read()
+    yield Part(folder, "middle", hot_spot, 37, 90, symbols + "80000000 00000004 d a_word_with_a_name_of_many_letters\n80000004 d behind\n")
+    yield Part(folder, "queues", made["queued"], 150, 200)
+    yield Part(folder, "many", made["sixty_four"], 500, 300)
+    yield Part(folder, "first", hot_spot, 0, 1)
+    yield Part(folder, "sent", hot_spot, next(i for i, line in enumerate(hot_spot.story) if "sends" in line), 1)
+    yield Part(folder, "end", made["fault"], 10, 500000)
+    yield Part(folder, "none", made["fault"], 4294967295, 500000)
 
 
 def image_of(folder, name, text=None):

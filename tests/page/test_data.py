@@ -12,9 +12,9 @@ import tempfile
 
 sys.path[:0] = [os.path.dirname(os.path.abspath(__file__)), os.path.join(os.path.dirname(os.path.abspath(__file__)), "..", "tools")]
 import page
-from examples import runs
+from examples import parts, runs
 from pictured import Picture
-from told import steps_of
+from told import order_steps, steps_of
 
 START = '<script type="text/plain" id="data">\n'
 
@@ -149,16 +149,15 @@ def check(run):
     lines = data[:-1].split("\n")
     same(lines[0], "ultra page 1", run.name)
     same(lines[1], run.machine, run.name)
-    found = re.fullmatch(r"words (\d+) steps (\d+)", lines[2])
-    assert found and int(found[2]) == run.steps, (run.name, lines[2], run.steps)
     n = run.steps
-    same(lines[4:4 + n], run.story, f"{run.name}: the story")
+    same(lines[2], f"words 1024 steps {n} from 0 of {n} symbols 0", run.name)
+    same(lines[4 + n:4 + 2 * n], run.story, f"{run.name}: the story")
     same(lines[4 + 2 * n:], run.order, f"{run.name}: the order")
     view, told, run.values = View(run.k), steps_of(run.story), {}
     view.put(lines[3])
     taken = 0
     for step in run.chosen_steps(10):
-        for line in lines[4 + n + taken:4 + n + step]:
+        for line in lines[4 + taken:4 + step]:
             view.put(line)
         taken = step
         wanted = Picture(run.picture(step))
@@ -169,6 +168,42 @@ def check(run):
     print(f"{run.name}: {n} steps, {len(run.order)} lines of the order, {len(data) / max(1, n):.0f} bytes a step")
 
 
+def unnamed(run):
+    """The same run, with pictures that have no names: the data has none."""
+    run.named, run.pictures = [], {}
+    return run
+
+
+def check_part(run):
+    """The data of a part: its lines of the story and of the order, and views from the first step on."""
+    lines = data_of(run.page())[1][:-1].split("\n")
+    first, n = run.first, run.count
+    symbols = [line.split() for line in run.symbols.splitlines()]
+    rows = sorted((int(it[0], 16), int(it[1], 16) if len(it) == 4 else 0, it[-1]) for it in symbols)
+    named = 3 + len(rows)
+    same(lines[2], f"words 1024 steps {n} from {first} of {run.steps} symbols {len(rows)}", run.name)
+    same(lines[3:named], [f"{address:08x} {size:08x} {name}" for address, size, name in rows], f"{run.name}: the symbols")
+    same(lines[named + 1 + n:named + 1 + 2 * n], run.story[first:first + n], f"{run.name}: the story")
+    told = steps_of(run.story)
+    same(lines[named + 1 + 2 * n:], [line for line, step in zip(run.order, order_steps(told)) if first <= step < first + n], f"{run.name}: the order")
+    view, run.values = View(run.k), {}
+    view.put(lines[named])
+    taken = 0
+    for step in unnamed(run).chosen_steps(7):
+        for line in lines[named + 1 + taken:named + 1 + step - first]:
+            view.put(line)
+        taken = step - first
+        wanted = Picture(run.picture(step))
+        same([view.processor_text(p) for p in range(view.n)], wanted.processors, f"{run.name} after {step} steps: processors")
+        same(view.lines(), wanted.lines, f"{run.name} after {step} steps")
+        check_values(run, view, told, step)
+    print(f"{run.name}: {n} steps from {first} on")
+
+
 with tempfile.TemporaryDirectory() as room:
+    made = {}
     for each in runs(room):
+        made[each.name] = each
         check(each)
+    for each in parts(room, made):
+        check_part(each)

@@ -14,7 +14,7 @@ import time
 
 sys.path[:0] = [os.path.dirname(os.path.abspath(__file__)), os.path.join(os.path.dirname(os.path.abspath(__file__)), "..", "tools")]
 from browser import Browser
-from examples import runs, ultra
+from examples import parts, runs, ultra
 from pictured import Picture
 from told import next_of, order_steps, steps_of
 
@@ -117,6 +117,42 @@ def check_map(browser, run):
     same(0 < box[0] < 1100 and 0 < box[1] < 700, True, f"{run.name}: the switch that was clicked is in sight")
     browser.key("Escape")
     browser.key("m")
+
+
+def check_part(browser, run):
+    """A page of a part of a run: steps have the numbers that they have in the run, and words and program counters their names."""
+    first, end = run.first, run.first + run.count
+    browser.open(f"file://{run.path}#step={first + run.count // 2}")
+    browser.key("d")
+    browser.click("#tab-standing")
+    if run.k >= 4:
+        browser.key("m")
+    ordered = order_steps(steps_of(run.story))
+    story, pages_own = run.named_story(), f"{run.count} step{'' if run.count == 1 else 's'} from {first} on of {run.steps}"
+    same(text_of(browser, "machine").split(", ", 2)[2], pages_own, f"{run.name}: its steps")
+    same(browser.run("Number(document.getElementById('step-number').value)"), first + run.count // 2, f"{run.name}: the step in the address")
+    begin = "Nothing has happened yet." if first == 0 else f"The page begins after {first} step{'' if first == 1 else 's'}."
+    for step in run.chosen_steps(6):
+        browser.wait("location.hash === '#step=' + document.getElementById('step-number').value")
+        browser.run(f"location.hash = '#step={step}'")
+        browser.wait(f"Number(document.getElementById('step-number').value) === {step}")
+        wanted, look, what = Picture(run.picture(step)), browser.run(LOOK), f"{run.name} after {step} steps"
+        if run.k < 4:
+            same(look["processors"], wanted.processors, f"{what}: processors")
+            for kind, texts in wanted.texts().items():
+                same(look[kind], texts, f"{what}: {kind}")
+        same(look["list"], [text for _, text in wanted.lines], f"{what}: list")
+        same(look["caption"], story[step - 1] if step > first else begin, f"{what}: caption")
+        same(look["next"], story[step] if step < end else "The run is over." if step == run.steps else "The page ends here.", f"{what}: next line")
+        same([look["slider"], look["spoken"]], [step - first, True], f"{what}: slider and labels")
+        same(text_of(browser, "order-count").split()[0], str(sum(first <= it < step for it in ordered)), f"{what}: lines of the order")
+    if run.named:
+        browser.click("#tab-program")
+        labels = [line.split()[-1] + ":" for line in run.symbols.splitlines()]
+        found = browser.run("[...document.querySelectorAll('.program-label')].map((it) => it.textContent)")
+        same([it for it in found if it not in labels], [], f"{run.name}: labels of the program")
+        same(len(found) > 0, True, f"{run.name}: there are labels")
+    same(browser.faults, [], f"{run.name}: the console")
 
 
 # ---- controls
@@ -341,8 +377,8 @@ def longer(text, steps):
     before, _, rest = text.partition('id="data">\n')
     data, _, after = rest.partition("</script>")
     lines = data.rstrip("\n").split("\n")
-    n = int(lines[2].split()[-1])
-    story, changes, order = lines[4:4 + n], lines[4 + n:4 + 2 * n], lines[4 + 2 * n:]
+    n = int(lines[2].split()[3])
+    changes, story, order = lines[4:4 + n], lines[4 + n:4 + 2 * n], lines[4 + 2 * n:]
     state, seen, first, end = {}, {}, 0, 0
     for number, line in enumerate(changes):
         for change in line.split("\t")[:-1]:
@@ -365,8 +401,8 @@ def longer(text, steps):
     story = renumbered(story[:first] + story[first:end] * times + story[first:])
     changes = changes[:first] + changes[first:end] * times + changes[first:]
     order = renumbered(order[:a] + order[a:b] * times + order[a:])
-    lines[2] = re.sub(r"\d+$", str(len(story)), lines[2])
-    return before + 'id="data">\n' + "\n".join(lines[:4] + story + changes + order) + "\n</script>" + after, len(story)
+    lines[2] = lines[2].replace(f" {n} ", f" {len(story)} ")
+    return before + 'id="data">\n' + "\n".join(lines[:4] + changes + story + order) + "\n</script>" + after, len(story)
 
 
 def check_long(browser, run, folder):
@@ -408,6 +444,9 @@ def main():
             check_panels(browser, run)
             same(browser.faults, [], f"{run.name}: the console")
             print(f"{run.name}: the page shows what the program tells")
+        for part in parts(room, made):
+            check_part(browser, part)
+        print("pages of parts of runs show these parts")
         check_looks(browser, made["hot_spot"])
         check_names(browser, made["hot_spot"])
         check_long(browser, made["hot_spot"], room)

@@ -14,7 +14,7 @@ import sys
 TOP = os.path.dirname(os.path.dirname(os.path.dirname(os.path.abspath(__file__))))
 PAGE = os.path.join(TOP, "page")
 TARGET = os.path.join(TOP, "crates", "ultra", "src", "page.rt")
-SCRIPTS = ["data", "view", "words", "story", "history", "layout", "glyphs", "stage", "motion", "camera", "map", "detail", "order", "program",
+SCRIPTS = ["data", "names", "view", "words", "story", "history", "layout", "glyphs", "stage", "motion", "camera", "map", "detail", "order", "program",
            "charts", "timeline", "standing", "control", "main"]
 
 
@@ -55,13 +55,16 @@ def source():
     front, back = halves()
     return f'''//! The page of `ultra page`, before and after its data. `tests/tools/page.py --write` generates this file from page/.
 
-use page_command::Page;
+use page_command::{{Page, Window}};
+use symbol_table::SymbolTable;
 
-/// The page around its data.
-pub fn page() -> Page<'static> {{
+/// The page that plays the steps in a window, with these names.
+pub fn page<'a>(window: Window, symbols: Option<&'a SymbolTable<'a>>) -> Page<'a> {{
     Page {{
         front: front(),
         back: back(),
+        window,
+        symbols,
     }}
 }}
 

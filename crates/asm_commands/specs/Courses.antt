@@ -90,7 +90,7 @@ lines_of text = record {
 abbrev pub origin_in : (origins : List ℕ) → (line : ℕ) → ℕ
 origin_in origins line = slice_index origins (line - 1)
 
--- the advice names a line of the course text
+-- the advice for a plain line, with the course line of the plain line that it names
 abbrev pub course_hint : (origins : List ℕ) → Hint → Hint
 course_hint origins (StandsOn line) = StandsOn (origin_in origins line)
 course_hint origins hint = hint

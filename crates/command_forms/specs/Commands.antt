@@ -82,6 +82,10 @@ first_line = record { name = codes "from"; low = 0; high = 4294967295 }
 abbrev pub last_line : Bounds
 last_line = record { name = codes "to"; low = 0; high = 4294967295 }
 
+-- the number of threads that take the runs of a hunt
+abbrev pub jobs : Bounds
+jobs = record { name = codes "jobs"; low = 1; high = 64 }
+
 -- the seconds after which an exploration gives up
 abbrev pub seconds : Bounds
 seconds = record { name = codes "seconds"; low = 1; high = 4294967295 }
@@ -93,6 +97,13 @@ witness = record { name = codes "witness"; low = 0; high = 4294967295 }
 -- the number of steps after which the machine is drawn
 abbrev pub step : Bounds
 step = record { name = codes "step"; low = 0; high = 4294967295 }
+
+-- the number of the first step of a page, and how many steps it has at most
+abbrev pub first_step : Bounds
+first_step = record { name = codes "from"; low = 0; high = 4294967295 }
+
+abbrev pub step_count : Bounds
+step_count = record { name = codes "steps"; low = 1; high = 500000 }
 
 -- ---- the arguments
 
@@ -181,7 +192,7 @@ unfoldable pub hunt_command : App
 hunt_command = command (codes "hunt")
     (file ∷ option (codes "trace") ∷ option (codes "observe") ∷ flag (codes "overwrite") ∷ flag (codes "expect-one")
     ∷ flag (codes "quiet") ∷ symbols ∷ decimal ∷ json
-    ∷ (sizes ++ (number steps.bounds ∷ number runs.bounds ∷ number start.bounds ∷ [])))
+    ∷ (sizes ++ (number steps.bounds ∷ number runs.bounds ∷ number start.bounds ∷ number jobs ∷ [])))
 
 unfoldable pub explore_command : App
 explore_command = command (codes "explore")
@@ -197,7 +208,8 @@ unfoldable pub order_command : App
 order_command = command (codes "order") (lines ++ (flag (codes "abi") ∷ decimal ∷ json ∷ []))
 
 unfoldable pub story_command : App
-story_command = command (codes "story") (lines ++ (flag (codes "rounds") ∷ decimal ∷ json ∷ []))
+story_command = command (codes "story")
+    (lines ++ (flag (codes "network") ∷ flag (codes "rounds") ∷ decimal ∷ json ∷ []))
 
 unfoldable pub stats_command : App
 stats_command = command (codes "stats") (replay
@@ -207,7 +219,7 @@ unfoldable pub picture_command : App
 picture_command = command (codes "picture") (replay ++ (number step ∷ symbols ∷ []))
 
 unfoldable pub page_command : App
-page_command = command (codes "page") replay
+page_command = command (codes "page") (replay ++ (number first_step ∷ number step_count ∷ symbols ∷ []))
 
 unfoldable pub study_command : App
 study_command = command (codes "study")

@@ -15,9 +15,9 @@ use crate::help::{
     TRACE_ENDS, WORDS_ENDS,
 };
 use crate::ranges::{
-    BUDGET, COMBINATIONS, ChoiceOption, FIRST_LINE, FIRST_START, LAST_LINE, NumberOption, PORT,
-    PROCESSOR, QUEUE, RECORDS, RUN_STEPS, RUNS, SECONDS, SHARED_WORD, SHARED_WORDS, STAGES, START,
-    STATES, STEP, STEPS, SWEEP_STEPS, WITNESS,
+    BUDGET, COMBINATIONS, ChoiceOption, FIRST_LINE, FIRST_START, FIRST_STEP, JOBS, LAST_LINE,
+    NumberOption, PORT, PROCESSOR, QUEUE, RECORDS, RUN_STEPS, RUNS, SECONDS, SHARED_WORD,
+    SHARED_WORDS, STAGES, START, STATES, STEP, STEP_COUNT, STEPS, SWEEP_STEPS, WITNESS,
 };
 
 /// A command of the program.
@@ -247,6 +247,7 @@ const HUNT: CommandForm = CommandForm {
         Argument::Number(RUN_STEPS),
         Argument::Number(RUNS),
         Argument::Number(FIRST_START),
+        Argument::Choice(JOBS),
     ],
     ends: HUNT_ENDS,
 };
@@ -368,6 +369,10 @@ const STORY: CommandForm = CommandForm {
         Argument::Choice(LAST_LINE),
         SYMBOLS,
         Argument::Flag {
+            name: "network",
+            help: "Print only what the network does: moves of messages, and services",
+        },
+        Argument::Flag {
             name: "rounds",
             help: "Print `round N` before the first printed step of each round of the sweep",
         },
@@ -421,7 +426,18 @@ const PICTURE: CommandForm = CommandForm {
 const PAGE: CommandForm = CommandForm {
     name: "page",
     about: "Write a page for a browser that plays the steps of a trace",
-    arguments: &[TRACE, TRACED_IMAGE, Argument::Number(SHARED_WORDS)],
+    arguments: &[
+        TRACE,
+        TRACED_IMAGE,
+        Argument::Number(SHARED_WORDS),
+        Argument::Choice(FIRST_STEP),
+        Argument::Choice(STEP_COUNT),
+        Argument::Text {
+            name: "symbols",
+            value: "FILE",
+            help: "Show names of words and program counters, from the symbol table of an ELF file or from what `nm` prints",
+        },
+    ],
     ends: PAGE_ENDS,
 };
 

@@ -171,7 +171,7 @@ the word that is served with its value before and after, and the values that a s
 
 With --processor these are the turns and writes of the processor, and the steps of the message that stands
 for it, alone or combined with others. With --word they are the steps of references to the word, and writes
-to it. Lines keep their numbers if options leave others out.
+to it. With --network turns and writes are left out. Lines keep their numbers if options leave others out.
 
 With --rounds a line `round N` stands before the first of the printed steps of each round of the sweep, N
 from 1. A write from outside is of no round. For other schedules these are the fewest rounds of the sweep
@@ -223,7 +223,10 @@ Writes one file for a browser, which needs no network: `ultra page TRACE FILE > 
 those of `ultra story`. The page shows the machine before and after each of them, as `ultra picture`
 does, and beside it the registers, the words, the lines of the story and those of `ultra order`. It plays
 them, goes to a step, and to the next combination, service or stop; `FILE.html#step=43` opens at step 43.
-A key for each is listed under `?`.
+A key for each is listed under `?`. With --symbols words and program counters are shown by their names.
+
+With --from N the page begins with step N, and with --steps M it has at most M steps. Steps keep their
+numbers. A trace of more than 500000 steps is refused without --steps, if as many follow step N.
 
 Errors are reported on standard error as by `ultra replay`, and then nothing is printed.
 
@@ -373,6 +376,9 @@ A run is unfinished if it has used up its budget while a processor runs, which m
 are such runs, a last line `unfinished S S ..` has their numbers.
 
 With --expect-one the exit status is 6 if the runs came to more than one result, unless it is 1 or 5.
+
+The runs are taken by --jobs threads, or else by as many as the host has processors. Results are counted in
+the order of the runs, so the number of threads changes nothing that is printed or written.
 
 With --trace nothing is written before all runs are over. If a file that would be written exists then, no
 trace is written and no result is printed, unless --overwrite is given. Meanwhile a line on a terminal

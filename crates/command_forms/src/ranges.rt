@@ -158,6 +158,14 @@ pub const PROCESSOR: ChoiceOption = ChoiceOption {
     help: "Print the lines of this processor alone, 0 to 63",
 };
 
+/// The number of threads that take the runs of a hunt.
+pub const JOBS: ChoiceOption = ChoiceOption {
+    name: "jobs",
+    low: 1,
+    high: 64,
+    help: "Threads that take the runs, 1 to 64; what is printed is the same with any number [default: the host's processors]",
+};
+
 /// The seconds after which an exploration gives up.
 pub const SECONDS: ChoiceOption = ChoiceOption {
     name: "seconds",
@@ -180,6 +188,22 @@ pub const STEP: ChoiceOption = ChoiceOption {
     low: 0,
     high: u32::MAX,
     help: "Draw the machine after this many steps, 0 to 4294967295 [default: after all]",
+};
+
+/// The number of the first step of a page.
+pub const FIRST_STEP: ChoiceOption = ChoiceOption {
+    name: "from",
+    low: 0,
+    high: u32::MAX,
+    help: "Begin with the step of this number, 0 to 4294967295 [default: 0]",
+};
+
+/// How many steps a page has at most.
+pub const STEP_COUNT: ChoiceOption = ChoiceOption {
+    name: "steps",
+    low: 1,
+    high: 500_000,
+    help: "Play at most this many steps, 1 to 500000 [default: all, of which a trace may have 500000]",
 };
 
 /// The shared word about which lines are printed.

@@ -5,7 +5,8 @@ ghost use Rattle.std.specs.Option.{option_map};
 ghost use Rattle.assembler.specs.Meaning.{start, after, labels_of, line_piece, pieces_from};
 ghost use Rattle.assembler.specs.Passes.{nows};
 ghost use Rattle.fault_lists.specs.Faults.{AreTheFaults, AreFaultsOf, IsAt, IsNamed, error_of, error_at};
-ghost use Rattle.line_faults.specs.Places.{label_values, place_of};
+ghost use Rattle.fault_lists.specs.Faults.{first_line_with, label_of};
+ghost use Rattle.line_faults.specs.Places.{first_lines, label_values, lines_after, place_of};
 ghost use Rattle.line_faults.specs.word_faults.Views.{spot_span};
 
 use crate::text_fault::TextFault;
@@ -39,7 +40,8 @@ fn labels_of<'a>(alloc: Global, lines: &[&'a [u8]]) -> Result<BTreeMap<&'a [u8],
 
 /// The place after the last of these lines, with all their labels.
 pub fn end_place<'a>(alloc: Global, lines: &[&'a [u8]]) -> Result<Cursor<'a>, AllocError>
-    ensures { IfOk result (λ end. place_of end ≡ fold after start (nows lines.now)) }
+    ensures place { IfOk result (λ end. place_of end ≡ fold after start (nows lines.now)) }
+    ensures lines { IfOk result (λ end. first_lines end ≡ first_line_with (nows lines.now)) }
 {
     let mut cursor = Cursor::new(alloc);
     for (at, line) in lines.iter().enumerate() {
@@ -55,7 +57,9 @@ fn pass_line<'a>(
     line: &'a [u8],
     number: usize,
 ) -> Result<(), AllocError>
-    ensures { OnOk result (place_of cursor.new ≡ after (place_of cursor.old) line.now) }
+    ensures place { OnOk result (place_of cursor.new ≡ after (place_of cursor.old) line.now) }
+    ensures lines { OnOk result (first_lines cursor.new
+        ≡ lines_after (first_lines cursor.old) (label_of line.now) number) }
 {
     match read_line(alloc, line) {
         Ok(said) => cursor.pass(&said, number),
@@ -106,8 +110,10 @@ fn take_line<'a>(
     ensures fault { IfOk result (λ found. option_map error_of found
         ≡ error_at number (line_piece (label_values labels.now) (place_of cursor.old) line.now)) }
     ensures placed { IfOk result (λ found. IfSome found (λ t. (t.line ≡ number) × IsAt line.now t.column t.word.now
-        × IsNamed (label_values labels.now) (place_of cursor.old) line.now t)) }
+        × IsNamed (label_values labels.now) (first_lines cursor.old) (place_of cursor.old) line.now t)) }
     ensures place { OnOk result (place_of cursor.new ≡ after (place_of cursor.old) line.now) }
+    ensures lines { OnOk result (first_lines cursor.new
+        ≡ lines_after (first_lines cursor.old) (label_of line.now) number) }
 {
     let (said, fault) = match read_line(alloc, line) {
         Ok(said) => {
@@ -142,7 +148,7 @@ fn found_at<'a>(
     ensures error { IfOk result (λ t. (t.line ≡ number) × (t.fault ≡ fault)) }
     ensures at { IfOk result (λ t. IsAt line.now t.column t.word.now) }
     ensures named { IfOk result (λ t. IsNamed (label_values around.now.labels.now)
-        (place_of around.now.cursor.now) line.now t) }
+        (first_lines around.now.cursor.now) (place_of around.now.cursor.now) line.now t) }
 {
     let spot = spot_of(alloc, around, search, line, fault)?;
     Ok(fault_at(number, fault, &spot))

@@ -86,12 +86,14 @@ one_found observed c image most start place fs unfinished greatest number r f is
 pub one_observed : (observed : Option (List Bool)) (c : Config) (image : ImageContents) (most start place number : ℕ)
     (old middle new : FindingsState) (greatest greatest' : ℕ) (r : ResultState) →
     AreFound observed c image most start place old.found old.unfinished greatest → number ≡ number_at start place →
-    IsResultOf observed c image most number r → middle ≡ record old { found = noted old.found r.text r.printed number; noted = old.noted + 1 } →
+    IsResultOf observed c image most (number_at start place) r →
+    middle ≡ record old { found = noted old.found r.text r.printed number; noted = old.noted + 1 } →
     new ≡ record middle { unfinished = middle.unfinished ++ if_unfinished r.end number } → greatest' ≡ greater r.status greatest →
     AreFound observed c image most start (place + 1) new.found new.unfinished greatest'
 one_observed observed c image most start place number old middle new greatest greatest' r f is one next ended more =
     subst (λ (x : FindingsState × ℕ). AreFound observed c image most start (place + 1) x.0.found x.0.unfinished x.1) (λ i. (sym both i, sym more i))
-    (one_found observed c image most start place old.found old.unfinished greatest number r f is one)
+    (one_found observed c image most start place old.found old.unfinished greatest number r f is
+    (subst (λ n. IsResultOf observed c image most n r) (sym is) one))
   where
     both : new ≡ record {
       found = noted old.found r.text r.printed number;

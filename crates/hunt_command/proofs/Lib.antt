@@ -8,4 +8,6 @@ pub mod Asking
 pub mod Counting
 pub mod Recorded
 pub mod OneRun
+pub mod OneResult
+pub mod OneHunt
 pub mod Numbers

@@ -16,9 +16,10 @@ use Rattle.hunt_command.specs.Runs.{EndsWith, IsRandomRun}
 use Rattle.hunt_command.specs.Schedules.{schedule}
 use Rattle.hunt_command.proofs.Plans.{no_poke_schedule}
 
--- ---- of two prefixes of one list, one continues the other
+-- ---- prefixes of one list
 
-either_goes_on : (xs r ys s : List Step) → xs ++ r ≡ ys ++ s → GoesOnFrom xs ys ⊎ GoesOnFrom ys xs
+-- Of two prefixes of one list, one continues the other.
+pub either_goes_on : (xs r ys s : List Step) → xs ++ r ≡ ys ++ s → GoesOnFrom xs ys ⊎ GoesOnFrom ys xs
 either_goes_on [] r ys s e = inl (ys, refl)
 either_goes_on (x ∷ xs) r [] s e = inr (x ∷ xs, refl)
 either_goes_on (x ∷ xs) r (y ∷ ys) s e = by (either_goes_on xs r ys s (let rest : xs ++ r ≡ ys ++ s = cc in rest))
@@ -39,7 +40,7 @@ none_after xs (y ∷ ys) zs short =
 
 module _ (c : Config) (image : ImageContents) (number most : ℕ) where
   -- The schedule of a run is what was asked for and what was not.
-  plan_is : (e : SweepEnd) (l : Log) (w : IsRandomRun c image number most e l) → schedule c.k number most ≡ w.ran.asked.asked ++ w.ran.asked.unasked
+  pub plan_is : (e : SweepEnd) (l : Log) (w : IsRandomRun c image number most e l) → schedule c.k number most ≡ w.ran.asked.asked ++ w.ran.asked.unasked
   plan_is e l w = ap (λ (d : Config). schedule d.k number most) (sym w.opens.config) ∙ w.ran.asked.all
 
   asked_for : (e : SweepEnd) (l : Log) (w : IsRandomRun c image number most e l) → WasAskedFor c image (0 + most) w.ran.asked.asked w.ran.middle l

@@ -4,3 +4,4 @@ pub mod Hunts
 pub mod Schedules
 pub mod Traces
 pub mod Runs
+pub mod Taken

@@ -23,6 +23,7 @@ use link::{LinkRead, LinkWrite};
 use observed_results::ObservedWords;
 use std::alloc::Global;
 use std::io::Write;
+use std::thread::Threads;
 
 /// The exit status of a hunt that has printed all, if no fault has stopped a processor, and some run used up its budget
 /// while a processor ran.
@@ -58,7 +59,19 @@ pub struct Hunt<'a> {
 /// and more than one was found; else 0. If not, it is that of the refusal reported on standard error. Refusals are
 /// checked in this order: of the image, of the machine's size, of a trace that exists, of one that cannot be written,
 /// of standard output.
-pub fn hunt_command<R: LinkRead, T: Traces, G: HuntObserver, W: LinkWrite, E: Write>(
+///
+/// The runs are taken on `jobs` threads, or on one if `jobs` is 0. No clause speaks of threads: what is printed and
+/// written is what the runs give in their order.
+pub fn hunt_command<
+    P: Threads + Sync,
+    R: LinkRead,
+    T: Traces,
+    G: HuntObserver,
+    W: LinkWrite,
+    E: Write,
+>(
+    rt: &P,
+    jobs: u8,
     alloc: Global,
     file: &mut R,
     config: Config,
@@ -84,7 +97,7 @@ pub fn hunt_command<R: LinkRead, T: Traces, G: HuntObserver, W: LinkWrite, E: Wr
     ensures silent { IsOfRefusal result → W.has_failed out.new ≡ false → out.new ≡ out.old }
     ensures quiet { IsOfResults result → err.new ≡ err.old }
 {
-    match execute(alloc, file, config, hunt, traces, observer, out) {
+    match execute(rt, jobs, alloc, file, config, hunt, traces, observer, out) {
         Ok(status) => status,
         Err(refused) => tell_refused(refused, traces, err),
     }
@@ -107,7 +120,9 @@ fn tell_refused<T: Traces, E: Write>(refused: Refused, traces: &Option<T>, err: 
 }
 
 /// Executes the command.
-fn execute<R: LinkRead, T: Traces, G: HuntObserver, W: LinkWrite>(
+fn execute<P: Threads + Sync, R: LinkRead, T: Traces, G: HuntObserver, W: LinkWrite>(
+    rt: &P,
+    jobs: u8,
     alloc: Global,
     file: &mut R,
     config: Config,
@@ -132,12 +147,14 @@ fn execute<R: LinkRead, T: Traces, G: HuntObserver, W: LinkWrite>(
     ensures silent { OnErr result (W.has_failed out.new ≡ false → out.new ≡ out.old) }
 {
     let image = image_of(alloc, file, &config)?;
-    hunt_image(alloc, &image, config, hunt, traces, observer, out)
+    hunt_image(rt, jobs, alloc, &image, config, hunt, traces, observer, out)
 }
 
 /// Prints the results of the runs of an image. Writes the traces first, if they are asked for.
 // A separate function, so that neither has many values to drop at each return.
-fn hunt_image<T: Traces, G: HuntObserver, W: LinkWrite>(
+fn hunt_image<P: Threads + Sync, T: Traces, G: HuntObserver, W: LinkWrite>(
+    rt: &P,
+    jobs: u8,
     alloc: Global,
     image: &Image,
     config: Config,
@@ -162,7 +179,7 @@ fn hunt_image<T: Traces, G: HuntObserver, W: LinkWrite>(
         (output W.contents W.has_failed out.old out.new) refused) }
     ensures silent { OnErr result (W.has_failed out.new ≡ false → out.new ≡ out.old) }
 {
-    let (findings, greatest) = run_hunt(alloc, image, config, hunt, observer)?;
+    let (findings, greatest) = run_hunt(rt, jobs, alloc, image, config, hunt, observer)?;
     let text = findings_text(alloc, &findings)?;
     save_all(alloc, image, config, hunt.budget, &findings, traces)?;
     print(out, text.as_str())?;
@@ -195,7 +212,9 @@ fn hunt_status(greatest: u8, unfinished: &[u32], unexpected: bool) -> u8
 }
 
 /// The results of the runs of a hunt, and the greatest exit status of a machine.
-fn run_hunt<G: HuntObserver>(
+fn run_hunt<P: Threads + Sync, G: HuntObserver>(
+    rt: &P,
+    jobs: u8,
     alloc: Global,
     image: &Image,
     config: Config,
@@ -213,9 +232,7 @@ fn run_hunt<G: HuntObserver>(
     if !config.is_within_limits() {
         return Err(Fault::Size);
     }
-    let (budget, start, runs) = (hunt.budget, hunt.start, hunt.runs);
-    let words = hunt.observed;
-    let found = findings_of(alloc, image, config, budget, start, runs, words, observer);
+    let found = findings_of(rt, jobs, alloc, image, config, hunt, observer);
     observer.over();
     found
 }

@@ -6,8 +6,10 @@ ghost use Rattle.steps.specs.declared.step.Step.{Step};
 ghost use Rattle.run_reports.specs.CountedReplays.{IsReplayCounted};
 ghost use Rattle.schedules.specs.Sweeps.{most_of};
 ghost use Rattle.command_io.specs.Files.{IsFaultOfSize};
-ghost use Rattle.hunt_command.specs.Hunts.{AreFound, IsDrainedTo, IsLogOf, IsResultOf, greater};
+ghost use Rattle.hunt_command.specs.Hunts.{AreFound, IsDrainedTo, IsLogOf, IsResultOf, greater, marks_of};
 
+use crate::ahead::Ahead;
+use crate::command::Hunt;
 use crate::findings::Findings;
 use crate::lines::result_text;
 use crate::observer::HuntObserver;
@@ -21,6 +23,7 @@ use observed_results::ObservedWords;
 use run_reports::{drain_counted, exit_status};
 use schedules::SweepEnd;
 use std::alloc::Global;
+use std::thread::Threads;
 
 /// The log of the run with this number, on a machine of this size that opens on a copy of the image, and how the run
 /// ended.
@@ -50,18 +53,18 @@ pub(crate) fn run_of(
 
 /// The result of a run.
 #[derive(Drop)]
-struct RunResult {
+pub(crate) struct RunResult {
     /// Without a pc.
-    text: String,
+    pub(crate) text: String,
     /// With each pc.
-    printed: String,
-    end: SweepEnd,
+    pub(crate) printed: String,
+    pub(crate) end: SweepEnd,
     /// The exit status of the machine.
-    status: u8,
+    pub(crate) status: u8,
 }
 
 /// The result of the run with this number. A tally notes what the processors show as they take the steps.
-fn result_of(
+pub(crate) fn result_of(
     alloc: Global,
     image: &Image,
     config: Config,
@@ -131,39 +134,38 @@ fn greater(one: u8, other: u8) -> u8
     if one < other { other } else { one }
 }
 
-/// The results of this many runs, starting with this number, and the greatest exit status of a machine. The observer
-/// sees the progress.
+/// The results of the runs of a hunt, taken on this many threads, and the greatest exit status of a machine. The
+/// observer sees the progress.
 ///
 /// # Errors
 ///
 /// [`Fault::Size`] if the size is out of limits, and [`Fault::Memory`].
-pub(crate) fn findings_of<G: HuntObserver>(
+pub(crate) fn findings_of<P: Threads + Sync, G: HuntObserver>(
+    rt: &P,
+    jobs: u8,
     alloc: Global,
     image: &Image,
     config: Config,
-    budget: u32,
-    start: u32,
-    runs: u32,
-    observed: Option<&ObservedWords>,
+    hunt: Hunt<'_>,
     observer: &mut G,
 ) -> Result<(Findings, u8), Fault>
     requires words { image.now.shared_words ≡ config.shared_words }
-    ensures found { IfOk result (λ done.
-        AreFound (option_map (λ words. words.now) observed.entry) config image.now (most_of budget) start runs
-        done.0.found done.0.unfinished done.1) }
+    ensures found { IfOk result (λ done. AreFound (marks_of hunt.entry) config image.now
+        (most_of hunt.entry.budget) hunt.entry.start hunt.entry.runs done.0.found done.0.unfinished done.1) }
     ensures low { IfOk result (λ done. done.1 ≤ 1) }
     ensures refused { IfErr result (IsFaultOfSize config) }
 {
     let mut findings = Findings::new(alloc);
     let mut greatest = 0;
-    for place in 0..runs {
-        let number = start.wrapping_add(place);
+    let mut ahead = Ahead::new(alloc);
+    for place in 0..hunt.runs {
+        let number = hunt.start.wrapping_add(place);
         let RunResult {
             text,
             printed,
             end,
             status,
-        } = result_of(alloc, image, config, budget, number, observed)?;
+        } = ahead.result_at(rt, jobs, alloc, image, config, hunt, place)?;
         findings.add(text, printed, number)?;
         findings.note_end(end, number)?;
         greatest = greater(status, greatest);

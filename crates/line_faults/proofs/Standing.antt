@@ -1,7 +1,7 @@
 -- The word at fault is in its line.
-use Rattle.std.proofs.Common.{◌≡◌, ℕ, zero, suc, ◌+◌, ◌-◌, ◌%◌, ◌<◌, ◌≤◌, Bool, true, false, not, List, [], ◌∷◌}
-use Rattle.std.proofs.Common.{◌++◌, length, get_or, take, drop, Option, Some, None}
-use Rattle.std.proofs.Common.{refl, sym, ap, subst, ◌∙◌, append_assoc, append-nil, add-zero, add-one, arith, length-append, length-take}
+use Rattle.std.proofs.Common.{◌≡◌, ℕ, zero, suc, ◌+◌, ◌-◌, ◌%◌, Bool, true, false, List, [], ◌∷◌}
+use Rattle.std.proofs.Common.{◌++◌, length, take, drop, Option, Some, None}
+use Rattle.std.proofs.Common.{refl, sym, ap, subst, ◌∙◌, append_assoc, append-nil, add-zero, arith, length-append}
 use Rattle.std.specs.Prelude.{map, IfSome, slice_get, slice_index, find, is_some, if◌then◌else◌, ◌==◌, ◌||◌, unwrap_or, option_and_then}
 use Rattle.std.specs.List.{join_with_byte}
 use Rattle.std.specs.Option.{option_or, option_map}
@@ -19,7 +19,7 @@ use Rattle.word_faults.specs.Spans.{Span, span, StandsIn, end_of, blanks_before,
 use Rattle.word_faults.specs.Spans.{spans_from, operand_spans}
 use Rattle.word_faults.specs.Wants.{Wants, wants_of, wanted_at}
 use Rattle.word_faults.specs.WrongOperands.{LineSpans, before_mark, text_span, label_spans, word_spans}
-use Rattle.word_faults.specs.WrongOperands.{statement_spans, spans_by, spans_of_line, unless}
+use Rattle.word_faults.specs.WrongOperands.{statement_spans, spans_of_line, unless}
 use Rattle.word_faults.specs.WrongOperands.{part_named, part_label, label_within, is_number, value_fault, register_fault, address_fault, base_fault}
 use Rattle.line_faults.specs.WordAtFault.{missing_within}
 use Rattle.word_faults.specs.WrongOperands.{fault_within, first_in, is_parted, count_fault, some_operands_fault}

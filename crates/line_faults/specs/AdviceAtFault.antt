@@ -1,14 +1,15 @@
 -- The advice at the fault of a line. For a first word and for operands, it is taken from the line alone. For a place or
--- a target, it is the address or the distance; for a full section, its room; for a label, the line that has it already,
--- or a label that is written almost the same.
+-- a target, it is the address or the distance; for a full section, its room; for a label, the first line that has it
+-- already, or a label that is written almost the same.
 use Rattle.std.specs.Prelude.{◌≡◌, ◌-◌, ◌%◌, ℕ, Bool, List, ◌==◌, if◌then◌else◌, length}
 use Rattle.std.specs.Prelude.{IsSome, nat_le, nat_lt, unsigned_abs}
-use Rattle.std.specs.Prelude.{Option, Some, option_and_then, unwrap_or, slice_get}
+use Rattle.std.specs.Prelude.{Option, Some, None, option_and_then, unwrap_or, slice_get}
 use Rattle.assembler.specs.declared.fault.AsmFault.{AsmFault}
 use Rattle.assembler.specs.declared.fault.AsmFault.TheVariants.{UnknownWord, Form, Range, LabelTwice, LabelMissing}
 use Rattle.assembler.specs.declared.fault.AsmFault.TheVariants.{SectionFull, Memory}
 use Rattle.assembler.specs.declared.symbol.Symbol.{Symbol}
 use Rattle.assembler.specs.Meaning.{Labels, Place, address, count_of, room_of}
+use Rattle.line_faults.specs.Places.{FirstLines}
 use Rattle.line_faults.specs.WordAtFault.{target_span, word_within}
 use Rattle.word_faults.specs.declared.shape.Wanted.{Wanted}
 use Rattle.word_faults.specs.Advice.{Advice, outside_code, unaligned, odd, far, full, stands_on, no_label, near_label}
@@ -54,24 +55,25 @@ IsLabelAdvice labels word (near_label name) = IsNearLabel labels word name
 IsLabelAdvice labels word no_label = Unit {0}
 IsLabelAdvice labels word other = ⊥
 
+-- the advice for a label that is there twice: the first line that has it, if there is one
+abbrev pub twice_advice : (first : Option ℕ) → Advice
+twice_advice (Some line) = stands_on line
+twice_advice None = no_label
+
 -- ---- a line
 
--- The advice is the line that has the label already.
-abbrev pub IsStanding : Advice → Type 0
-IsStanding (stands_on line) = Unit {0}
-IsStanding other = ⊥
-
--- This is the advice at a fault of a line with these parts, at its place.
-abbrev pub IsAdviceIn : Labels → Place → LineSpans → AsmFault → Advice → Type 0
-IsAdviceIn labels at parts UnknownWord a = a ≡ word_advice_in parts
-IsAdviceIn labels at parts Form a = a ≡ unwrap_or (form_advice parts) outside_code
-IsAdviceIn labels at parts Range a = a ≡ unwrap_or (form_advice parts) (place_advice labels parts (address at))
-IsAdviceIn labels at parts LabelTwice a = IsStanding a
-IsAdviceIn labels at parts LabelMissing a =
+-- This is the advice at a fault of a line with these parts, at its place, after lines with these labels.
+abbrev pub IsAdviceIn : Labels → FirstLines → Place → LineSpans → AsmFault → Advice → Type 0
+IsAdviceIn labels firsts at parts UnknownWord a = a ≡ word_advice_in parts
+IsAdviceIn labels firsts at parts Form a = a ≡ unwrap_or (form_advice parts) outside_code
+IsAdviceIn labels firsts at parts Range a = a ≡ unwrap_or (form_advice parts) (place_advice labels parts (address at))
+IsAdviceIn labels firsts at parts LabelTwice a =
+    a ≡ twice_advice (firsts (word_within labels (address at) parts LabelTwice).bytes)
+IsAdviceIn labels firsts at parts LabelMissing a =
     IsLabelAdvice labels (word_within labels (address at) parts LabelMissing).bytes a
-IsAdviceIn labels at parts SectionFull a = a ≡ full at.section (room_of at.section) (count_of at.section at)
-IsAdviceIn labels at parts Memory a = a ≡ full at.section (room_of at.section) (count_of at.section at)
+IsAdviceIn labels firsts at parts SectionFull a = a ≡ full at.section (room_of at.section) (count_of at.section at)
+IsAdviceIn labels firsts at parts Memory a = a ≡ full at.section (room_of at.section) (count_of at.section at)
 
--- This is the advice at this fault of a line, at its place.
-unfoldable pub IsAdvised : Labels → Place → (line : List ℕ) → AsmFault → Advice → Type 0
-IsAdvised labels at line fault a = IsAdviceIn labels at (spans_of_line line) fault a
+-- This is the advice at this fault of a line, at its place, after lines with these labels.
+unfoldable pub IsAdvised : Labels → FirstLines → Place → (line : List ℕ) → AsmFault → Advice → Type 0
+IsAdvised labels firsts at line fault a = IsAdviceIn labels firsts at (spans_of_line line) fault a

@@ -1,12 +1,12 @@
 //! The place of the next line of a text, after any lines.
 
-ghost use Rattle.std.specs.Prelude.{◌≡◌, ◌≤◌, ◌+◌, ◌-◌, ◌^◌, IfOk, IfErr, OnOk, Ok, Err, Some};
+ghost use Rattle.std.specs.Prelude.{◌≡◌, ◌≤◌, ◌+◌, ◌-◌, ◌^◌, IfOk, IfErr, OnOk, Ok, Err, Some, None};
 ghost use Rattle.asm_lines.specs.Statements.{stmt_of, said_of};
 ghost use Rattle.assembler.specs.Meaning.{start, address, count_of, place_statement, labelled, after_statement};
 ghost use Rattle.assembler.specs.Meaning.{after_said};
 ghost use Rattle.assembler.specs.Passes.{name_of};
 ghost use Rattle.line_faults.specs.Faults.{said_fault};
-ghost use Rattle.line_faults.specs.Places.{label_values, place_of};
+ghost use Rattle.line_faults.specs.Places.{first_lines, label_values, lines_after, place_of};
 
 use crate::cursor::Cursor;
 use crate::labels::Label;
@@ -33,7 +33,8 @@ fn more(count: u64, size: u64) -> Result<u64, AllocError>
 impl<'a> Cursor<'a> {
     /// The cursor at the beginning of a text.
     pub fn new(alloc: Global) -> Cursor<'a>
-        ensures { place_of result ≡ start }
+        ensures place { place_of result ≡ start }
+        ensures lines { first_lines result ≡ λ _. None }
     {
         Cursor {
             section: Section::Code,
@@ -64,7 +65,9 @@ impl<'a> Cursor<'a> {
     }
 
     /// The first line that has this label, counted from 1.
-    pub fn line_of(&self, name: &'a [u8]) -> Option<usize> {
+    pub fn line_of(&self, name: &'a [u8]) -> Option<usize>
+        ensures { result ≡ first_lines self.now name.now }
+    {
         self.labels.get(&name).map(|label| label.line)
     }
 
@@ -106,7 +109,9 @@ impl<'a> Cursor<'a> {
 
     /// Adds the label of the line with this number.
     fn add_label(&mut self, name: Option<&'a [u8]>, number: usize) -> Result<(), AllocError>
-        ensures { OnOk result (place_of self.new ≡ labelled (name_of name.entry) (place_of self.old)) }
+        ensures place { OnOk result (place_of self.new ≡ labelled (name_of name.entry) (place_of self.old)) }
+        ensures lines { OnOk result (first_lines self.new
+            ≡ lines_after (first_lines self.old) (name_of name.entry) number) }
     {
         let Some(name) = name else {
             return Ok(());
@@ -122,7 +127,8 @@ impl<'a> Cursor<'a> {
 
     /// Moves past a statement.
     fn pass_statement(&mut self, statement: &Statement<'_>) -> Result<(), AllocError>
-        ensures { OnOk result (place_of self.new ≡ after_statement (place_of self.old) (stmt_of statement.now)) }
+        ensures place { OnOk result (place_of self.new ≡ after_statement (place_of self.old) (stmt_of statement.now)) }
+        ensures lines { OnOk result (first_lines self.new ≡ first_lines self.old) }
     {
         let size = size_of(statement);
         match self.section {
@@ -139,7 +145,9 @@ impl<'a> Cursor<'a> {
     /// Moves past a line with this content and number.
     #[tactic(auto, unfolding(assembler::specs::Meaning::after_said))]
     pub fn pass(&mut self, said: &Line<'a>, number: usize) -> Result<(), AllocError>
-        ensures { OnOk result (place_of self.new ≡ after_said (place_of self.old) (said_of said.now)) }
+        ensures place { OnOk result (place_of self.new ≡ after_said (place_of self.old) (said_of said.now)) }
+        ensures lines { OnOk result (first_lines self.new
+            ≡ lines_after (first_lines self.old) (said_of said.now).name number) }
     {
         self.add_label(said.label, number)?;
         match &said.statement {

@@ -3,9 +3,9 @@
 ghost use Rattle.std.specs.Prelude.{◌≡◌, ◌%◌, ◌==◌, IfOk, Some, map, unwrap_or, option_and_then, if◌then◌else◌};
 ghost use Rattle.std.specs.Option.{option_map};
 ghost use Rattle.assembler.specs.Meaning.{address};
-ghost use Rattle.line_faults.specs.AdviceAtFault.{IsAdviceIn, IsAdvised, IsLabelAdvice, IsStanding, distance_advice};
-ghost use Rattle.line_faults.specs.AdviceAtFault.{far_or_odd, place_advice, last_wanted};
-ghost use Rattle.line_faults.specs.Places.{label_values, place_of, symbol_of};
+ghost use Rattle.line_faults.specs.AdviceAtFault.{IsAdviceIn, IsAdvised, IsLabelAdvice, distance_advice};
+ghost use Rattle.line_faults.specs.AdviceAtFault.{far_or_odd, place_advice, last_wanted, twice_advice};
+ghost use Rattle.line_faults.specs.Places.{first_lines, label_values, place_of, symbol_of};
 ghost use Rattle.line_faults.specs.WordAtFault.{missing_within, label_missing, target_span};
 ghost use Rattle.line_faults.specs.WordAtFault.{word_within, word_at_fault};
 ghost use Rattle.word_faults.specs.Advice.{advice_of};
@@ -50,7 +50,7 @@ pub fn spot_of<'a>(
         (place_of around.now.cursor.now)) line.now fault) }
     ensures stands { IfOk result (λ spot. StandsIn line.now (spot_span spot)) }
     ensures advised { IfOk result (λ spot. IsAdvised (label_values around.now.labels.now)
-        (place_of around.now.cursor.now) line.now fault
+        (first_lines around.now.cursor.now) (place_of around.now.cursor.now) line.now fault
         (spot_advice spot)) }
 {
     spot_within(alloc, around, search, &Parts::of(line), fault)
@@ -68,7 +68,7 @@ fn spot_within<'a>(
         ≡ word_within (label_values around.now.labels.now) (address (place_of around.now.cursor.now))
         (line_spans parts.now) fault) }
     ensures advised { IfOk result (λ spot. IsAdviceIn (label_values around.now.labels.now)
-        (place_of around.now.cursor.now) (line_spans parts.now) fault
+        (first_lines around.now.cursor.now) (place_of around.now.cursor.now) (line_spans parts.now) fault
         (spot_advice spot)) }
 {
     match fault {
@@ -185,17 +185,19 @@ fn far_or_odd<'a>(wanted: Wanted, target: u64, address: u64) -> Hint<'a>
 /// The spot of a label that an earlier line has too.
 fn twice<'a>(around: &Around<'_, 'a>, parts: &Parts<'a>) -> Spot<'a>
     ensures spot { spot_span result ≡ unwrap_or (line_spans parts.now).label (span_of parts.now.word) }
-    ensures advice { IsStanding (spot_advice result) }
+    ensures advice { spot_advice result
+        ≡ twice_advice (first_lines around.now.cursor.now (spot_span result).bytes) }
 {
     let piece = match parts.label {
         Some(label) => label,
         None => parts.word,
     };
-    let line = around.cursor.line_of(piece.bytes).unwrap_or(1);
-    Spot {
-        piece,
-        hint: Hint::StandsOn(line),
-    }
+    let hint = match around.cursor.line_of(piece.bytes) {
+        Some(line) => Hint::StandsOn(line),
+        // Never for a line that has this fault: an earlier line has its label.
+        None => Hint::NoLabel,
+    };
+    Spot { piece, hint }
 }
 
 /// The spot of the first label that no line has.

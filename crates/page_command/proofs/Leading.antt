@@ -2,15 +2,14 @@
 use Rattle.std.proofs.Common.{◌≡◌, ℕ, zero, suc, ◌⊎◌, inl, inr, List, [], ◌∷◌, ◌++◌, take, refl, sym, ap, ap₂, ◌∙◌}
 use Rattle.flat_machine.specs.declared.config.Config.{Config}
 use Rattle.messages.specs.Places.{In}
-use Rattle.elf_image.specs.Images.{ImageContents}
 use Rattle.omega_network.specs.Networks.{net_of}
 use Rattle.steps.specs.declared.step.Step.{Step}
 use Rattle.machine_steps.specs.Machines.{MachineLists, machine_of}
-use Rattle.machine_steps.specs.Runs.{IsOpening, IsRun, all_after, machine_after}
+use Rattle.machine_steps.specs.Runs.{IsRun, all_after, machine_after}
 use Rattle.machine_steps.specs.machine_theory.Processors.{ObservedCore, open_at, word_at}
 use Rattle.machine_steps.specs.machine_theory.Steps.{after, machine_of_parts}
 use Rattle.machine_steps.specs.machine_theory.Theory as theory
-use Rattle.machine_steps.proofs.Lemmas.{all_after_more, same_code, same_config, same_machine}
+use Rattle.machine_steps.proofs.Lemmas.{all_after_more}
 use Rattle.machine_views.specs.Subjects.{processors_of}
 use Rattle.page_command.specs.Changes.{changes_to, with_changes}
 use Rattle.page_command.specs.Laws.{view_after}
@@ -94,11 +93,3 @@ changes_more c code M (x ∷ done) s = ap (λ xs. step_changes c code M x ∷ xs
 pub none_changed : (c : Config) (code : List ℕ) (M : theory.Machine ObservedCore) → changes_from c code M [] ≡ []
 unfolding changes_from
 none_changed c code M = refl
-
--- Machines that open on one image have the same changes.
-pub changes_alike : (c : Config) (image : ImageContents) (first second : MachineLists) → IsOpening c image first → IsOpening c image second →
-    (steps : List Step) → changes_from first.config first.code (machine_of first (λ p. [])) steps
-    ≡ changes_from second.config second.code (machine_of second (λ p. [])) steps
-changes_alike c image first second one other steps i =
-    changes_from (same_config c image first second one other i) (same_code c image first second one other i)
-    (same_machine c image first second one other (λ p. []) i) steps

@@ -6,7 +6,9 @@ pub mod Leading
 pub mod Lists
 pub mod Moving
 pub mod OpeningViews
+pub mod PlacesSet
 pub mod Putting
 pub mod Registers
+pub mod SymbolLines
 pub mod Turning
 pub mod Writing

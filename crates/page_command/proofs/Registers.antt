@@ -13,7 +13,7 @@ use Rattle.page_command.specs.Views.{Content, Part, Register, Value, View, Word,
 use Rattle.page_command.proofs.Lists.{joined, no_text, none_more, one_more, text_to}
 
 -- Nothing or one more part is appended, by a test.
-by_test : (V : View) (xs : List Part) (x : Part) (b : Bool) (old mid new : List ℕ) → mid ≡ old ++ text_to V xs →
+pub by_test : (V : View) (xs : List Part) (x : Part) (b : Bool) (old mid new : List ℕ) → mid ≡ old ++ text_to V xs →
     new ≡ mid ++ (if b then [] else change_text (change_to V x)) → new ≡ old ++ text_to V (xs ++ (if b then [] else x ∷ []))
 by_test V xs x true old mid new first next = none_more V xs old mid new first (next ∙ append-nil mid)
 by_test V xs x false old mid new first next = one_more V xs x old mid new first next

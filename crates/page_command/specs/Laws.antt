@@ -1,11 +1,9 @@
 -- What holds of all pages.
 use Rattle.std.specs.Prelude.{◌≡◌, ℕ, ◌==◌, Bool, false, List, [], ◌∷◌, take}
 use Rattle.std.specs.List.{list_any}
-use Rattle.flat_machine.specs.declared.config.Config.{Config}
-use Rattle.elf_image.specs.Images.{ImageContents}
 use Rattle.steps.specs.declared.step.Step.{Step}
 use Rattle.machine_steps.specs.Machines.{IsMachine, MachineLists, machine_of}
-use Rattle.machine_steps.specs.Runs.{IsOpening, IsRun, machine_after}
+use Rattle.machine_steps.specs.Runs.{IsRun, machine_after}
 use Rattle.page_command.specs.Changes.{Change, with_changes}
 use Rattle.page_command.specs.Openings.{opening_changes}
 use Rattle.page_command.specs.Pages.{escaped}
@@ -21,17 +19,15 @@ unfoldable pub view_after : View → List (List Change) → View
 view_after view [] = view
 view_after view (changes ∷ rest) = view_after (with_changes view changes) rest
 
--- The opening line gives the view of a machine that opens.
+-- The opening line gives the view of the machine.
 abbrev pub OpeningIsShown : Type 0
-OpeningIsShown = (c : Config) (image : ImageContents) (m : MachineLists) → IsMachine m → IsOpening c image m →
-    AreSameViews c.k (opening_view m) (view_at m)
+OpeningIsShown = (m : MachineLists) → IsMachine m → AreSameViews m.config.k (opening_view m) (view_at m)
 
 -- The changes of the first steps of a list, put on the view that the opening line gives, give the view of the machine
 -- after these steps.
 abbrev pub ChangesLeadToViews : Type 0
-ChangesLeadToViews = (c : Config) (image : ImageContents) (m : MachineLists) → IsMachine m → IsOpening c image m →
-    (steps : List Step) (count : ℕ) →
-    AreSameViews c.k
+ChangesLeadToViews = (m : MachineLists) → IsMachine m → (steps : List Step) (count : ℕ) →
+    AreSameViews m.config.k
     (view_after (opening_view m) (take count (changes_from m.config m.code (machine_of m (λ p. [])) steps)))
     (view_on m.config m.code (machine_after m (take count steps)))
 

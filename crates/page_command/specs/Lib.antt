@@ -1,4 +1,5 @@
 pub mod Views
+pub mod Windows
 pub mod Changes
 pub mod Steps
 pub mod Openings

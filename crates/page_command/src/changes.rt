@@ -1,6 +1,6 @@
 //! The texts of changes.
 
-ghost use Rattle.std.specs.Prelude.{[], ◌≡◌, ◌==◌, ◌++◌, ◌<◌, ◌≤◌, ◌^◌, OnOk, if◌then◌else◌, string_bytes};
+ghost use Rattle.std.specs.Prelude.{[], ◌≡◌, ◌==◌, ◌++◌, ◌<◌, ◌≤◌, ◌^◌, OnOk, if◌then◌else◌, slice_get, string_bytes};
 ghost use Rattle.std.specs.List.{flat_map};
 ghost use Rattle.omega_network.specs.Networks.{net_of};
 ghost use Rattle.machine_steps.specs.machine_theory.Processors.{open_at, word_at};
@@ -8,6 +8,7 @@ ghost use Rattle.machine_views.specs.Places.{records_before};
 ghost use Rattle.machine_views.specs.Subjects.{processors_of};
 ghost use Rattle.page_command.specs.Changes.{change_text, change_to, content_text, record_item, reply_item};
 ghost use Rattle.page_command.specs.Changes.{request_item, status_suffix, word_suffix};
+ghost use Rattle.page_command.specs.Openings.{is_clear};
 ghost use Rattle.page_command.specs.Views.{Core, Messages, Place, Register, Stands, Value, Word, view_at, word_open};
 
 use command_io::{push_status, push_word};
@@ -142,6 +143,51 @@ pub fn push_set_word(
         return Ok(());
     }
     push_shared_word(alloc, text, machine, number)
+}
+
+/// Appends the change of a place, unless nothing stands there.
+pub fn push_set_place(
+    alloc: Global,
+    text: &mut String,
+    machine: &Machine,
+    depth: u8,
+    wire: u8,
+) -> Result<(), AllocError>
+    requires depth { depth ≤ machine.now.config.k }
+    requires wire { wire < 2 ^ machine.now.config.k }
+    ensures { OnOk result (string_bytes text.new ≡ string_bytes text.old
+        ++ (if is_clear (net_of machine.now.network) depth wire then []
+        else change_text (change_to (view_at machine.now) (Place depth wire)))) }
+{
+    if is_clear(machine, depth, wire) {
+        return Ok(());
+    }
+    push_place(alloc, text, machine, depth, wire)
+}
+
+/// Whether nothing stands at a place.
+fn is_clear(machine: &Machine, depth: u8, wire: u8) -> bool
+    requires depth { depth ≤ machine.now.config.k }
+    requires wire { wire < 2 ^ machine.now.config.k }
+    ensures { result ≡ is_clear (net_of machine.now.network) depth wire }
+{
+    laws::machine_is_well_formed(machine);
+    let network = machine.network().as_network();
+    network.request(depth, wire, 0).is_none()
+        && first_record(network, depth, wire).is_none()
+        && network.reply(depth, wire, 0).is_none()
+}
+
+/// The first record before a depth on a wire.
+fn first_record(network: &Network, depth: u8, wire: u8) -> Option<Record>
+    requires depth { depth ≤ network.now.k }
+    requires wire { wire < 2 ^ network.now.k }
+    ensures { result ≡ slice_get (records_before (net_of network.now) depth wire) 0 }
+{
+    match depth.checked_sub(1) {
+        Some(stage) => network.records(stage, wire).first().copied(),
+        None => None,
+    }
 }
 
 /// Appends the change of a place: all its messages.

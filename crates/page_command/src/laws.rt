@@ -2,8 +2,8 @@
 
 ghost use Rattle.page_command.specs.Laws.{ChangesLeadToViews, NoTagBegins, OpeningIsShown, ViewsAreOfMachines};
 
-/// The opening line, put on a blank view, gives the view of the machine that opens. The changes of the first steps, put
-/// on that view, give the view of the machine after these steps.
+/// The opening line, put on a blank view, gives the view of the machine. The changes of the first steps that it takes
+/// next, put on that view, give the view of the machine after these steps.
 pub fn changes_lead_to_views()
     ensures opening { OpeningIsShown }
     ensures steps { ChangesLeadToViews }

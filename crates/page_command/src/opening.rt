@@ -1,19 +1,20 @@
-//! The changes that lead to the view of a machine that opens.
+//! The changes that lead from a blank view to that of a machine.
 
-ghost use Rattle.std.specs.Prelude.{◌≡◌, ◌++◌, ◌<◌, ◌^◌, OnOk, string_bytes};
+ghost use Rattle.std.specs.Prelude.{◌≡◌, ◌++◌, ◌+◌, ◌<◌, ◌≤◌, ◌^◌, OnOk, string_bytes};
 ghost use Rattle.machine_steps.specs.machine_theory.Processors.{word_at};
 ghost use Rattle.machine_views.specs.Subjects.{processors_of};
+ghost use Rattle.omega_network.specs.Networks.{net_of};
 ghost use Rattle.page_command.specs.Changes.{changes_text, changes_to};
 ghost use Rattle.page_command.specs.Openings.{opening_changes, processor_set, processors_set, registers_set};
-ghost use Rattle.page_command.specs.Openings.{words_set};
+ghost use Rattle.page_command.specs.Openings.{places_at, places_set, words_set};
 ghost use Rattle.page_command.specs.Views.{view_at};
 
-use crate::changes::{push_core, push_register, push_set_word};
+use crate::changes::{push_core, push_register, push_set_place, push_set_word};
 use crate::step_changes::registers_of;
-use machine_steps::Machine;
+use machine_steps::{Machine, laws};
 use std::alloc::{AllocError, Global};
 
-/// Appends the changes that lead from a blank view to that of a machine without messages.
+/// Appends the changes that lead from a blank view to that of a machine.
 ///
 /// # Errors
 ///
@@ -25,6 +26,7 @@ pub fn push_opening(alloc: Global, text: &mut String, machine: &Machine) -> Resu
 {
     push_processors(alloc, text, machine)?;
     push_words(alloc, text, machine)?;
+    push_places(alloc, text, machine)?;
     Ok(())
 }
 
@@ -82,6 +84,36 @@ fn push_words(alloc: Global, text: &mut String, machine: &Machine) -> Result<(),
 {
     for number in 0..machine.config().shared_words {
         push_set_word(alloc, text, machine, number)?;
+    }
+    Ok(())
+}
+
+/// Appends the changes of all places at which something stands.
+fn push_places(alloc: Global, text: &mut String, machine: &Machine) -> Result<(), AllocError>
+    ensures { OnOk result (string_bytes text.new ≡ string_bytes text.old ++ changes_text (changes_to
+        (view_at machine.now) (places_set (net_of machine.now.network) (2 ^ machine.now.config.k)
+        (machine.now.config.k + 1)))) }
+{
+    laws::machine_is_well_formed(machine);
+    for depth in 0..machine.config().k + 1 {
+        push_places_at(alloc, text, machine, depth)?;
+    }
+    Ok(())
+}
+
+/// Appends the changes of the places of a depth at which something stands.
+fn push_places_at(
+    alloc: Global,
+    text: &mut String,
+    machine: &Machine,
+    depth: u8,
+) -> Result<(), AllocError>
+    requires { depth ≤ machine.now.config.k }
+    ensures { OnOk result (string_bytes text.new ≡ string_bytes text.old ++ changes_text (changes_to
+        (view_at machine.now) (places_at (net_of machine.now.network) depth (2 ^ machine.now.config.k)))) }
+{
+    for wire in 0..machine.config().processors() {
+        push_set_place(alloc, text, machine, depth, wire)?;
     }
     Ok(())
 }

@@ -5,14 +5,16 @@ ghost use Rattle.page_command.specs.Pages.{escaped};
 
 use crate::data::data_text;
 use crate::escape::push_escaped;
+use crate::window::Window;
 use command_io::Fault;
 use elf_image::Image;
 use flat_machine::Config;
 use std::alloc::{AllocError, Global};
 use steps::Step;
+use symbol_table::SymbolTable;
 use trace_commands::TraceReport;
 
-/// What `ultra page` prints for a trace ([`trace_commands::trace_command`]): a text, the data ([`data_text`]) in which
+/// What `ultra page` prints for a trace ([`trace_commands::lines_command`]): a text, the data ([`data_text`]) in which
 /// no tag begins, and another text. The exit status is 1 if a fault has stopped a processor.
 #[derive(Clone, Copy, Debug, Drop)]
 pub struct Page<'a> {
@@ -20,12 +22,19 @@ pub struct Page<'a> {
     pub front: &'a str,
     /// What stands after it.
     pub back: &'a str,
+    /// The steps that the page plays.
+    pub window: Window,
+    /// The names of words and program counters, if there are any.
+    pub symbols: Option<&'a SymbolTable<'a>>,
 }
 
 impl<'a> TraceReport for Page<'a> {
-    ghost use Rattle.page_command.specs.Pages.{prints_page};
+    ghost use Rattle.std.specs.Option.{option_copied};
+    ghost use Rattle.machine_views.specs.Names.{rows_in};
+    ghost use Rattle.page_command.specs.Pages.{frame_of, prints_page};
 
-    ghost reports = { λ page. prints_page page.front.now page.back.now };
+    ghost reports = { λ page. prints_page (frame_of page.front.now page.back.now) page.window
+        (rows_in (option_copied page.symbols)) };
 
     fn text(
         &self,
@@ -34,7 +43,7 @@ impl<'a> TraceReport for Page<'a> {
         config: Config,
         steps: &[Step],
     ) -> Result<(String, u8), Fault> {
-        let (shown, status) = data_text(alloc, image, config, steps)?;
+        let (shown, status) = data_text(alloc, image, config, steps, self.window, self.symbols)?;
         let text = page_text(alloc, self.front, shown.as_str(), self.back)?;
         Ok((text, status))
     }

@@ -11,11 +11,29 @@ use link::{LinkWrite, Meter};
 use settings::Hunt;
 use std::io::{Input, Write};
 use std::rt::Files;
+use std::thread::{Threads, available_parallelism};
 use std::time::Clock;
+
+/// The greatest number of threads that take runs.
+const MOST_JOBS: usize = 64;
+
+/// How many threads take the runs if no number is asked for: as many as the host has processors, or one if it does not
+/// say how many.
+fn processors(rt: &impl Threads) -> u8 {
+    match available_parallelism(rt) {
+        Ok(processors) => processors.get().min(MOST_JOBS) as u8,
+        Err(_) => 1,
+    }
+}
 
 /// Does what `hunt FILE` asks for. The first write to a trace opens it. The progress of the hunt is reported on a
 /// terminal.
-pub fn hunt_file<'a, R: Files + Input + Clock + Eprint + AllocGlobal, W: LinkWrite, E: Write>(
+pub fn hunt_file<
+    'a,
+    R: Files + Input + Threads + Clock + Eprint + Sync + AllocGlobal,
+    W: LinkWrite,
+    E: Write,
+>(
     rt: &R,
     hunt: &Hunt<'a>,
     terminal: bool,
@@ -38,6 +56,7 @@ pub fn hunt_file<'a, R: Files + Input + Clock + Eprint + AllocGlobal, W: LinkWri
         expect_one: hunt.expect_one,
         observed: words.as_ref(),
     };
+    let jobs = hunt.jobs.unwrap_or_else(|| processors(rt));
     let alloc = rt.alloc();
     let mut traces = match hunt.trace {
         Some(prefix) => Some(TraceFiles {
@@ -52,6 +71,8 @@ pub fn hunt_file<'a, R: Files + Input + Clock + Eprint + AllocGlobal, W: LinkWri
     Ok(if terminal && !hunt.quiet {
         let mut observer = HuntProgress::new(rt, rt);
         hunt_command(
+            rt,
+            jobs,
             alloc,
             &mut file,
             config,
@@ -64,6 +85,8 @@ pub fn hunt_file<'a, R: Files + Input + Clock + Eprint + AllocGlobal, W: LinkWri
     } else {
         let mut observer = NoHuntProgress;
         hunt_command(
+            rt,
+            jobs,
             alloc,
             &mut file,
             config,

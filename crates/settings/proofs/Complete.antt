@@ -16,10 +16,10 @@ use Rattle.command_forms.specs.Commands.{dis_command, explain_command, explore_c
 use Rattle.command_forms.specs.Commands.{port, processor, queue, records, page_command, picture_command, replay_command}
 use Rattle.command_forms.specs.Commands.{run_command, runs}
 use Rattle.command_forms.specs.Commands.{shared_word, shared_words, stages, start, states, stats_command, step, steps}
-use Rattle.command_forms.specs.Commands.{first_line, last_line, steps_command, story_command, study_command, sweep_steps}
-use Rattle.command_forms.specs.Commands.{seconds, trace_command, ultra_command, witness, words_command}
+use Rattle.command_forms.specs.Commands.{first_line, first_step, jobs, last_line, steps_command, story_command, study_command, sweep_steps}
+use Rattle.command_forms.specs.Commands.{seconds, step_count, trace_command, ultra_command, witness, words_command}
 use Rattle.command_forms.proofs.Lemmas.{commands}
-use Rattle.settings.specs.Given.{HasAsm, HasDebug, HasDis, HasExplore, HasHunt, HasLines, HasPath, HasPicture}
+use Rattle.settings.specs.Given.{HasAsm, HasDebug, HasDis, HasExplore, HasHunt, HasLines, HasPage, HasPath, HasPicture}
 use Rattle.settings.specs.Given.{HasReplay, HasRun, HasSizes, HasStudy, IsComplete, IsOneOf, IsWhole, command_names}
 use Rattle.settings.proofs.NoHelp.{IsNoHelp, StopsAtNoHelp, walk_stops}
 use Rattle.settings.proofs.Numbers.{is_apart_or_number, number_there}
@@ -76,7 +76,7 @@ Has name rows =
     (Where (bytes_eq name (codes "story")) (HasLines rows)
     (Where (bytes_eq name (codes "stats")) (HasReplay rows)
     (Where (bytes_eq name (codes "picture")) (HasPicture rows)
-    (Where (bytes_eq name (codes "page")) (HasReplay rows)
+    (Where (bytes_eq name (codes "page")) (HasPage rows)
     (Where (bytes_eq name (codes "study")) (HasStudy rows)
     (Where (bytes_eq name (codes "trace")) (HasPath (codes "TRACE") rows)
     (Where (bytes_eq name (codes "steps")) (HasAsm rows)
@@ -261,8 +261,11 @@ picture_provided words e = whole (codes "picture") _ refl (
 
 page_provided : IsProvided (built_leaf page_command.top)
 unfolding commands
-page_provided words e = whole (codes "page") _ refl
-    (replay_there (built_leaf page_command.top) words refl files_required refl e)
+page_provided words e = whole (codes "page") _ refl (
+  replay_there (built_leaf page_command.top) words refl files_required refl e,
+  number_there (built_leaf page_command.top) first_step words refl e,
+  number_there (built_leaf page_command.top) step_count words refl e,
+)
 
 explore_provided : IsProvided (built_leaf explore_command.top)
 unfolding commands
@@ -282,6 +285,7 @@ hunt_provided words e = whole (codes "hunt") _ refl (
   number_there (built_leaf hunt_command.top) steps.bounds words refl e,
   number_there (built_leaf hunt_command.top) runs.bounds words refl e,
   number_there (built_leaf hunt_command.top) start.bounds words refl e,
+  number_there (built_leaf hunt_command.top) jobs words refl e,
 )
 
 -- ---- the subcommand that words name

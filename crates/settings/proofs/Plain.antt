@@ -212,6 +212,7 @@ file_are OfHunt file words named (asked.Hunt h) said =
       budget.0,
       runs.0,
       start.0,
+      said.1.11,
     )
 file_are OfExplore file words named (asked.Explore x) said =
     let sizes = said.1.9 in
@@ -294,7 +295,7 @@ abbrev flags_on_files : OnFiles → List Text
 flags_on_files OfAsm = codes "course" ∷ []
 flags_on_files OfReplay = codes "decimal" ∷ codes "json" ∷ []
 flags_on_files OfOrder = codes "abi" ∷ codes "decimal" ∷ codes "json" ∷ []
-flags_on_files OfStory = codes "rounds" ∷ codes "decimal" ∷ codes "json" ∷ []
+flags_on_files OfStory = codes "network" ∷ codes "rounds" ∷ codes "decimal" ∷ codes "json" ∷ []
 flags_on_files OfStats = codes "latency" ∷ codes "queues" ∷ codes "csv" ∷ codes "json" ∷ []
 flags_on_files OfPicture = []
 flags_on_files OfPage = []
@@ -355,7 +356,8 @@ files_are OfStory one other words named (asked.Story s) said =
     let shared = files.2 in (
       trace_read one other s.lines.replay words named files.0 files.1 shared.0,
       (lines.1, lines.2, lines.3, lines.4, as_it_is s.lines.style lines.5),
-      unset s.rounds said.1.1.0,
+      unset s.network said.1.1.0,
+      unset s.rounds said.1.2.0,
     )
 files_are OfStats one other words named (asked.Stats n) said =
     let files = said.1.0 in
@@ -371,10 +373,10 @@ files_are OfPicture one other words named (asked.Picture p) said =
     let files = said.1.0 in
     let shared = files.2 in
     (trace_read one other p.replay words named files.0 files.1 shared.0, said.1.1, no_text p.symbols said.1.2)
-files_are OfPage one other words named (asked.Page r) said =
-    let files = said.1 in
+files_are OfPage one other words named (asked.Page p) said =
+    let files = said.1.0 in
     let shared = files.2 in
-    trace_read one other r words named files.0 files.1 shared.0
+    (trace_read one other p.replay words named files.0 files.1 shared.0, said.1.1, said.1.2, no_text p.symbols said.1.3)
 files_are c one other words named chosen said = apart (name_of chosen) (name_on_files c) refl said.0
 
 -- The words give both files of the command, 1,024 shared words, no names, no choice, and no flag.
@@ -445,7 +447,7 @@ plain_given (asked.Order o) words said = files_given OfOrder o.lines.replay.trac
 plain_given (asked.Story s) words said = files_given OfStory s.lines.replay.trace.now s.lines.replay.file.now words said.0.0
 plain_given (asked.Stats c) words said = files_given OfStats c.replay.trace.now c.replay.file.now words said.0.0
 plain_given (asked.Picture p) words said = files_given OfPicture p.replay.trace.now p.replay.file.now words said.0.0
-plain_given (asked.Page r) words said = files_given OfPage r.trace.now r.file.now words said.0
+plain_given (asked.Page p) words said = files_given OfPage p.replay.trace.now p.replay.file.now words said.0.0
 plain_given (asked.Study s) words said = file_given OfStudy s.file.now words said.0
 plain_given (asked.Trace t) words said = file_given OfTrace t.trace.now words said
 plain_given (asked.Steps s) words said = files_given OfSteps s.file.now s.out.now words said

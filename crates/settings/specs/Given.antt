@@ -1,10 +1,9 @@
 -- What clap finds in words without a fault: everything that a command requires.
 use Rattle.std.specs.Prelude.{◌≡◌, ◌⊎◌, pos, true, List, [], ◌∷◌, codes, Option, is_some, option_map, IfSome, IsSomeAnd}
 use Rattle.clap.specs.Words.{IsSignedIn, Row, Text, first_of, one_of, without_minus}
-use Rattle.command_forms.specs.Commands.{Bounds, budget, combinations, first_line, last_line, port, processor}
+use Rattle.command_forms.specs.Commands.{Bounds, budget, combinations, first_line, jobs, last_line, port, processor}
 use Rattle.command_forms.specs.Commands.{queue, records, runs, seconds, shared_word, shared_words, stages, start}
-use Rattle.command_forms.specs.Commands.{states}
-use Rattle.command_forms.specs.Commands.{step, steps, sweep_steps, witness}
+use Rattle.command_forms.specs.Commands.{first_step, states, step, step_count, steps, sweep_steps, witness}
 
 abbrev pub HasPath : Text → List Row → Type 0
 HasPath id rows = is_some (first_of id rows) ≡ true
@@ -40,6 +39,9 @@ HasLines rows = HasReplay rows × HasNumber processor rows × HasNumber shared_w
 abbrev pub HasPicture : List Row → Type 0
 HasPicture rows = HasReplay rows × HasNumber step rows
 
+abbrev pub HasPage : List Row → Type 0
+HasPage rows = HasReplay rows × HasNumber first_step rows × HasNumber step_count rows
+
 abbrev pub HasStudy : List Row → Type 0
 HasStudy rows = HasPath (codes "FILE") rows × HasNumber queue.bounds rows × HasNumber shared_words.bounds rows
     × HasNumber sweep_steps.bounds rows
@@ -54,7 +56,7 @@ HasExplore rows = HasPath (codes "FILE") rows × HasSizes rows × HasNumber stat
 abbrev pub HasHunt : List Row → Type 0
 HasHunt rows =
     HasPath (codes "FILE") rows × HasSizes rows × HasNumber steps.bounds rows × HasNumber runs.bounds rows
-    × HasNumber start.bounds rows
+    × HasNumber start.bounds rows × HasNumber jobs rows
 
 -- the program's subcommands
 abbrev pub command_names : List Text
@@ -82,7 +84,7 @@ pub record IsWhole (name : Text) (rows : List Row) : Type 0 where
   pub story : name ≡ codes "story" → HasLines rows
   pub stats : name ≡ codes "stats" → HasReplay rows
   pub picture : name ≡ codes "picture" → HasPicture rows
-  pub page : name ≡ codes "page" → HasReplay rows
+  pub page : name ≡ codes "page" → HasPage rows
   pub study : name ≡ codes "study" → HasStudy rows
   pub trace : name ≡ codes "trace" → HasPath (codes "TRACE") rows
   pub steps : name ≡ codes "steps" → HasAsm rows

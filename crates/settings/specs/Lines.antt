@@ -21,6 +21,7 @@ use Rattle.settings.specs.declared.choice.Lines.{Lines}
 use Rattle.settings.specs.declared.choice.Order.{Order}
 use Rattle.settings.specs.declared.choice.Story.{Story}
 use Rattle.settings.specs.declared.choice.Counts.{Counts}
+use Rattle.settings.specs.declared.choice.Page.{Page}
 use Rattle.settings.specs.declared.choice.Picture.{Picture}
 use Rattle.settings.specs.declared.choice.Study.{Study}
 use Rattle.settings.specs.declared.choice.Trace.{Trace}
@@ -30,7 +31,8 @@ use Rattle.settings.specs.declared.choice.Explain.{Explain}
 use Rattle.settings.specs.declared.choice.Sizes.{Sizes}
 use Rattle.command_forms.specs.Commands.{Bounds, Ranged, stages, queue, records, combinations, shared_words}
 use Rattle.command_forms.specs.Commands.{budget, steps, port, seconds, states, runs, start, processor, shared_word}
-use Rattle.command_forms.specs.Commands.{witness, step, first_line, last_line, sweep_steps, ultra_command}
+use Rattle.command_forms.specs.Commands.{jobs, witness, step, first_step, step_count, first_line, last_line}
+use Rattle.command_forms.specs.Commands.{sweep_steps, ultra_command}
 
 abbrev pub IsPath : Text → List Row → Text → Type 0
 IsPath id rows file = first_of id rows ≡ Some file
@@ -93,6 +95,7 @@ GivesHunt rows h = IsPath (codes "FILE") rows h.file.now
     × IsFlag (codes "overwrite") rows h.overwrite × IsFlag (codes "expect-one") rows h.expect_one
     × IsFlag (codes "quiet") rows h.quiet × GivesStyle rows h.style × AreSizes rows h.sizes
     × IsNumber steps rows h.budget × IsNumber runs rows h.runs × IsNumber start rows h.start
+    × IsChoice jobs rows h.jobs
 
 abbrev pub GivesExplore : List Row → Explore → Type 0
 GivesExplore rows x = IsPath (codes "FILE") rows x.file.now
@@ -119,7 +122,8 @@ abbrev pub GivesOrder : List Row → Order → Type 0
 GivesOrder rows o = GivesLines rows o.lines × IsFlag (codes "abi") rows o.abi
 
 abbrev pub GivesStory : List Row → Story → Type 0
-GivesStory rows s = GivesLines rows s.lines × IsFlag (codes "rounds") rows s.rounds
+GivesStory rows s = GivesLines rows s.lines × IsFlag (codes "network") rows s.network
+    × IsFlag (codes "rounds") rows s.rounds
 
 abbrev pub GivesCounts : List Row → Counts → Type 0
 GivesCounts rows c = GivesReplay rows c.replay × IsFlag (codes "latency") rows c.latency
@@ -127,6 +131,10 @@ GivesCounts rows c = GivesReplay rows c.replay × IsFlag (codes "latency") rows 
 
 abbrev pub GivesPicture : List Row → Picture → Type 0
 GivesPicture rows p = GivesReplay rows p.replay × IsChoice step rows p.step × IsOption (codes "symbols") rows p.symbols
+
+abbrev pub GivesPage : List Row → Page → Type 0
+GivesPage rows p = GivesReplay rows p.replay × IsChoice first_step rows p.from × IsChoice step_count rows p.steps
+    × IsOption (codes "symbols") rows p.symbols
 
 abbrev pub GivesStudy : List Row → Study → Type 0
 GivesStudy rows s = IsPath (codes "FILE") rows s.file.now
@@ -162,7 +170,7 @@ name_of (asked.Order o) = codes "order"
 name_of (asked.Story s) = codes "story"
 name_of (asked.Stats c) = codes "stats"
 name_of (asked.Picture p) = codes "picture"
-name_of (asked.Page r) = codes "page"
+name_of (asked.Page p) = codes "page"
 name_of (asked.Study s) = codes "study"
 name_of (asked.Trace t) = codes "trace"
 name_of (asked.Steps s) = codes "steps"
@@ -183,7 +191,7 @@ Gives rows (asked.Order o) = GivesOrder rows o
 Gives rows (asked.Story s) = GivesStory rows s
 Gives rows (asked.Stats c) = GivesCounts rows c
 Gives rows (asked.Picture p) = GivesPicture rows p
-Gives rows (asked.Page r) = GivesReplay rows r
+Gives rows (asked.Page p) = GivesPage rows p
 Gives rows (asked.Study s) = GivesStudy rows s
 Gives rows (asked.Trace t) = GivesTrace rows t
 Gives rows (asked.Steps s) = GivesSchedule rows s

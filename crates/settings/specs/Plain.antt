@@ -63,7 +63,7 @@ IsPlain (asked.Run r) words = HasFile (codes "run") r.file.now words
 IsPlain (asked.Hunt h) words = HasFile (codes "hunt") h.file.now words
     × (h.trace ≡ None) × (h.observe ≡ None) × (h.overwrite ≡ false) × (h.expect_one ≡ false) × (h.quiet ≡ false)
     × IsAsItIs h.style × AreUsual h.sizes × (h.budget ≡ 100000) × (h.runs ≡ 1000)
-    × (h.start ≡ 1)
+    × (h.start ≡ 1) × (h.jobs ≡ None)
 IsPlain (asked.Explore x) words = HasFile (codes "explore") x.file.now words
     × (x.trace ≡ None) × (x.observe ≡ None) × (x.against ≡ None) × (x.each ≡ false) × (x.fair ≡ false)
     × (x.every ≡ false) × (x.quiet ≡ false)
@@ -71,11 +71,13 @@ IsPlain (asked.Explore x) words = HasFile (codes "explore") x.file.now words
     × (x.never ≡ None) × (x.always ≡ None) × (x.finally ≡ None) × (x.filter ≡ None)
 IsPlain (asked.Replay r) words = HasTrace (codes "replay") r.replay words × IsAsItIs r.style
 IsPlain (asked.Order o) words = HasTrace (codes "order") o.lines.replay words × TakesAll o.lines × (o.abi ≡ false)
-IsPlain (asked.Story s) words = HasTrace (codes "story") s.lines.replay words × TakesAll s.lines × (s.rounds ≡ false)
+IsPlain (asked.Story s) words = HasTrace (codes "story") s.lines.replay words × TakesAll s.lines
+    × (s.network ≡ false) × (s.rounds ≡ false)
 IsPlain (asked.Stats c) words = HasTrace (codes "stats") c.replay words × (c.latency ≡ false)
     × (c.queues ≡ false) × (c.csv ≡ false) × (c.json ≡ false)
 IsPlain (asked.Picture p) words = HasTrace (codes "picture") p.replay words × (p.step ≡ None) × (p.symbols ≡ None)
-IsPlain (asked.Page r) words = HasTrace (codes "page") r words
+IsPlain (asked.Page p) words = HasTrace (codes "page") p.replay words × (p.from ≡ None) × (p.steps ≡ None)
+    × (p.symbols ≡ None)
 IsPlain (asked.Study s) words = HasFile (codes "study") s.file.now words
     × (s.ks ≡ None) × (s.bs ≡ None) × (s.rs ≡ None) × (s.plot ≡ None) × (s.csv ≡ false) × (s.json ≡ false)
     × (s.c ≡ 4) × (s.words ≡ 1024) × (s.budget ≡ 4000000)

@@ -19,8 +19,7 @@ pub enum Settings<'a> {
     Story(Story<'a>),
     Stats(Counts<'a>),
     Picture(Picture<'a>),
-    /// `page`.
-    Page(Replay<'a>),
+    Page(Page<'a>),
     Study(Study<'a>),
     Trace(Trace<'a>),
     Steps(Schedule<'a>),
@@ -197,6 +196,8 @@ pub struct Order<'a> {
 pub struct Story<'a> {
     /// The lines that it prints.
     pub lines: Lines<'a>,
+    /// Whether only moves and services are printed.
+    pub network: bool,
     /// Whether the rounds of the sweep are marked.
     pub rounds: bool,
 }
@@ -226,6 +227,19 @@ pub struct Picture<'a> {
     /// How many steps the machine takes before it is drawn; None for all.
     pub step: Option<u32>,
     /// The file with the names that are drawn in place of addresses and words, if given.
+    pub symbols: Option<&'a str>,
+}
+
+/// `page TRACE FILE`, and the part of the run that the page plays.
+#[derive(Debug, PartialEq, Eq, Drop)]
+pub struct Page<'a> {
+    /// The trace and its machine.
+    pub replay: Replay<'a>,
+    /// The number of the first step; None for 0.
+    pub from: Option<u32>,
+    /// How many steps there are at most, from 1 to 500,000; None for all from the first on.
+    pub steps: Option<u32>,
+    /// The file with the names of words and program counters, if given.
     pub symbols: Option<&'a str>,
 }
 
@@ -352,4 +366,6 @@ pub struct Hunt<'a> {
     pub runs: u32,
     /// The number with which the first run's choices begin: any number. Each later run begins with the next number.
     pub start: u32,
+    /// The number of threads that take the runs, from 1 to 64; None for as many as the host has processors.
+    pub jobs: Option<u8>,
 }

@@ -2,24 +2,26 @@
 ghost use Rattle.std.specs.Prelude.{◌≡◌, ◌≤◌, ◌<◌, ◌^◌, codes, unwrap_or, [], IfOk};
 ghost use Rattle.clap.specs.Words.{all_of, found_of, rows_of, subcommand_rows_of};
 ghost use Rattle.settings.specs.Lines.{AreSizes, GivesAsm, GivesCheck, GivesCounts, GivesDis, GivesExplain};
-ghost use Rattle.settings.specs.Lines.{GivesExplore, GivesHunt, GivesLines, GivesOrder, GivesPicture, GivesReplay};
+ghost use Rattle.settings.specs.Lines.{GivesExplore, GivesHunt, GivesLines, GivesOrder, GivesPage, GivesPicture};
+ghost use Rattle.settings.specs.Lines.{GivesReplay};
 ghost use Rattle.settings.specs.Lines.{GivesReport, GivesRun, GivesSchedule, GivesSession, GivesStory, GivesStudy};
 ghost use Rattle.settings.specs.Lines.{GivesStyle, GivesTrace, GivesWords, IsChoice, IsChosen, IsFlag, IsNumber};
 ghost use Rattle.settings.specs.Lines.{IsOption, IsPath};
 ghost use Rattle.settings.specs.Plain.{texts_of};
 ghost use Rattle.settings.specs.Given.{HasAsm, HasDebug, HasDis, HasExplore, HasHunt, HasLines, HasNumber};
-ghost use Rattle.settings.specs.Given.{HasPath, HasPicture, HasReplay, HasRun, HasSizes, HasStudy, IsComplete};
+ghost use Rattle.settings.specs.Given.{HasPage, HasPath, HasPicture, HasReplay, HasRun, HasSizes, HasStudy};
+ghost use Rattle.settings.specs.Given.{IsComplete};
 ghost use Rattle.command_forms.specs.Forms.{bounded, bounds_as, ranged, ranged_as};
 
 use crate::choice::{
-    Asm, Check, Counts, Dis, Explain, Explore, Hunt, LineStyle, Lines, Order, Picture, Replay,
-    Report, Run, Schedule, Session, Settings, Sizes, Story, Study, Trace, Words,
+    Asm, Check, Counts, Dis, Explain, Explore, Hunt, LineStyle, Lines, Order, Page, Picture,
+    Replay, Report, Run, Schedule, Session, Settings, Sizes, Story, Study, Trace, Words,
 };
 use clap::ArgMatches;
 use command_forms::{
-    BUDGET, COMBINATIONS, ChoiceOption, FIRST_LINE, FIRST_START, LAST_LINE, NumberOption, PORT,
-    PROCESSOR, QUEUE, RECORDS, RUN_STEPS, RUNS, SECONDS, SHARED_WORD, SHARED_WORDS, STAGES, START,
-    STATES, STEP, STEPS, SWEEP_STEPS, WITNESS,
+    BUDGET, COMBINATIONS, ChoiceOption, FIRST_LINE, FIRST_START, FIRST_STEP, JOBS, LAST_LINE,
+    NumberOption, PORT, PROCESSOR, QUEUE, RECORDS, RUN_STEPS, RUNS, SECONDS, SHARED_WORD,
+    SHARED_WORDS, STAGES, START, STATES, STEP, STEP_COUNT, STEPS, SWEEP_STEPS, WITNESS,
 };
 use std::alloc::{AllocError, Global};
 
@@ -308,6 +310,7 @@ fn story<'a>(matches: &ArgMatches<'a>) -> Story<'a>
 {
     Story {
         lines: lines(matches),
+        network: flag(matches, "network"),
         rounds: flag(matches, "rounds"),
     }
 }
@@ -319,6 +322,18 @@ fn picture<'a>(matches: &ArgMatches<'a>) -> Picture<'a>
     Picture {
         replay: replay(matches),
         step: choice(matches, STEP),
+        symbols: option(matches, "symbols"),
+    }
+}
+
+fn page<'a>(matches: &ArgMatches<'a>) -> Page<'a>
+    requires { HasPage (rows_of (found_of matches.now)) }
+    ensures { GivesPage (rows_of (found_of matches.now)) result }
+{
+    Page {
+        replay: replay(matches),
+        from: choice(matches, FIRST_STEP),
+        steps: choice(matches, STEP_COUNT),
         symbols: option(matches, "symbols"),
     }
 }
@@ -415,6 +430,7 @@ fn hunt<'a>(matches: &ArgMatches<'a>) -> Hunt<'a>
         budget: number(matches, RUN_STEPS),
         runs: number(matches, RUNS),
         start: number(matches, FIRST_START),
+        jobs: byte_choice(matches, JOBS),
     }
 }
 
@@ -440,7 +456,7 @@ pub(crate) fn subcommand_settings<'a>(
         "story" => Ok(Settings::Story(story(inner))),
         "stats" => Ok(Settings::Stats(counts(inner))),
         "picture" => Ok(Settings::Picture(picture(inner))),
-        "page" => Ok(Settings::Page(replay(inner))),
+        "page" => Ok(Settings::Page(page(inner))),
         "study" => Ok(Settings::Study(study(inner))),
         "trace" => Ok(Settings::Trace(trace(inner))),
         "steps" => Ok(Settings::Steps(schedule(inner))),

@@ -16,5 +16,5 @@ mod row;
 mod table;
 mod text;
 
-pub use row::Place;
+pub use row::{Place, Symbol};
 pub use table::SymbolTable;

@@ -56,6 +56,13 @@ impl<'a> SymbolTable<'a> {
         Ok(SymbolTable { symbols })
     }
 
+    /// The symbols, by address.
+    pub fn symbols(&self) -> &[Symbol<'a>]
+        ensures { map row_of result.now ≡ self.now }
+    {
+        self.symbols.as_slice()
+    }
+
     /// The place of an address: the name of the symbol nearest at or below it, and how far the address is from it.
     /// `None` if there is no such symbol, or if it has a size and the address is at or past its end.
     pub fn place(&self, address: u32) -> Option<Place<'a>>

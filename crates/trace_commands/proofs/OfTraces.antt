@@ -35,7 +35,7 @@ module _ (reports : ReportRelation) (given : TraceInput) (t : TraceContents) (re
     read = read;
     image = image;
     meant = meant_is;
-    contents_are = (refl, subst (λ (x : Config × List Step). reports x.0 image x.1 text status) (λ i. (size i, all i)) contents_are);
+    contents_are = (refl, refl, subst (λ (x : Config × List Step). reports x.0 image x.1 text status) (λ i. (size i, all i)) contents_are);
   }
 
   -- If a report of the steps of a trace is printed, so is a report of the trace.

@@ -12,12 +12,12 @@ use Rattle.machine_steps.specs.machine_theory.Processors.{ObservedCore, word_at}
 use Rattle.machine_steps.specs.machine_theory.Steps.{after, machine_of_parts, outcome_of}
 use Rattle.machine_steps.specs.Answers.{AnswersBegin, AnswersGoOn}
 use Rattle.machine_steps.specs.Machines.{IsStep, MachineLists, machine_of}
-use Rattle.machine_steps.specs.Runs.{IsRun, all_after, events_of}
+use Rattle.machine_steps.specs.Runs.{IsRun, all_after}
 use Rattle.machine_steps.proofs.Lemmas.{outcome_there}
 use Rattle.trace_lines.specs.declared.choice.Choice.{Choice}
 use Rattle.trace_lines.specs.declared.subject.Subject.{Subject}
 use Rattle.trace_lines.specs.declared.values.Values.{Values}
-use Rattle.trace_lines.specs.StoryLines.{StoriesGoOn, StoryState, StoryStep, no_lines, story_step, with_line, with_lines}
+use Rattle.trace_lines.specs.StoryLines.{StoriesGoOn, StoryState, no_lines, story_step, with_line, with_lines}
 use Rattle.run_counts.specs.declared.rounds.Begun.{Begun}
 use Rattle.run_counts.specs.Rounds.{begun_at, begun_from, none_begun}
 use Rattle.trace_commands.specs.Stories.{round_of, story_step_on, story_steps_from, story_steps_of, subject_on, values_on}

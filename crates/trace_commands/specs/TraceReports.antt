@@ -49,7 +49,7 @@ trace_input trace image shared_words = record { trace = trace; image = image; sh
 
 -- what is printed for the steps of this trace, on a machine of its size with this many shared words
 abbrev pub OfTrace : ReportRelation → TraceContents → (shared_words : ℕ) → ReportRelation
-OfTrace reports t shared_words c image steps text status = (c ≡ config_of t shared_words)
+OfTrace reports t shared_words c image steps text status = (c ≡ config_of t shared_words) × (steps ≡ t.steps)
     × reports c image steps text status
 
 -- The files hold a trace and an image, and this is the text for the trace's steps, with this exit status.

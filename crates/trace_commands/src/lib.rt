@@ -5,7 +5,7 @@
 //! then prints it.
 //!
 //! A report is that of `run_reports`. [`lines_command`] prints an [`Order`] or a [`Story`], unless a number of its
-//! choice names nothing on the machine.
+//! choice names nothing on the machine, or for another [`Selection`] what it selects.
 //!
 //! The others list the steps of the trace and those of a drain first ([`drained_steps`]). For a story, a second machine
 //! takes all these steps, and each becomes a line, if it is chosen ([`story_text`]). For an order, a second machine
@@ -28,7 +28,7 @@ mod story;
 mod telling;
 mod trace_report;
 
-pub use choosing::lines_command;
+pub use choosing::{Selection, lines_command};
 pub use draining::drained_steps;
 pub use drawing::picture_text;
 pub use input::trace_of;

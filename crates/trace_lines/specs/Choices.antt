@@ -1,5 +1,5 @@
 -- Choices of lines: which lines they take, and chosen numbers that are out of range.
-use Rattle.std.specs.Prelude.{ℕ, Bool, true, false, ◌==◌, ◌&&◌, Option, Some, None, nat_le, if◌then◌else◌}
+use Rattle.std.specs.Prelude.{ℕ, Bool, true, false, not, ◌==◌, ◌&&◌, Option, Some, None, nat_le, if◌then◌else◌}
 use Rattle.std.specs.Option.{option_or}
 use Rattle.trace_lines.specs.declared.choice.Choice.{Choice}
 use Rattle.trace_lines.specs.declared.unknown.Unknown.{Unknown}
@@ -27,10 +27,11 @@ is_up_to (Some last) number = nat_le number last
 abbrev pub is_in_range : Choice → (number : ℕ) → Bool
 is_in_range choice number = is_from choice.from number && is_up_to choice.to number
 
--- whether a choice takes the line of this number, of this processor, that is about this shared word
+-- whether a choice takes the line of an order with this number, of this processor, that is about this shared word; such
+-- a line is not one of the network
 unfoldable pub takes : Choice → (number : ℕ) → (processor word : Option ℕ) → Bool
-takes choice number processor word =
-    is_in_range choice number && (is_chosen choice.processor processor && is_chosen choice.word word)
+takes choice number processor word = not choice.network
+    && (is_in_range choice number && (is_chosen choice.processor processor && is_chosen choice.word word))
 
 -- ---- numbers out of range
 

@@ -1,12 +1,13 @@
 -- The lines of a run's story: a line for each step that is chosen, read off the step, its outcome, the values that it
 -- tells and the groups of requests before it. If steps have rounds, a mark stands before the first chosen step of each.
-use Rattle.std.specs.Prelude.{◌≡◌, ℕ, ◌+◌, Bool, true, ◌==◌, ◌&&◌, List, [], ◌∷◌, ◌++◌, codes, length, Option, Some}
-use Rattle.std.specs.Prelude.{None, if◌then◌else◌, unwrap_or}
+use Rattle.std.specs.Prelude.{◌≡◌, ℕ, ◌+◌, Bool, true, not, ◌==◌, ◌&&◌, ◌||◌, List, [], ◌∷◌, ◌++◌, codes, length}
+use Rattle.std.specs.Prelude.{Option, Some, None, if◌then◌else◌, unwrap_or}
 use Rattle.std.specs.Fmt.{decimal}
 use Rattle.command_io.specs.Digits.{line_feed}
 use Rattle.steps.specs.declared.step.Step.{Step}
 use Rattle.steps.specs.declared.step.Outcome.{Outcome}
 use Rattle.steps.specs.Groups.{groups_after, no_groups}
+use Rattle.steps.specs.Kinds.{is_network}
 use Rattle.trace_lines.specs.declared.choice.Choice.{Choice}
 use Rattle.trace_lines.specs.declared.subject.Subject.{Subject}
 use Rattle.trace_lines.specs.declared.values.Values.{Values}
@@ -61,10 +62,14 @@ abbrev pub concerns_chosen : (chosen : Option ℕ) → Telling → Step → Outc
 concerns_chosen None t s o subject = true
 concerns_chosen (Some p) t s o subject = concerns p t.leader subject.leader s o
 
+-- whether a choice takes a step of this kind: each, or those of the network alone
+abbrev pub is_kind_chosen : Choice → Step → Bool
+is_kind_chosen choice s = not choice.network || is_network s
+
 -- whether a choice takes a step
 abbrev pub takes_step : Choice → Telling → Step → Outcome → Subject → Bool
-takes_step choice t s o subject = is_in_range choice t.number
-    && (is_chosen choice.word subject.word && concerns_chosen choice.processor t s o subject)
+takes_step choice t s o subject = is_kind_chosen choice s && (is_in_range choice t.number
+    && (is_chosen choice.word subject.word && concerns_chosen choice.processor t s o subject))
 
 -- the mark and the line of a step if it is chosen, and nothing otherwise
 abbrev pub chosen_line : Choice → Telling → StoryStep → List ℕ

@@ -3,11 +3,13 @@
 ghost use Rattle.std.specs.Prelude.{◌≡◌};
 ghost use Rattle.trace_lines.specs.Choices.{is_chosen, is_from, is_in_range, is_up_to, takes, unknown_of};
 ghost use Rattle.trace_lines.specs.Choices.{unknown_processor, unknown_word};
+ghost use Rattle.trace_lines.specs.StoryLines.{is_kind_chosen};
 
 use crate::unknown::Unknown;
+use steps::Step;
 
-/// A choice of the lines of a serial order or of a story: those of one processor, those about one shared word, those
-/// with numbers in a range. A line has to meet all conditions that are given.
+/// A choice of the lines of a serial order or of a story: those of one processor, those about one shared word, those of
+/// the network, those with numbers in a range. A line has to meet all conditions that are given.
 #[derive(Clone, Copy, Debug, PartialEq, Eq, Drop)]
 pub struct Choice {
     /// The processor, if one is chosen.
@@ -18,6 +20,8 @@ pub struct Choice {
     pub from: Option<u32>,
     /// The number of the last line, if one is chosen.
     pub to: Option<u32>,
+    /// Whether only moves and services are chosen. An order has none of them.
+    pub network: bool,
 }
 
 impl Choice {
@@ -39,12 +43,21 @@ impl Choice {
         is_from(self.from, number) && is_up_to(self.to, number)
     }
 
-    /// Whether the choice includes the line of this number, of this processor, that is about this shared word.
+    /// Whether the choice includes steps of this kind.
+    pub(crate) fn takes_kind(&self, step: &Step) -> bool
+        ensures { result ≡ is_kind_chosen self.now step.now }
+    {
+        !self.network || step.is_network()
+    }
+
+    /// Whether the choice includes the line of an order with this number, of this processor, that is about this shared
+    /// word.
     #[tactic(auto, unfolding(crate::specs::Choices::takes))]
     pub fn takes(&self, number: usize, processor: Option<u8>, word: Option<u32>) -> bool
         ensures { result ≡ takes self.now number processor word }
     {
-        self.is_in_range(number)
+        !self.network
+            && self.is_in_range(number)
             && is_processor(self.processor, processor)
             && is_word(self.word, word)
     }

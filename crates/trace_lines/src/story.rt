@@ -164,7 +164,8 @@ impl StoryLines {
     fn takes(&self, step: &Step, outcome: &Outcome, subject: &Subject) -> bool
         ensures { result ≡ takes_step self.now.choice self.now.known step.now outcome.now subject.now }
     {
-        self.choice.is_in_range(self.number)
+        self.choice.takes_kind(step)
+            && self.choice.is_in_range(self.number)
             && is_word(self.choice.word, subject.word)
             && self.concerns_chosen(step, outcome, subject)
     }

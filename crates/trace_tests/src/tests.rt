@@ -38,6 +38,7 @@ const ALL: Choice = Choice {
     word: None,
     from: None,
     to: None,
+    network: false,
 };
 
 /// A report on a trace.
@@ -83,12 +84,12 @@ fn ask<T: Read + Drop, R: Read + Drop, W: LinkWrite, E: Write>(
     match asked {
         Asked::Order(choice) => {
             let order = Order { choice };
-            lines_command(alloc, trace, file, shared_words, choice, &order, out, err)
+            lines_command(alloc, trace, file, shared_words, &choice, &order, out, err)
         }
         Asked::Story(choice) | Asked::Rounds(choice) => {
             let rounds = matches!(asked, Asked::Rounds(_));
             let story = Story { choice, rounds };
-            lines_command(alloc, trace, file, shared_words, choice, &story, out, err)
+            lines_command(alloc, trace, file, shared_words, &choice, &story, out, err)
         }
         Asked::Stats => trace_command(alloc, trace, file, shared_words, &Stats, out, err),
         Asked::LatencyStats => {

@@ -32,10 +32,13 @@ use host_files::{
 };
 use link::{Link, LinkRead, LinkWrite, Meter};
 use machine_picture::Svg;
+use page_command::Window;
 use processor_threads::{Gate, Open};
 use run_command::{Progress, run_command, threaded_run_command, unlogged_run_command};
 use search_files::{asks_for_property, explore_file, hunt_file, study_file};
-use settings::{Counts, Lines, Replay, Run, Schedule, Session, Settings, settings, status_of};
+use settings::{
+    Counts, Lines, Page, Replay, Run, Schedule, Session, Settings, settings, status_of,
+};
 use std::alloc::{AllocError, Global};
 use std::env;
 use std::io::{self, ErrorKind, Input, IsTerminal, Read, Write};
@@ -46,7 +49,9 @@ use std::sync::Wait;
 use std::thread::Threads;
 use std::time::Clock;
 use symbol_table::SymbolTable;
-use trace_commands::{Order, Picture, Report, Story, TraceReport, lines_command, trace_command};
+use trace_commands::{
+    Order, Picture, Report, Selection, Story, TraceReport, lines_command, trace_command,
+};
 use trace_counts::{LatencyStats, QueueStats, QueueTable, Stats};
 use trace_lines::Choice;
 use trace_text::{steps_command, text_command};
@@ -162,10 +167,10 @@ fn execute_with_file<
     }
 }
 
-/// Whether a command uses names itself: to draw a picture, or to read a condition.
+/// Whether a command uses names itself: to draw a picture, to write a page, or to read a condition.
 fn uses_names(settings: &Settings<'_>) -> bool {
     match settings {
-        Settings::Picture(_) => true,
+        Settings::Picture(_) | Settings::Page(_) => true,
         Settings::Explore(explore) => asks_for_property(explore),
         _ => false,
     }
@@ -286,20 +291,15 @@ fn execute<
         }
         Settings::Replay(report) => tell_steps(rt, &report.replay, &Report, reason, out, err),
         Settings::Order(order) => {
-            let choice = choice_of(&order.lines);
-            tell_lines(rt, &order.lines, &Order { choice }, reason, out, err)
+            let choice = choice_of(&order.lines, false);
+            let report = Order { choice };
+            tell_part(rt, &order.lines.replay, &choice, &report, reason, out, err)
         }
         Settings::Story(story) => {
-            let choice = choice_of(&story.lines);
+            let choice = choice_of(&story.lines, story.network);
             let rounds = story.rounds;
-            tell_lines(
-                rt,
-                &story.lines,
-                &Story { choice, rounds },
-                reason,
-                out,
-                err,
-            )
+            let report = Story { choice, rounds };
+            tell_part(rt, &story.lines.replay, &choice, &report, reason, out, err)
         }
         Settings::Stats(counts) if counts.queues => tell_queues(rt, counts, reason, out, err),
         Settings::Stats(counts) if counts.latency => {
@@ -315,7 +315,11 @@ fn execute<
             };
             tell_steps(rt, &asked.replay, &picture, reason, out, err)
         }
-        Settings::Page(replay) => tell_steps(rt, replay, &page(), reason, out, err),
+        Settings::Page(asked) => {
+            let window = window_of(asked);
+            let page = page(window, names.as_ref());
+            tell_part(rt, &asked.replay, &window, &page, reason, out, err)
+        }
         Settings::Study(study) => Ok(study_file(rt, study, reason, out, err)?),
         Settings::Trace(asked) => {
             let mut trace = Meter::new(open(rt, asked.trace, reason)?);
@@ -397,13 +401,14 @@ fn tell_queues<'a, R: Files + Input + AllocGlobal, W: LinkWrite, E: Write>(
     }
 }
 
-/// The choice of lines that a command is asked for.
-fn choice_of(lines: &Lines<'_>) -> Choice
+/// The choice of lines that a command is asked for, of all steps or of the network's alone.
+fn choice_of(lines: &Lines<'_>, network: bool) -> Choice
     ensures { result ≡ record {
       processor = lines.now.processor;
       word = lines.now.word;
       from = lines.now.from;
       to = lines.now.to;
+      network = network;
     } }
 {
     Choice {
@@ -411,14 +416,33 @@ fn choice_of(lines: &Lines<'_>) -> Choice
         word: lines.word,
         from: lines.from,
         to: lines.to,
+        network,
     }
 }
 
-/// Opens a trace, and then the image of its run, and prints the chosen lines of its steps, as [`tell_steps`] prints a
+/// The steps that a page is asked for.
+fn window_of(page: &Page<'_>) -> Window {
+    let first = page.from.unwrap_or(0);
+    let last = match page.steps {
+        Some(steps) => Some(first.saturating_add(steps.saturating_sub(1))),
+        None => None,
+    };
+    Window { first, last }
+}
+
+/// Opens a trace, and then the image of its run, and prints what is selected of its steps, as [`tell_steps`] prints a
 /// report.
-fn tell_lines<'a, A: TraceReport, R: Files + Input + AllocGlobal, W: LinkWrite, E: Write>(
+fn tell_part<
+    'a,
+    S: Selection,
+    A: TraceReport,
+    R: Files + Input + AllocGlobal,
+    W: LinkWrite,
+    E: Write,
+>(
     rt: &R,
-    lines: &Lines<'a>,
+    replay: &Replay<'a>,
+    selection: &S,
     trace_report: &A,
     reason: &Reason,
     out: &mut W,
@@ -426,15 +450,15 @@ fn tell_lines<'a, A: TraceReport, R: Files + Input + AllocGlobal, W: LinkWrite, 
 ) -> Result<u8, Refusal<'a>>
     requires works { W.has_failed out.old ≡ false }
 {
-    read_once(lines.replay.trace, lines.replay.file)?;
-    let mut trace = Meter::new(open(rt, lines.replay.trace, reason)?);
-    let mut file = open_image(rt, lines.replay.file, reason);
+    read_once(replay.trace, replay.file)?;
+    let mut trace = Meter::new(open(rt, replay.trace, reason)?);
+    let mut file = open_image(rt, replay.file, reason);
     Ok(lines_command(
         rt.alloc(),
         &mut trace,
         &mut file,
-        lines.replay.words,
-        choice_of(lines),
+        replay.words,
+        selection,
         trace_report,
         out,
         err,

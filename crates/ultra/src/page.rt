@@ -1,12 +1,15 @@
 //! The page of `ultra page`, before and after its data. `tests/tools/page.py --write` generates this file from page/.
 
-use page_command::Page;
+use page_command::{Page, Window};
+use symbol_table::SymbolTable;
 
-/// The page around its data.
-pub fn page() -> Page<'static> {
+/// The page that plays the steps in a window, with these names.
+pub fn page<'a>(window: Window, symbols: Option<&'a SymbolTable<'a>>) -> Page<'a> {
     Page {
         front: front(),
         back: back(),
+        window,
+        symbols,
     }
 }
 
@@ -188,6 +191,7 @@ padding: 1px 2px; border-radius: 4px; }
 font-size: 12px; }
 .address { color: var(--faint); }
 .gap { color: var(--faint); padding-left: 108px; }
+.program-label { padding-left: 108px; font-size: 12.5px; font-weight: 600; }
 #register-table { flex: 1 1 45%; min-height: 120px; overflow: auto; display: grid; grid-template-columns: 1fr 1fr;
 gap: 0 14px; align-content: start; }
 .register { display: flex; justify-content: space-between; font-size: 13px; padding: 1px 4px; border-radius: 4px; }
@@ -427,6 +431,9 @@ const found = new RegExp('(?:^| )' + name + ' (\\d+)').exec(line);
 if (!found) throw new Error('the data has no ' + name + ' in: ' + line);
 return Number(found[1]);
 }
+function symbolOf(line) {
+return { address: parseInt(line.slice(0, 8), 16), size: parseInt(line.slice(9, 17), 16), name: line.slice(18) };
+}
 function readData(element) {
 const raw = element.textContent;
 const text = raw.charCodeAt(0) === 10 ? raw.slice(1) : raw;
@@ -436,17 +443,52 @@ const line = (i) => unescaped(text.slice(starts[i], starts[i + 1] - 1));
 if (lines < 4 || line(0) !== 'ultra page 1') throw new Error('this page holds no run that it can read');
 const machine = line(1);
 const k = numberAfter(machine, 'k');
-const steps = numberAfter(line(2), 'steps');
+const steps = numberAfter(line(2), 'steps'), named = numberAfter(line(2), 'symbols'), begin = 3 + named;
 return {
-machine, k, n: 1 << k, steps,
+machine, k, n: 1 << k, steps, first: numberAfter(line(2), 'from'), all: numberAfter(line(2), 'of'),
 c: numberAfter(machine, 'c'), b: numberAfter(machine, 'b'), r: numberAfter(machine, 'r'),
 words: numberAfter(line(2), 'words'),
-opening: line(3),
-story: (i) => line(4 + i),
-change: (i) => line(4 + steps + i),
-order: (i) => line(4 + 2 * steps + i),
-orders: Math.max(0, lines - 4 - 2 * steps),
+symbols: Array.from({ length: named }, (_, i) => symbolOf(line(3 + i))),
+opening: line(begin),
+change: (i) => line(begin + 1 + i),
+story: (i) => line(begin + 1 + steps + i),
+order: (i) => line(begin + 1 + 2 * steps + i),
+orders: Math.max(0, lines - begin - 1 - 2 * steps),
 };
+}
+const names = { symbols: [] };
+function placeOfAddress(address) {
+let low = 0, high = names.symbols.length;
+while (low < high) {
+const middle = (low + high) >> 1;
+if (names.symbols[middle].address <= address) low = middle + 1; else high = middle;
+}
+const it = names.symbols[low - 1];
+if (!it || it.size > 0 && address - it.address >= it.size) return null;
+return { name: it.name, offset: address - it.address };
+}
+function placeText(place, letters) {
+const offset = place.offset ? '+0x' + place.offset.toString(16) : '';
+const room = Math.max(0, letters - offset.length);
+return (place.name.length <= room ? place.name : place.name.slice(0, Math.max(0, room - 2)) + '..') + offset;
+}
+function placeOfWord(word) {
+return word < 0x20000000 ? placeOfAddress(0x80000000 + 4 * word) : null;
+}
+function pcText(pc) {
+const place = placeOfAddress(parseInt(pc, 16));
+return place ? placeText(place, 24) : pc;
+}
+function wordName(word) {
+const place = placeOfWord(word);
+return place ? placeText(place, 24) : 'word ' + word;
+}
+function wordTitle(word) {
+const place = placeOfWord(word);
+return 'word ' + word + (place ? ' (' + placeText(place, Infinity) + ')' : '');
+}
+function withWordNames(line) {
+return names.symbols.length ? line.replace(/\bword (\d+)\b/g, (it, number) => wordTitle(Number(number))) : line;
 }
 function emptyView(data) {
 return {
@@ -572,11 +614,11 @@ return decimal ? text.replace(/\b[0-9a-f]{8}\b/g, (it) => String(parseInt(it, 16
 }
 function storyText(line) {
 const poke = /^(\d+ poke \S+ [0-9a-f]{8}\b)(.*)$/.exec(line);
-return poke ? poke[1] + withValues(poke[2]) : withValues(line);
+return withWordNames(poke ? poke[1] + withValues(poke[2]) : withValues(line));
 }
 function orderText(line) {
 const parts = /^(\S+ \S+ (?:poke )?\S+)(.*)$/.exec(line);
-return parts ? parts[1] + withValues(parts[2]) : line;
+return withWordNames(parts ? parts[1] + withValues(parts[2]) : line);
 }
 const shortSigns = { store: '=', and: '&', or: '|', xor: '^', min: 'min ', max: 'max ', minu: 'minu ', maxu: 'maxu ' };
 function shortFunction(f) {
@@ -592,7 +634,7 @@ const shown = group.length > 8 ? group.slice(0, 4).join(' ') + ' .. ' + group.le
 return '{' + shown + '}';
 }
 function requestText(it, group) {
-return withValues(it.f) + (it.f === 'load' ? ' ' : ' to ') + 'word ' + it.word + ' ' + groupText(group);
+return withValues(it.f) + (it.f === 'load' ? ' ' : ' to ') + wordName(it.word) + ' ' + groupText(group);
 }
 function recordText(it) {
 return it.second + ' waits for ' + it.leader + ': ' + withValues(it.f);
@@ -601,10 +643,13 @@ function replyText(it, group) {
 return 'reply ' + valueText(it.value) + ' ' + groupText(group);
 }
 function processorText(view, p) {
-return p + ' ' + view.status[p] + ' ' + view.pc[p] + (view.word[p] >= 0 ? ' word ' + view.word[p] : '');
+return p + ' ' + view.status[p] + ' ' + pcText(view.pc[p]) + (view.word[p] >= 0 ? ' ' + wordName(view.word[p]) : '');
 }
 function wordText(word, value) {
-return 'word ' + word + ' = ' + valueText(value);
+return wordName(word) + ' = ' + valueText(value);
+}
+function shortWord(word) {
+return placeOfWord(word) ? wordName(word) : 'w' + word;
 }
 function count(number, one, many) {
 return number + ' ' + (number === 1 ? one : many || one + 's');
@@ -693,6 +738,7 @@ queues: Array.from({ length: k }, () => new Uint16Array(steps + 1)),
 listing: new Map(), // pc -> { text, from: the first order line }
 references: [],
 refersAt: new Uint32Array(steps + 1),
+prints: [],
 };
 const groupLow = new Uint32Array(n), groupHigh = new Uint32Array(n), openWord = new Int32Array(n).fill(-1);
 const requests = new Uint16Array((k + 1) * n), replies = new Uint16Array((k + 1) * n);
@@ -714,6 +760,22 @@ for (let it = depth * n; it < depth * n + n; it++) {
 if (requests[it] > longest[0][depth]) longest[0][depth] = requests[it];
 if (replies[it] > longest[1][depth]) longest[1][depth] = replies[it];
 }
+}
+function begin() {
+const seconds = secondsOf(opening);
+for (let place = 0; place < opening.places.length; place++) {
+if (!opening.places[place]) continue;
+placed(place, opening.places[place]);
+const depth = Math.floor(place / n), items = itemsAt(opening, depth, place % n);
+for (const it of items.requests.concat(items.replies)) {
+for (const p of groupOf(seconds, depth, it.leader)) {
+if (p < 32) groupLow[it.leader] |= 1 << p; else groupHigh[it.leader] |= 1 << (p - 32);
+}
+}
+}
+openWord.set(opening.word);
+facts.moving[0] = moving;
+for (let it = 0; it < k; it++) facts.queues[it][0] = Math.max(longest[0][it + 1], longest[1][it]);
 }
 function leaderAt(depth, wire, mark) {
 const text = scan.places[depth * n + wire];
@@ -745,6 +807,7 @@ facts.ordered = at + 1;
 const it = orderedBy(data.order(at));
 if (!it.poke && !facts.listing.has(it.pc)) facts.listing.set(it.pc, { text: it.instruction, from: at });
 if (it.word >= 0) addReference(at, it);
+if (it.console) facts.prints.push({ order: at, p: it.p, byte: parseInt(it.console, 16) });
 }
 function learn(i) {
 const outcome = outcomeOf(data.story(i));
@@ -792,6 +855,7 @@ while (facts.known < steps && performance.now() < until) reach(Math.min(steps, f
 then(facts.known === steps);
 if (facts.known < steps) setTimeout(() => learnAll(then), 4);
 }
+begin();
 let view = copyOfView(opening);
 let shown = 0;
 function seek(step) {
@@ -818,7 +882,12 @@ return -1;
 function concerns(i, p) {
 return Boolean((p < 32 ? facts.low[i] >>> p : facts.high[i] >>> (p - 32)) & 1);
 }
-return { data, facts, seek, reach, learnAll, find, concerns };
+function consoleOf(p, step) {
+const bytes = facts.prints.filter((it) => it.p === p && it.order < facts.afterStep[step]).map((it) => it.byte);
+return bytes.map((it) => (it >= 32 && it < 127 && it !== 92 ? String.fromCharCode(it)
+: it === 10 ? '\\n' : '\\x' + it.toString(16).padStart(2, '0'))).join('');
+}
+return { data, facts, seek, reach, learnAll, find, concerns, consoleOf };
 }
 const rowHeight = 92, emptyHeight = 26;
 const processorWidth = 222, switchWidth = 214, moduleWidth = 214, narrowWidth = 96;
@@ -961,7 +1030,7 @@ g.append(draw('text', { x: -w / 2 + 50, y: 5.6, 'font-size': 16, class: 'strong'
 return g;
 }
 function statusText(view, p) {
-if (view.word[p] >= 0) return 'waits: word ' + view.word[p];
+if (view.word[p] >= 0) return 'waits: ' + wordName(view.word[p]);
 return view.status[p] === 'run' ? 'runs' : view.status[p];
 }
 function processorGlyph(view, p, x, y, w, h, instruction) {
@@ -974,7 +1043,7 @@ g.append(draw('text', { x: x + 34, y: y + h / 2 + 5, class: 'small' }, statusTex
 return g;
 }
 g.append(draw('text', { x: x + 49, y: y + 27, class: 'state' }, statusText(view, p)));
-g.append(draw('text', { x: x + 49, y: y + 51, class: 'mono' }, view.pc[p]));
+g.append(draw('text', { x: x + 49, y: y + 51, class: 'mono' }, pcText(view.pc[p])));
 const shown = view.status[p] !== 'run' ? '' : instruction.length > 24 ? instruction.slice(0, 23) + '\u2026'
 : instruction;
 g.append(draw('text', { x: x + 49, y: y + 75, class: 'mono faint' }, shown));
@@ -992,7 +1061,7 @@ const g = draw('g', { class: 'word' + (isOpen ? ' open' : '') });
 const text = draw('text', { x: 0, y: 0, 'text-anchor': 'end', class: isOpen ? 'value' : 'value faint' },
 shortValue(value));
 g.append(draw('text', { x: -Math.max(1, shortValue(value).length) * (isOpen ? 18.5 : 11.5) - 8, y: 0,
-'text-anchor': 'end', class: 'small' }, 'word ' + word + ' ='), text);
+'text-anchor': 'end', class: 'small' }, wordName(word) + ' ='), text);
 return g;
 }
 function switchGlyph(layout, column, row) {
@@ -1505,20 +1574,22 @@ const request = it.kind === 'request';
 const rows = [['What', request ? 'request, on its way to memory' : 'reply, on its way back'], ['Text', it.text],
 ['Where', whereText(it, view.k)], ['Leader', 'processor ' + it.leader],
 ['Stands for', it.group.length > 1 ? members + ' (in the order of service)' : members]];
-if (!request) return rows.concat([['Value', bothBases(it.it.value)], ['Word', String(view.word[it.leader])]]);
+if (!request) return rows.concat([['Value', bothBases(it.it.value)], ['Word', wordTitle(view.word[it.leader])]]);
 const { word, f } = it.it;
 const now = bothBases(view.words.get(word) || 0);
-return rows.concat([['Word', word + ', of module ' + word % view.n + ', now ' + now], ['Function', f]]);
+return rows.concat([['Word', wordTitle(word) + ', of module ' + word % view.n + ', now ' + now], ['Function', f]]);
 }
-function tellProcessor(p, view, items, instructionAt) {
+function tellProcessor(p, view, items, run) {
 const rows = [['What', 'processor ' + p], ['Text', processorText(view, p)]];
-const instruction = instructionAt(view.pc[p]);
+const instruction = run.instructionAt(view.pc[p]), printed = run.consoleNow(p);
+if (names.symbols.length) rows.push(['Program counter', view.pc[p]]);
 if (instruction && view.status[p] === 'run') rows.push(['Instruction', instruction]);
 if (view.word[p] >= 0) {
 const it = itemFor(items, p);
-rows.push(['Waits for', 'word ' + view.word[p]]);
+rows.push(['Waits for', wordTitle(view.word[p])]);
 if (it) rows.push(['Its message', it.text + ', ' + whereText(it, view.k)]);
 }
+if (printed) rows.push(['Console', printed]);
 return rows;
 }
 function tellSwitch(key, view, items) {
@@ -1535,18 +1606,18 @@ return rows;
 function tellWord(word, view) {
 const waiting = [];
 view.word.forEach((it, p) => { if (it === word) waiting.push(p); });
-return [['What', 'word ' + word + ', of module ' + word % view.n], ['Text', wordText(word, view.words.get(word)
+return [['What', wordTitle(word) + ', of module ' + word % view.n], ['Text', wordText(word, view.words.get(word)
 || 0)],
 ['Value', bothBases(view.words.get(word) || 0)], ['Waiting', waiting.length ? 'processors ' + waiting.join(' ')
 : 'nobody']];
 }
-function tell(key, view, items, instructionAt) {
+function tell(key, view, items, run) {
 const number = Number(key.slice(1));
 if (key[0] === 'm' || key[0] === 'r') {
 const it = items.find((x) => x.key === key);
 return it ? tellItem(it, view) : null;
 }
-if (key[0] === 'p') return tellProcessor(number, view, items, instructionAt);
+if (key[0] === 'p') return tellProcessor(number, view, items, run);
 if (key[0] === 'w') return tellWord(number, view);
 if (key[0] === 's') return tellSwitch(key, view, items);
 if (key[0] !== 'd') return null;
@@ -1572,9 +1643,9 @@ const element = stage.keyed.get(it);
 if (element) element.classList.add(it === key ? 'chosen' : 'related');
 }
 }
-function showDetail(key, view, items, instructionAt) {
+function showDetail(key, view, items, run) {
 const list = byId('detail-list');
-const rows = key ? tell(key, view, items, instructionAt) : null;
+const rows = key ? tell(key, view, items, run) : null;
 detail.key = rows ? key : null;
 markRelated(detail.key, items);
 list.replaceChildren();
@@ -1625,16 +1696,16 @@ const facts = run.facts;
 const list = makeLongList(byId('order-list'), (i) => {
 const it = orderedBy(run.data.order(i));
 const line = make('button', { class: 'order-line', type: 'button', 'data-order': i,
-title: orderText(run.data.order(i)) + ', in step ' + facts.orderStep[i] });
+title: orderText(run.data.order(i)) + ', in step ' + (run.data.first + facts.orderStep[i]) });
 if (i >= order.now) line.classList.add('later');
 if (facts.orderStep[i] === order.step - 1) line.classList.add('new');
 if (it.p >= 0) line.style.setProperty('--own', colourOf(it.p));
 line.setAttribute('data-text', run.data.order(i));
 line.append(make('span', { class: 'own', 'data-processor': it.p }, it.p < 0 ? '-' : String(it.p)),
-make('span', { class: 'faint' }, String(i)));
+make('span', { class: 'faint' }, String(it.number)));
 const more = (it.result ? ' = ' + withValues(it.result) : '') + (it.console ? ' prints ' + it.console : '');
 line.append(make('span', { class: 'text' }, it.instruction + more));
-if (it.word >= 0) line.append(make('span', { class: 'refers' }, 'w' + it.word + ': ' + shortValue(it.before)
+if (it.word >= 0) line.append(make('span', { class: 'refers' }, shortWord(it.word) + ': ' + shortValue(it.before)
 + (it.before === it.after ? '' : ' \u2192 ' + shortValue(it.after))));
 return line;
 });
@@ -1673,6 +1744,8 @@ for (const pc of lines) {
 const value = parseInt(pc, 16), known = run.facts.listing.get(pc);
 if (last >= 0 && value !== last + 4) list.append(make('div', { class: 'gap' }, '..'));
 last = value;
+const place = placeOfAddress(value);
+if (place && place.offset === 0) list.append(make('div', { class: 'program-label' }, place.name + ':'));
 const line = make('div', { class: 'program-line' + (at.has(pc) ? ' here' : '') });
 const marks = make('span', { class: 'marks' });
 for (const p of (at.get(pc) || []).slice(0, 8)) {
@@ -1682,9 +1755,10 @@ mark.style.background = colourOf(p);
 marks.append(mark);
 }
 if ((at.get(pc) || []).length > 8) marks.append(make('span', {}, '+' + (at.get(pc).length - 8)));
-const text = known && (known.from < now) ? known.text : 'not yet executed';
-line.append(marks, make('code', { class: 'address' }, pc), make('code', { class: known && known.from < now ? ''
-: 'faint' }, text));
+const seen = known && (known.from < now || run.data.first > 0);
+const text = seen ? known.text : run.data.first > 0 ? 'not executed here' : 'not yet executed';
+line.append(marks, make('code', { class: 'address' }, pc), make('code', { class: seen ? '' : 'faint' },
+text));
 list.append(line);
 }
 };
@@ -1886,10 +1960,10 @@ marks.prepend(draw('path', { d: path, class: 'saw' + (inside ? '' : ' before'), 
 marks.append(draw('path', { d: `M${x - 4} ${y - 14}L${x} ${y - 7}L${x + 4} ${y - 14}Z`, fill: writer.p < 0
 ? '#777' : colourOf(writer.p) }));
 }
-const text = 'step ' + step + ': processor ' + reference.p + ', ' + line.instruction + ', word ' + reference.word
-+ ' ' + valueText(line.before) + (reference.writes ? ' to ' + valueText(line.after) : '');
+const text = 'step ' + (data.first + step) + ': processor ' + reference.p + ', ' + line.instruction + ', '
++ wordTitle(reference.word) + ' ' + valueText(line.before) + (reference.writes ? ' to ' + valueText(line.after) : '');
 const g = draw('g', { class: 'reference', role: 'button', tabindex: '0', 'aria-label': text, 'data-go': step + 1 });
-g.append(draw('title', {}, text), draw('text', { x: 4, y: y + 4, class: 'small faint' }, String(step)));
+g.append(draw('title', {}, text), draw('text', { x: 4, y: y + 4, class: 'small faint' }, String(data.first + step)));
 if (reference.writes) g.append(draw('circle', { cx: x, cy: y, r: 7, fill: reference.p < 0 ? '#777'
 : colourOf(reference.p) }));
 else g.append(draw('circle', { cx: x, cy: y, r: 6, class: 'load', stroke: colourOf(reference.p) }));
@@ -1918,7 +1992,7 @@ const select = byId('timeline-word');
 it.words = () => {
 const known = new Set(facts.references.map((reference) => reference.word));
 for (const word of [...known].sort((a, b) => a - b).slice(0, 500)) select.append(make('option', { value: word },
-'word ' + word));
+wordTitle(word)));
 };
 select.addEventListener('change', () => { it.word = Number(select.value); it.show(it.step); });
 return it;
@@ -1982,9 +2056,10 @@ byId('speed-text').textContent = speedText(player.speed);
 speed.addEventListener('input', () => setSpeed(Number(speed.value)));
 setSpeed(1);
 const number = byId('step-number');
-number.max = String(player.steps);
+number.min = String(player.first);
+number.max = String(player.first + player.steps);
 number.addEventListener('change', () => { player.pause(); player.go(Math.max(0, Math.min(player.steps,
-Math.round(Number(number.value) || 0)))); });
+Math.round(Number(number.value) || 0) - player.first))); });
 const jump = (kind, forwards) => {
 player.pause();
 const p = Number(byId('event-processor').value), w = byId('event-word').value;
@@ -2034,8 +2109,8 @@ does(event);
 });
 return { show: (step) => {
 slider.value = String(step);
-slider.setAttribute('aria-valuetext', 'after ' + step + ' of ' + count(player.steps, 'step'));
-if (document.activeElement !== number) number.value = String(step);
+slider.setAttribute('aria-valuetext', 'after ' + (player.first + step) + ' of ' + count(player.all, 'step'));
+if (document.activeElement !== number) number.value = String(player.first + step);
 byId('button-back').disabled = byId('button-first').disabled = step === 0;
 byId('button-forth').disabled = byId('button-last').disabled = step === player.steps;
 }, playing: (on) => {
@@ -2047,9 +2122,9 @@ byId('button-play').setAttribute('aria-label', on ? 'pause' : 'play');
 function letGo(event) {
 if (event.detail > 0) event.currentTarget.blur();
 }
-function stepInAddress(address, steps) {
+function stepInAddress(address, data) {
 const found = /#step=(\d+)$/.exec(address);
-return found ? Math.min(steps, Number(found[1])) : -1;
+return found ? Math.max(0, Math.min(data.steps, Number(found[1]) - data.first)) : -1;
 }
 function makeAddressWriter() {
 let wanted = -1, timer = 0;
@@ -2087,11 +2162,14 @@ return (name) => choose(byId('tab-' + name));
 }
 function start() {
 const data = readData(byId('data'));
+names.symbols = data.symbols;
 const run = makeHistory(data);
 const still = matchMedia('(prefers-reduced-motion: reduce)');
 let step = 0, view = run.seek(0), items = [], playing = 0, playedAt = 0;
 const writeAddress = makeAddressWriter();
-byId('machine').textContent = data.machine + ', ' + count(data.n, 'processor') + ', ' + count(data.steps, 'step');
+const isPart = data.steps < data.all;
+byId('machine').textContent = data.machine + ', ' + count(data.n, 'processor') + ', ' + (isPart
+? count(data.steps, 'step') + ' from ' + data.first + ' on of ' + data.all : count(data.steps, 'step'));
 document.title = 'Ultracomputer: ' + data.machine;
 for (let p = 0; p < data.n; p++) byId('event-processor').append(make('option', { value: p }, 'processor ' + p));
 setUpStage(byId('drawing'));
@@ -2099,7 +2177,7 @@ if (data.k >= 4) setUpMap(data.k);
 document.body.classList.toggle('large', data.k >= 4);
 const instructionAt = (pc) => { const it = run.facts.listing.get(pc); return it ? it.text : ''; };
 const player = {
-steps: data.steps, speed: 1, step: () => step, playing: () => playing !== 0,
+steps: data.steps, first: data.first, all: data.all, speed: 1, step: () => step, playing: () => playing !== 0,
 go: (to, moved) => show(Math.max(0, Math.min(data.steps, to)), moved),
 find: (forwards, kinds, p, w) => run.find(step, forwards, kinds, p, w),
 pause: () => {
@@ -2153,12 +2231,14 @@ if (visible('panel-charts')) charts.show(step);
 if (visible('panel-timeline')) timeline.show(step);
 }
 function sayCaption() {
-const last = step > 0 ? storyText(data.story(step - 1)) : 'Nothing has happened yet.';
-const next = step < data.steps ? storyText(data.story(step)) : 'The run is over.';
+const last = step > 0 ? storyText(data.story(step - 1)) : data.first === 0 ? 'Nothing has happened yet.'
+: 'The page begins after ' + count(data.first, 'step') + '.';
+const next = step < data.steps ? storyText(data.story(step)) : data.first + step === data.all ? 'The run is over.'
+: 'The page ends here.';
 byId('caption').textContent = last;
 byId('caption').classList.toggle('long', last.length > 76);
 byId('next-line').textContent = next;
-if (!playing || player.speed <= 1) byId('said').textContent = 'After ' + step + ': ' + last;
+if (!playing || player.speed <= 1) byId('said').textContent = 'After ' + (data.first + step) + ': ' + last;
 }
 function show(to, moved) {
 const outcome = to > 0 ? outcomeOf(data.story(to - 1)) : null;
@@ -2171,8 +2251,8 @@ drawAll(outcome, moving, playing ? time : Math.min(time, 800));
 showPanels();
 controls.show(step);
 sayCaption();
-byId('drawing').setAttribute('aria-label', 'the machine after ' + count(step, 'step'));
-writeAddress(step);
+byId('drawing').setAttribute('aria-label', 'the machine after ' + count(data.first + step, 'step'));
+writeAddress(data.first + step);
 }
 function drawAll(outcome, moving, time) {
 if (map.on) {
@@ -2198,7 +2278,8 @@ if (!outcome) return;
 const element = stage.keyed.get(keyOfStep(outcome));
 if (element) element.classList.add('last');
 }
-const point = (key) => showDetail(key || detail.pinned || null, view, items, instructionAt);
+const facts = { instructionAt, consoleNow: (p) => run.consoleOf(p, step) };
+const point = (key) => showDetail(key || detail.pinned || null, view, items, facts);
 function lookAtLast() {
 if (data.k < 4) { fitCamera(); return; }
 const at = placeOfKey(step > 0 ? keyOfStep(outcomeOf(data.story(step - 1))) : 'p0');
@@ -2282,7 +2363,7 @@ setUpCamera();
 showMap(data.k >= 4);
 pressed('button-map', map.on);
 addEventListener('hashchange', (event) => {
-const to = stepInAddress(event.newURL, data.steps);
+const to = stepInAddress(event.newURL, data);
 if (to >= 0 && to !== step) goThere(to);
 });
 addEventListener('beforeprint', () => {
@@ -2295,7 +2376,7 @@ addEventListener('afterprint', () => {
 svg.removeAttribute('viewBox');
 placeCamera();
 });
-show(Math.max(0, stepInAddress(location.href, data.steps)));
+show(Math.max(0, stepInAddress(location.href, data)));
 fitCamera();
 run.learnAll((done) => {
 if (!done) return;

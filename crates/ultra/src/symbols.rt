@@ -52,6 +52,7 @@ fn symbols_of<'a>(settings: &Settings<'a>) -> Option<&'a str> {
         Settings::Order(order) => order.lines.style.symbols,
         Settings::Story(story) => story.lines.style.symbols,
         Settings::Picture(picture) => picture.symbols,
+        Settings::Page(page) => page.symbols,
         _ => None,
     }
 }
@@ -113,6 +114,7 @@ fn reads_standard_input(settings: &Settings<'_>) -> bool {
         Settings::Picture(picture) => {
             picture.replay.trace == STANDARD || picture.replay.file == STANDARD
         }
+        Settings::Page(page) => page.replay.trace == STANDARD || page.replay.file == STANDARD,
         _ => false,
     }
 }

@@ -13,6 +13,7 @@ use std::alloc::{AllocError, AllocGlobal, Global};
 use std::io::Write;
 use std::process::Abort;
 use std::test::Fail;
+use std::thread::Threads;
 use test_support::{Sink, assert_same, image_of, size};
 
 /// Keeps the traces in memory, in the order in which they are closed.
@@ -99,29 +100,38 @@ struct Ran {
     heard: Heard,
 }
 
-/// Hunts on this image, with a budget of 1,000 a run, and keeps the traces.
-fn hunted(image: &[u8], config: Config, start: u32, runs: u32, kept: Kept) -> Ran {
-    hunted_for(image, config, start, runs, kept, None, false)
-}
-
-/// Hunts in the same way. It is said which words are observed, and whether one result is expected.
-fn hunted_for(
-    image: &[u8],
-    config: Config,
-    start: u32,
-    runs: u32,
-    kept: Kept,
-    observed: Option<&ObservedWords>,
-    expect_one: bool,
-) -> Ran {
-    let alloc = kept.alloc;
-    let hunt = Hunt {
+/// This many runs, with a budget of 1,000 each.
+fn runs_from(start: u32, runs: u32) -> Hunt<'static> {
+    Hunt {
         budget: 1000,
         runs,
         start,
-        expect_one,
-        observed,
-    };
+        expect_one: false,
+        observed: None,
+    }
+}
+
+/// Hunts on this image on one thread, and keeps the traces.
+fn hunted<R: Threads + Sync>(
+    rt: &R,
+    image: &[u8],
+    config: Config,
+    hunt: Hunt<'_>,
+    kept: Kept,
+) -> Ran {
+    hunted_by(rt, 1, image, config, hunt, kept)
+}
+
+/// Hunts on this image on this many threads, and keeps the traces.
+fn hunted_by<R: Threads + Sync>(
+    rt: &R,
+    jobs: u8,
+    image: &[u8],
+    config: Config,
+    hunt: Hunt<'_>,
+    kept: Kept,
+) -> Ran {
+    let alloc = kept.alloc;
     let mut heard = Heard {
         runs: 0,
         results: 0,
@@ -131,6 +141,8 @@ fn hunted_for(
     let mut out = Meter::new(Vec::new(alloc));
     let mut err = Vec::new(alloc);
     let status = hunt_command(
+        rt,
+        jobs,
         alloc,
         &mut Meter::new(image),
         config,
@@ -183,7 +195,13 @@ fn one_result(rt: HostRuntime) -> Result<(), Fail> {
         ),
     ] {
         let image = image_of(alloc, text)?;
-        let ran = hunted(image.as_slice(), size(0), start, 3, keeping(alloc));
+        let ran = hunted(
+            &rt,
+            image.as_slice(),
+            size(0),
+            runs_from(start, 3),
+            keeping(alloc),
+        );
         assert_same!(rt; str::from_utf8(ran.out.as_slice())?, lines);
         assert_same!(rt; ran.err.len(), 0);
         assert_same!(rt; ran.status, status);
@@ -216,7 +234,13 @@ fn unfinished_runs(rt: HostRuntime) -> Result<(), Fail> {
     ] {
         let text = format!(in alloc; "{SECOND}{rest}")?;
         let image = image_of(alloc, text.as_str())?;
-        let ran = hunted(image.as_slice(), size(1), 8, 2, keeping(alloc));
+        let ran = hunted(
+            &rt,
+            image.as_slice(),
+            size(1),
+            runs_from(8, 2),
+            keeping(alloc),
+        );
         let printed = str::from_utf8(ran.out.as_slice())?;
         assert!(rt; printed.ends_with(last), "{printed}");
         assert_same!(rt; printed.contains("unfinished"), !last.is_empty());
@@ -234,7 +258,13 @@ const ADDS: &str = "lui x5, 0x80000\nlw x6, 0(x5)\naddi x6, x6, 1\nsw x6, 0(x5)\
 fn lost_add(rt: HostRuntime) -> Result<(), Fail> {
     let alloc = rt.alloc();
     let image = image_of(alloc, ADDS)?;
-    let ran = hunted(image.as_slice(), size(1), 1, 24, keeping(alloc));
+    let ran = hunted(
+        &rt,
+        image.as_slice(),
+        size(1),
+        runs_from(1, 24),
+        keeping(alloc),
+    );
     let text = str::from_utf8(ran.out.as_slice())?;
     assert!(rt; text.contains("word 0 00000001\n"), "{text}");
     assert!(rt; text.contains("word 0 00000002\n"), "{text}");
@@ -274,18 +304,39 @@ fn expected_results(rt: HostRuntime) -> Result<(), Fail> {
         (waits.as_str(), None, 2, UNFINISHED),
     ] {
         let image = image_of(alloc, text)?;
-        let ran = hunted_for(
-            image.as_slice(),
-            size(1),
-            1,
-            24,
-            keeping(alloc),
+        let hunt = Hunt {
+            expect_one: true,
             observed,
-            true,
-        );
+            ..runs_from(1, 24)
+        };
+        let ran = hunted(&rt, image.as_slice(), size(1), hunt, keeping(alloc));
         assert_same!(rt; ran.heard.results, results);
         assert_same!(rt; ran.status, status);
         assert_same!(rt; ran.err.len(), 0);
+    }
+    Ok(())
+}
+
+/// The number of threads changes nothing that a hunt prints and writes, with several results and with runs that are
+/// unfinished. The last of the batches is shorter than the others. After the greatest number of a run comes 0.
+#[test]
+fn number_of_threads(rt: HostRuntime) -> Result<(), Fail> {
+    let alloc = rt.alloc();
+    let waits = format!(in alloc; "{SECOND}wait: jal x0, wait\nfirst: ecall")?;
+    for (text, start, status) in [(ADDS, 4_294_967_290, 0), (waits.as_str(), 1, UNFINISHED)] {
+        let image = image_of(alloc, text)?;
+        let hunt = runs_from(start, 20);
+        let one = hunted(&rt, image.as_slice(), size(1), hunt, keeping(alloc));
+        assert_same!(rt; one.status, status);
+        assert_same!(rt; one.traces.len(), 2);
+        for jobs in [2, 7] {
+            let other = hunted_by(&rt, jobs, image.as_slice(), size(1), hunt, keeping(alloc));
+            assert_same!(rt; other.status, status);
+            assert_same!(rt; other.out.as_slice(), one.out.as_slice());
+            assert_same!(rt; other.err.len(), 0);
+            assert!(rt; other.traces == one.traces, "{jobs} threads");
+            assert_same!(rt; other.heard.runs, 20);
+        }
     }
     Ok(())
 }
@@ -299,11 +350,15 @@ fn two_of(traces: &Vec<(u32, Vec<u8>)>) -> Result<(&(u32, Vec<u8>), &(u32, Vec<u
 
 /// If a write of the second trace fails, the first is whole, the second is written up to the failure, and nothing is
 /// printed. If one of the traces is there already, nothing is written.
-fn cut_traces(rt: &(impl Abort + AllocGlobal), image: &[u8], ran: &Ran) -> Result<(), Fail> {
+fn cut_traces<R: Threads + Abort + Sync + AllocGlobal>(
+    rt: &R,
+    image: &[u8],
+    ran: &Ran,
+) -> Result<(), Fail> {
     let (first, second) = two_of(&ran.traces)?;
     let mut fails = keeping(rt.alloc());
     fails.fails = Some((second.0, 15));
-    let cut = hunted(image, size(1), 1, 24, fails);
+    let cut = hunted(rt, image, size(1), runs_from(1, 24), fails);
     assert_same!(rt; cut.status, 3);
     assert_same!(rt; cut.out.len(), 0);
     assert_same!(rt; cut.traces.len(), 2);
@@ -313,7 +368,7 @@ fn cut_traces(rt: &(impl Abort + AllocGlobal), image: &[u8], ran: &Ran) -> Resul
     assert_same!(rt; Some(part.1.as_slice()), second.1.as_slice().get(..14));
     let mut there = keeping(rt.alloc());
     there.there = Some(second.0);
-    let refused = hunted(image, size(1), 1, 24, there);
+    let refused = hunted(rt, image, size(1), runs_from(1, 24), there);
     let reported = format!(in rt.alloc(); "{} is there\n", second.0)?;
     assert_same!(rt; refused.status, 2);
     assert_same!(rt; refused.out.len(), 0);

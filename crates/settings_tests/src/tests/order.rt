@@ -1,4 +1,5 @@
-//! `order TRACE FILE` and its options, and `story`, which takes the same, but `--rounds` in place of `--abi`.
+//! `order TRACE FILE` and its options, and `story`, which takes the same, but `--network` and `--rounds` in place of
+//! `--abi`.
 
 /// Ways to ask for `order` and `story`.
 pub const TAKEN: &str = "\
@@ -28,19 +29,28 @@ Order(Order { lines: Lines { replay: Replay { trace: \"a.trace\", file: \"a.elf\
     processor: None, word: None, from: None, to: None, style: LineStyle { symbols: Some(\"a.elf\"), decimal: false, json: false } }, abi: true })
 $ ultra story a.trace a.elf
 Story(Story { lines: Lines { replay: Replay { trace: \"a.trace\", file: \"a.elf\", words: 1024 }, \
-    processor: None, word: None, from: None, to: None, style: LineStyle { symbols: None, decimal: false, json: false } }, rounds: false })
+    processor: None, word: None, from: None, to: None, style: LineStyle { symbols: None, decimal: false, json: false } }, \
+    network: false, rounds: false })
 $ ultra story --symbols=names.txt a.trace a.elf
 Story(Story { lines: Lines { replay: Replay { trace: \"a.trace\", file: \"a.elf\", words: 1024 }, \
-    processor: None, word: None, from: None, to: None, style: LineStyle { symbols: Some(\"names.txt\"), decimal: false, json: false } }, rounds: false })
+    processor: None, word: None, from: None, to: None, style: LineStyle { symbols: Some(\"names.txt\"), decimal: false, json: false } }, \
+    network: false, rounds: false })
 $ ultra story --processor 1 --word 2 --from 0 a.trace a.elf --to 5 --words 7 --json
 Story(Story { lines: Lines { replay: Replay { trace: \"a.trace\", file: \"a.elf\", words: 7 }, \
-    processor: Some(1), word: Some(2), from: Some(0), to: Some(5), style: LineStyle { symbols: None, decimal: false, json: true } }, rounds: false })
+    processor: Some(1), word: Some(2), from: Some(0), to: Some(5), style: LineStyle { symbols: None, decimal: false, json: true } }, \
+    network: false, rounds: false })
 $ ultra story a.trace --rounds a.elf
 Story(Story { lines: Lines { replay: Replay { trace: \"a.trace\", file: \"a.elf\", words: 1024 }, \
-    processor: None, word: None, from: None, to: None, style: LineStyle { symbols: None, decimal: false, json: false } }, rounds: true })
+    processor: None, word: None, from: None, to: None, style: LineStyle { symbols: None, decimal: false, json: false } }, \
+    network: false, rounds: true })
+$ ultra story --network a.trace a.elf
+Story(Story { lines: Lines { replay: Replay { trace: \"a.trace\", file: \"a.elf\", words: 1024 }, \
+    processor: None, word: None, from: None, to: None, style: LineStyle { symbols: None, decimal: false, json: false } }, \
+    network: true, rounds: false })
 $ ultra story --decimal a.trace a.elf
 Story(Story { lines: Lines { replay: Replay { trace: \"a.trace\", file: \"a.elf\", words: 1024 }, \
-    processor: None, word: None, from: None, to: None, style: LineStyle { symbols: None, decimal: true, json: false } }, rounds: false })
+    processor: None, word: None, from: None, to: None, style: LineStyle { symbols: None, decimal: true, json: false } }, \
+    network: false, rounds: false })
 ";
 
 /// Parts of the help.
@@ -66,6 +76,9 @@ DisplayHelp
 $ ultra story --help
 DisplayHelp
 --from <NUMBER>       Print no line before the line of this number, 0 to 4294967295
+$ ultra story --help
+DisplayHelp
+--network             Print only what the network does: moves of messages, and services
 $ ultra story --help
 DisplayHelp
 --rounds              Print `round N` before the first printed step of each round of the sweep

@@ -17,7 +17,7 @@ pub fn compare_first(rt: &(impl Abort + AllocGlobal), most: usize) -> bool {
 }
 
 /// Command lines with a number out of its range: the option, the number and the range.
-static OUT_OF_RANGE: [(&str, &str, &str, &str); 37] = [
+static OUT_OF_RANGE: [(&str, &str, &str, &str); 39] = [
     ("dis --words 0 a.elf", "--words", "0", "1..=262144"),
     (
         "dis a.elf --words=262145",
@@ -145,6 +145,8 @@ static OUT_OF_RANGE: [(&str, &str, &str, &str); 37] = [
         "1..=4000000",
     ),
     ("hunt a.elf --start=-1", "--start", "-1", "0..=4294967295"),
+    ("hunt a.elf --jobs 0", "--jobs", "0", "1..=64"),
+    ("hunt a.elf --jobs 65", "--jobs", "65", "1..=64"),
 ];
 
 fn out_of_range(rt: &(impl Abort + AllocGlobal), most: usize) -> bool {

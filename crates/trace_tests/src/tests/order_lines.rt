@@ -191,6 +191,7 @@ fn choices(rt: HostRuntime) {
             word,
             from: None,
             to: None,
+            network: false,
         };
         assert_same!(rt; choice.takes(0, there, on), is_taken, (&choice, &there, &on));
     }

@@ -94,6 +94,7 @@ fn two_adds_combine(rt: HostRuntime) -> Result<(), Fail> {
             word,
             from,
             to,
+            network: false,
         };
         let ran = run(
             alloc,

@@ -119,26 +119,30 @@ fn chosen_lines(rt: HostRuntime) -> Result<(), Fail> {
     let image = image_of(alloc, ADD_AT_X12)?;
     let trace = trace_of(alloc, (2, 4, 4), &FOUR_ADDS)?;
     for ((processor, word), (from, to), numbers) in CHOICES {
-        let choice = Choice {
-            processor,
-            word,
-            from,
-            to,
-        };
-        let story = Asked::Story(choice);
-        let ran = run(alloc, story, trace.as_slice(), Ok(image.as_slice()), 1);
-        let lines = lines_of(alloc, numbers)?;
-        assert_same!(rt; ran.out.as_slice(), lines.as_bytes(), choice);
-        assert_same!(rt; ran.status, 0, choice);
+        for network in [false, true] {
+            let choice = Choice {
+                processor,
+                word,
+                from,
+                to,
+                network,
+            };
+            let story = Asked::Story(choice);
+            let ran = run(alloc, story, trace.as_slice(), Ok(image.as_slice()), 1);
+            let lines = lines_of(alloc, numbers, network)?;
+            assert_same!(rt; ran.out.as_slice(), lines.as_bytes(), choice);
+            assert_same!(rt; ran.status, 0, choice);
+        }
     }
     Ok(())
 }
 
-/// The lines of the whole trace that have these numbers.
-fn lines_of(alloc: Global, numbers: &[usize]) -> Result<String, AllocError> {
+/// The lines of the whole trace that have these numbers, or those of the network among them: lines 13 to 22 are moves and
+/// a service.
+fn lines_of(alloc: Global, numbers: &[usize], network: bool) -> Result<String, AllocError> {
     let mut lines = String::new(alloc);
     for (number, line) in GOING_UP.lines().chain(BY_THE_TRACE.lines()).enumerate() {
-        if numbers.contains(&number) {
+        if numbers.contains(&number) && (!network || (number >= 13 && number <= 22)) {
             lines.push_str(line)?;
             lines.push('\n')?;
         }
@@ -211,6 +215,7 @@ fn marked_rounds(rt: HostRuntime) -> Result<(), Fail> {
             word: None,
             from,
             to: None,
+            network: false,
         };
         let asked = Asked::Rounds(choice);
         let ran = run(alloc, asked, trace.as_slice(), Ok(image.as_slice()), 1);
@@ -219,7 +224,7 @@ fn marked_rounds(rt: HostRuntime) -> Result<(), Fail> {
             if *round > 0 {
                 write!(lines, "round {round}\n")?;
             }
-            lines.push_str(lines_of(alloc, &[*number])?.as_str())?;
+            lines.push_str(lines_of(alloc, &[*number], false)?.as_str())?;
         }
         assert_same!(rt; str::from_utf8(ran.out.as_slice())?, lines.as_str(), choice);
         assert_same!(rt; ran.status, 0, choice);

@@ -115,8 +115,9 @@ complete -c ultra -n '__ultra_has_command hunt' -l words -x -d 'Shared words of 
 complete -c ultra -n '__ultra_has_command hunt' -l budget -x -d 'Steps that each run may take, 1 to 4000000 [default: 100000]'
 complete -c ultra -n '__ultra_has_command hunt' -l runs -x -d 'Runs to take, 1 to 1000000 [default: 1000]'
 complete -c ultra -n '__ultra_has_command hunt' -l start -x -d 'Number of the first run, which decides its choices, 0 to 4294967295; the next run has the next number [default: 1]'
+complete -c ultra -n '__ultra_has_command hunt' -l jobs -x -a '1 2 3 4 5 6 7 8 9 10 11 12 13 14 15 16 17 18 19 20 21 22 23 24 25 26 27 28 29 30 31 32 33 34 35 36 37 38 39 40 41 42 43 44 45 46 47 48 49 50 51 52 53 54 55 56 57 58 59 60 61 62 63 64' -d 'Threads that take the runs, 1 to 64; what is printed is the same with any number [default: the host\'s processors]'
 complete -c ultra -n '__ultra_has_command hunt' -l help -d 'Print help'
-complete -c ultra -n '__ultra_wants_more hunt 1 --trace --observe --symbols --k --c --b --r --words --budget --runs --start' -F
+complete -c ultra -n '__ultra_wants_more hunt 1 --trace --observe --symbols --k --c --b --r --words --budget --runs --start --jobs' -F
 
 complete -c ultra -n '__ultra_has_command explore' -l trace -r -F -d 'Where to write the steps to the result of --witness, those of a lasso, or those that break a property, for `ultra replay`; opened then'
 complete -c ultra -n '__ultra_has_command explore' -l observe -x -d 'Words by which results differ, as `0-3,8`; they are printed without others [default: all]'
@@ -168,6 +169,7 @@ complete -c ultra -n '__ultra_has_command story' -l word -x -d 'Print the lines 
 complete -c ultra -n '__ultra_has_command story' -l from -x -d 'Print no line before the line of this number, 0 to 4294967295'
 complete -c ultra -n '__ultra_has_command story' -l to -x -d 'Print no line after the line of this number, 0 to 4294967295'
 complete -c ultra -n '__ultra_has_command story' -l symbols -r -F -d 'Print names beside addresses and words, from the symbol table of an ELF file or from what `nm` prints; not with --json'
+complete -c ultra -n '__ultra_has_command story' -l network -d 'Print only what the network does: moves of messages, and services'
 complete -c ultra -n '__ultra_has_command story' -l rounds -d 'Print `round N` before the first printed step of each round of the sweep'
 complete -c ultra -n '__ultra_has_command story' -l decimal -d 'Print values in decimal, in two\'s complement; not with --json'
 complete -c ultra -n '__ultra_has_command story' -l json -d 'Print each line as a JSON object'
@@ -189,8 +191,11 @@ complete -c ultra -n '__ultra_has_command picture' -l help -d 'Print help'
 complete -c ultra -n '__ultra_wants_more picture 2 --words --step --symbols' -F
 
 complete -c ultra -n '__ultra_has_command page' -l words -x -d 'Shared words of four bytes that the machine has, 1 to 262144 [default: 1024]'
+complete -c ultra -n '__ultra_has_command page' -l from -x -d 'Begin with the step of this number, 0 to 4294967295 [default: 0]'
+complete -c ultra -n '__ultra_has_command page' -l steps -x -d 'Play at most this many steps, 1 to 500000 [default: all, of which a trace may have 500000]'
+complete -c ultra -n '__ultra_has_command page' -l symbols -r -F -d 'Show names of words and program counters, from the symbol table of an ELF file or from what `nm` prints'
 complete -c ultra -n '__ultra_has_command page' -l help -d 'Print help'
-complete -c ultra -n '__ultra_wants_more page 2 --words' -F
+complete -c ultra -n '__ultra_wants_more page 2 --words --from --steps --symbols' -F
 
 complete -c ultra -n '__ultra_has_command study' -l k -x -d 'Stages of the networks, numbers and ranges from 0 to 6 that ascend, as `0..3,6` [default: 0..6]'
 complete -c ultra -n '__ultra_has_command study' -l b -x -d 'Records that an output of a switch holds, 0 to 16, as `0,4`; with 0 nothing is combined [default: 4]'

@@ -10,7 +10,7 @@ pub returns : goal.returns
 returns c =
     let once : nows c.deref.result.now ≡ lines_of c.args.text.now = ap nows c.deref.ensures.value ∙ c.in_ok-lines.ensures in
     let again : nows c.deref-2.result.now ≡ lines_of c.args.text.now = ap nows c.deref-2.ensures.value ∙ c.in_ok-lines.ensures in
-    let end : place_of c.in_ok-end.end ≡ end_place c.args.text.now = c.in_ok-end.ensures ∙ ap (fold after start) once in
+    let end : place_of c.in_ok-end.end ≡ end_place c.args.text.now = c.in_ok-end.ensures.place ∙ ap (fold after start) once in
     let values : label_values c.in_ok-end.end.labels ≡ labels_of (lines_of c.args.text.now) = ap (λ (p : Place). p.labels) end in
     record {
       labels = c.in_ok-labels.labels.items;

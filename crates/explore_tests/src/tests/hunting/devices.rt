@@ -1,6 +1,6 @@
 //! Refusals, writes that fail, and a test of which `tests/cli/memory.sh` refuses each request for memory in turn.
 
-use super::{Kept, hunted, keeping, size};
+use super::{Kept, hunted, keeping, runs_from, size};
 use hunt_command::{Hunt, NoHuntProgress, hunt_command};
 use link::Meter;
 use std::test::Fail;
@@ -24,7 +24,7 @@ fn refusals(rt: HostRuntime) {
         (&EBREAK[..51], 0, b"ultra: I1\n".as_slice()),
         (&EBREAK[..], 7, b"ultra: K1\n"),
     ] {
-        let ran = hunted(image, size(k), 1, 1, keeping(alloc));
+        let ran = hunted(&rt, image, size(k), runs_from(1, 1), keeping(alloc));
         assert_same!(rt; ran.err.as_slice(), reported);
         assert_same!(rt; ran.out.len(), 0);
         assert_same!(rt; ran.status, 2);
@@ -51,6 +51,8 @@ fn writes_that_fail(rt: HostRuntime) {
         let mut file = Meter::new(EBREAK.as_slice());
         let observer = &mut NoHuntProgress;
         let status = hunt_command(
+            &rt,
+            1,
             alloc,
             &mut file,
             size(0),
@@ -75,6 +77,8 @@ fn short_of_memory(rt: HostRuntime) -> Result<(), Fail> {
     let mut file = Meter::new(EBREAK.as_slice());
     let observer = &mut NoHuntProgress;
     let status = hunt_command(
+        &rt,
+        1,
         alloc,
         &mut file,
         size(0),

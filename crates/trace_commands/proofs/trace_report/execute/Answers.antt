@@ -11,7 +11,7 @@ returns-clause-printed g c =
     let reports = g.A.TraceReport.reports c.args.trace_report.now in
     IfOk-weaker c.print_trace.result _ _
     (λ status. prints_weaker (OfTrace reports c.in_ok-trace.trace c.args.shared_words) reports (trace_input read image c.args.shared_words)
-    (output {W = g.row.W.Denot} g.W.Write.contents g.W.Link.has_failed c.args.out.now c.print_trace.new.out) status (λ d i steps text p. p.1))
+    (output {W = g.row.W.Denot} g.W.Write.contents g.W.Link.has_failed c.args.out.now c.print_trace.new.out) status (λ d i steps text p. p.2))
     (c.print_trace.ensures.printed read c.in_ok-trace.ensures.trace)
 
 pub returns-clause-fault : goal.returns-clause-fault

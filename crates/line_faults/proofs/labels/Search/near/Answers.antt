@@ -1,4 +1,4 @@
-use Rattle.std.proofs.Common.{List, ℕ, Bor, subst, sym, ◌∙◌, ◌∷◌}
+use Rattle.std.proofs.Common.{List, ℕ, Bor, subst, sym, ◌∙◌}
 use Rattle.std.specs.Prelude.{All, IfSome, IsSome}
 use Rattle.std.proofs.lemmas.List.Elements.{All-weaker, All-head, All-tail}
 use Rattle.line_faults.specs.AdviceAtFault.{IsNearLabel}
