@@ -349,9 +349,10 @@ check 'the result of 64 processors that halt with 64 numbers has a witness, with
 # A witness without a trace, a trace without a witness or --fair, a trace of a lasso that there is not, and a trace that
 # would overwrite the image are refused, and no file is opened.
 refuses_half_a_witness() {
-    local half='error: --witness goes with --trace, and --trace with --witness or --fair'
+    local half='error: --witness goes with --trace or --page, and these with --witness or --fair'
     cp "$room/counter.elf" "$room/same.elf"
     ends 2 "$half" ./ultra explore --witness 1 "$room/none.elf" && ends 2 "$half" ./ultra explore --trace "$room/witness" "$room/none.elf" &&
+        ends 2 "$half" ./ultra explore --page "$room/witness" "$room/none.elf" &&
         ends 2 "$half" ./ultra explore --fair --witness 1 "$room/none.elf" &&
         ends 2 'error: no fair schedule is known that never ends' ./ultra explore --fair --trace "$room/witness" "$room/counter.elf" &&
         ends 2 'error: OUT is the same file as FILE' ./ultra explore --witness 1 --trace "$room/same.elf" "$room/same.elf" &&
@@ -372,12 +373,32 @@ shows_a_lasso() {
 }
 check 'the trace of a lasso has the references of its stem and of one turn round its cycle' shows_a_lasso
 
+# The page of a witness and that of a lasso are those of their traces, beside them or alone, with names, also on a machine
+# that combines twice and of an image from standard input.
+writes_pages_of_searches() {
+    local options named
+    ./ultra asm --symbols "$room/polite.map" examples/explore/polite.s "$room/polite.elf" || return 1
+    for options in --fair '--fair --r 2' '--witness 1' "--witness 1 --symbols $room/polite.map"; do
+        rm -f "$room"/searched.*
+        named=()
+        [[ $options != *symbols* ]] || named=(--symbols "$room/polite.map")
+        # shellcheck disable=SC2086 # the options are words
+        ./ultra explore --k 1 $options --trace "$room/searched.trace" "$room/polite.elf" >"$room/results" &&
+            ./ultra explore --k 1 $options --trace "$room/searched.again" --page "$room/searched.html" "$room/polite.elf" | diff "$room/results" - &&
+            ./ultra explore --k 1 $options --page "$room/searched.alone" - <"$room/polite.elf" | diff "$room/results" - &&
+            cmp "$room/searched.trace" "$room/searched.again" && cmp "$room/searched.html" "$room/searched.alone" || { echo "$options" && return 1; }
+        ./ultra page "${named[@]}" "$room/searched.trace" "$room/polite.elf" | cmp - "$room/searched.html" ||
+            { echo "$options" && return 1; }
+    done
+}
+check 'explore writes the pages of a witness and of a lasso' writes_pages_of_searches
+
 # With --every a witness or a trace is refused. Nothing else is printed, and no file is opened.
 refuses_a_witness_of_every_size() {
     local options
-    for options in '--witness 1' "--trace $room/witness" "--witness 1 --trace $room/witness" "--witness 0 --each --trace $room/witness"; do
+    for options in '--witness 1' "--trace $room/witness" "--page $room/witness" "--witness 1 --trace $room/witness" "--witness 0 --each --trace $room/witness"; do
         # shellcheck disable=SC2086 # the options are words
-        ends 2 'error: --every goes with none of --fair, --witness and --trace' ./ultra explore --every $options "$room/counter.elf" &&
+        ends 2 'error: --every goes with none of --fair, --witness, --trace and --page' ./ultra explore --every $options "$room/counter.elf" &&
             [ ! -e "$room/witness" ] || { echo "$options" && return 1; }
     done
 }
@@ -471,9 +492,9 @@ END
 refuses_a_specification() {
     local options
     ./ultra asm examples/explore/lost_adds.s "$room/lost.elf" || return 1
-    for options in --every '--witness 1' "--trace $room/witness"; do
+    for options in --every '--witness 1' "--trace $room/witness" "--page $room/witness"; do
         # shellcheck disable=SC2086 # the options are words
-        ends 2 'error: --against goes with none of --every, --fair, --witness and --trace' \
+        ends 2 'error: --against goes with none of --every, --fair, --witness, --trace and --page' \
             ./ultra explore --against "$room/lost.elf" $options "$room/counter.elf" && [ ! -e "$room/witness" ] || { echo "$options" && return 1; }
     done
     ends 2 'error: standard input is asked for twice' ./ultra explore --against - - &&

@@ -37,7 +37,7 @@ ended_with() {
 #   10e:2      10 that write to standard error; the status is 2 nevertheless
 # A failing call is interrupted, or, if it is the first or the last write of its part, takes no byte. The second line
 # of the error says what the call was on: an image is the last of the words, another file that is read the first after
-# the command. For the trace of a hunt there is no second line.
+# the command.
 fails_each_call() {
     local parts=$1 output how number part kind told before ended many read written
     IFS= read -r -d '' output <"$2"
@@ -49,7 +49,6 @@ fails_each_call() {
             many=${part%%[a-z]*} told=${part#*:} kind=${part#"$many"} kind=${kind%%:*}
             read=$2 written=$'\n'"  ${saved:=$room/saved.trace}: ${whys[$how]}"
             [ "$told" != I9 ] || read=${*: -1}
-            [ "$1" != hunt ] || written=
             for ((number = 1; number <= many; number++)); do
                 # A picture and a page have many bytes, so only some fifty calls fail.
                 [ "$how" = interrupted ] && ((many < 1000 || number % (many / 50) == 1 || number == many)) ||
@@ -124,7 +123,12 @@ fails_a_search() {
     # The steps to the fault, which breaks a property, are those of the run.
     saved=$room/saved.trace
     printf 'never any fault: broken\nway\n' >"$room/ample"
-    fails_each_call "89r:I9 24t:X5 $(stat -c %s "$room/ample")w:link" "$room/ample" explore --k 0 --never 'any fault' --trace "$saved" "$room/ebreak.elf"
+    fails_each_call "89r:I9 24t:X5 $(stat -c %s "$room/ample")w:link" "$room/ample" explore --k 0 --never 'any fault' --trace "$saved" "$room/ebreak.elf" || return 1
+    # So is their page.
+    mv "$room/ample.trace" "$room/steps.trace" && saved=$room/saved.html
+    ./ultra page "$room/steps.trace" "$room/ebreak.elf" >"$room/ample.trace"
+    fails_each_call "89r:I9 $(stat -c %s "$room/ample.trace")t:X5 $(stat -c %s "$room/ample")w:link" "$room/ample" \
+        explore --k 0 --never 'any fault' --page "$saved" "$room/ebreak.elf"
 }
 check 'explore, study and hunt report any call that fails, and keep the bytes written before it: I9, X5 or link, status 3' fails_a_search
 

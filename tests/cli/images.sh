@@ -119,7 +119,8 @@ keeps_what_it_reads() {
     cp "$room/kept/a.elf" "$room/kept/hunted1.trace" &&
         ends 2 "error: $room/kept/hunted1.trace exists: use --overwrite" \
             ./ultra hunt --k 1 --runs 1 --trace "$room/kept/hunted" "$room/kept/hunted1.trace" &&
-        ends 3 'ultra: X5' ./ultra hunt --overwrite --k 1 --runs 1 --trace "$room/kept/hunted" "$room/kept/hunted1.trace" &&
+        ends_with_code 3 X5 "$room/kept/hunted1.trace: entity already exists" \
+            ./ultra hunt --overwrite --k 1 --runs 1 --trace "$room/kept/hunted" "$room/kept/hunted1.trace" &&
         cmp "$room/kept/a.elf" "$room/kept/hunted1.trace"
 }
 check 'OUT that is FILE itself is refused, with status 2, and FILE stays as it was' keeps_what_it_reads

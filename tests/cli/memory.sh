@@ -232,6 +232,16 @@ refuses_memory_of_a_counterexample() {
 }
 check 'a property without memory for one request reports memory, status 4, or has its verdict and its trace' refuses_memory_of_a_counterexample
 
+# Here the file is a page.
+refuses_memory_of_pages() {
+    ./ultra explore --k 0 --witness 1 --page "$room/ample.trace" "$room/three.elf" >"$room/results" &&
+        refuses_each_request 0 "$room/results" /dev/null explore --k 0 --witness 1 --page "$room/saved.trace" "$room/three.elf" || return 1
+    ./ultra hunt --jobs 1 --k 0 --runs 1 --page "$room/ample" "$room/three.elf" >"$room/results" &&
+        refuses_each_request 0 "$room/results" /dev/null hunt --overwrite --jobs 1 --k 0 --runs 1 --page "$room/saved" "$room/three.elf" &&
+        cmp "$room/ample1.html" "$room/saved1.html"
+}
+check 'explore and hunt without memory for one request report memory, status 4, or write their pages' refuses_memory_of_pages
+
 # without_a_size LINE: standard input with one size not explored. LINE is `N:k K: ..`, the number of its line and the
 # line.
 without_a_size() {

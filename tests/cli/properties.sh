@@ -93,7 +93,7 @@ check 'a property of a processor that spins' spins
 
 # What is refused before the file is opened.
 refuses_properties() {
-    local text='error: --never, --always and --finally exclude each other, and other options than the sizes, --states, --seconds, --symbols, --trace and --quiet'
+    local text='error: --never, --always and --finally exclude each other, and other options than the sizes, --states, --seconds, --symbols, --trace, --page and --quiet'
     local what='is not `word N OP V` with N in 0..=1023, `at A-B OP V`, `running OP V`, `halted OP V`, `faulted OP V` or `any fault`; names for N, A and B are those of --symbols'
     ends 2 "$text" ./ultra explore --never 'any fault' --always 'any fault' none.elf &&
         ends 2 "$text" ./ultra explore --never 'any fault' --json none.elf &&
@@ -113,6 +113,48 @@ refuses_properties() {
     ends_with_code 3 link "none.elf: $no_such_file" ./ultra explore --symbols "$room/names" --never 'at inside-inside+8 > 1|word half+2 > 1' none.elf
 }
 check 'properties that are refused' refuses_properties
+
+# The page of a counterexample is that of its trace, beside it or alone, with the names of the condition. If the property
+# holds, none is opened.
+writes_the_page_of_a_counterexample() {
+    local ended=0 judged=(./ultra explore --k 1 --symbols "$room/sum.map" --finally)
+    echo '80000000 00000004 d sum' >"$room/sum.map" && ./ultra asm examples/explore/lost_adds.s "$room/lost.elf" || return 1
+    "${judged[@]}" 'word sum == 2' "$room/lost.elf" >"$room/verdict"
+    "${judged[@]}" 'word sum == 2' --trace "$room/lost.trace" --page "$room/lost.html" "$room/lost.elf" >"$room/out" || ended=$?
+    diff <(echo 1) <(echo "$ended") && diff "$room/verdict" "$room/out" && ended=0 || return 1
+    "${judged[@]}" 'word sum == 2' --page "$room/alone.html" - <"$room/lost.elf" >"$room/out" || ended=$?
+    diff <(echo 1) <(echo "$ended") && diff "$room/verdict" "$room/out" && cmp "$room/alone.html" "$room/lost.html" &&
+        ./ultra page --symbols "$room/sum.map" "$room/lost.trace" "$room/lost.elf" | cmp - "$room/lost.html" &&
+        grep -x '80000000 00000004 sum' "$room/lost.html" &&
+        "${judged[@]}" 'word sum > 0' --page "$room/none.html" "$room/lost.elf" && [ ! -e "$room/none.html" ]
+}
+check 'the page of a counterexample plays its trace, with names' writes_the_page_of_a_counterexample
+
+# Where no page is written: as no trace, nor to the trace, by the same path or another.
+refuses_to_write_a_page() {
+    ./ultra asm --symbols "$room/lost.map" examples/explore/lost_adds.s "$room/lost.elf" && cp "$room/lost.elf" "$room/kept.elf" && cp "$room/lost.map" "$room/kept.map" &&
+        : >"$room/there" && ln -s there "$room/link" || return 1
+    local judged=(./ultra explore --k 1 --finally 'word 0 == 2')
+    ends 2 'error: OUT is the same file as FILE' "${judged[@]}" --page "$room/lost.elf" "$room/lost.elf" && cmp "$room/kept.elf" "$room/lost.elf" &&
+        ends 2 'error: OUT is the same file as FILE' "${judged[@]}" --symbols "$room/lost.map" --page "$room/lost.map" "$room/lost.elf" &&
+        cmp "$room/kept.map" "$room/lost.map" &&
+        ends 2 'error: a page of a run is not written to standard output' "${judged[@]}" --page - "$room/lost.elf" &&
+        ends 2 'error: --page and --trace name the same file' "${judged[@]}" --page "$room/new" --trace "$room/new" "$room/lost.elf" && [ ! -e "$room/new" ] &&
+        ends 2 'error: --page and --trace name the same file' "${judged[@]}" --page "$room/link" --trace "$room/there" "$room/lost.elf" &&
+        ends_with_code 3 X5 "$room/none/p: $no_such_file" "${judged[@]}" --page "$room/none/p" --states 1 "$room/lost.elf" &&
+        ends_with_code 3 X5 "/dev/full: $no_space_left" "${judged[@]}" --page /dev/full "$room/lost.elf" &&
+        ends_with_code 3 X5 "/dev/full: $no_space_left" "${judged[@]}" --page /dev/full --trace "$room/whole.trace" "$room/lost.elf" &&
+        ./ultra replay "$room/whole.trace" "$room/lost.elf" | tail -n 1 | diff <(echo 'word 0 00000001') -
+}
+check 'the page of a counterexample is refused where no page can be written: status 2 or X5' refuses_to_write_a_page
+
+# The trace and the page that are not there yet name one file by two paths: the page does not replace the trace.
+keeps_the_trace_from_the_page() {
+    ./ultra asm examples/explore/lost_adds.s "$room/lost.elf" && (
+        cd "$room" && ends_with_code 3 X5 './one: entity already exists' "$OLDPWD/ultra" explore --k 1 --finally 'word 0 == 2' --trace one --page ./one lost.elf
+    ) && ./ultra replay "$room/one" "$room/lost.elf" | tail -n 1 | diff <(echo 'word 0 00000001') -
+}
+check 'the page of a counterexample does not replace its trace' keeps_the_trace_from_the_page
 
 # Where no trace is written: over the image or the names, to standard output, to a missing folder, and to a full device.
 # Each but the last is refused before the search, and the device before the verdict is printed.
@@ -181,7 +223,7 @@ refuses_filters() {
         ends 2 "$text" ./ultra explore --filter 'any fault' --against other.elf none.elf &&
         ends 2 "error: invalid value 'any fault|word 16 == 0' for '--filter <CONDITION>': 'word 16 == 0' $what" \
             ./ultra explore --words 16 --filter 'any fault|word 16 == 0' none.elf &&
-        ends 2 'error: --never, --always and --finally exclude each other, and other options than the sizes, --states, --seconds, --symbols, --trace and --quiet' \
+        ends 2 'error: --never, --always and --finally exclude each other, and other options than the sizes, --states, --seconds, --symbols, --trace, --page and --quiet' \
             ./ultra explore --never 'any fault' --filter 'any fault' none.elf
 }
 check 'conditions on results that are refused' refuses_filters

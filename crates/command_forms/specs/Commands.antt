@@ -86,6 +86,10 @@ last_line = record { name = codes "to"; low = 0; high = 4294967295 }
 abbrev pub jobs : Bounds
 jobs = record { name = codes "jobs"; low = 1; high = 64 }
 
+-- the depth of the bugs that a hunt by priorities looks for
+abbrev pub depth : Bounds
+depth = record { name = codes "depth"; low = 1; high = 16 }
+
 -- the seconds after which an exploration gives up
 abbrev pub seconds : Bounds
 seconds = record { name = codes "seconds"; low = 1; high = 4294967295 }
@@ -190,15 +194,16 @@ run_command = command (codes "run")
 
 unfoldable pub hunt_command : App
 hunt_command = command (codes "hunt")
-    (file ∷ option (codes "trace") ∷ option (codes "observe") ∷ flag (codes "overwrite") ∷ flag (codes "expect-one")
-    ∷ flag (codes "quiet") ∷ symbols ∷ decimal ∷ json
-    ∷ (sizes ++ (number steps.bounds ∷ number runs.bounds ∷ number start.bounds ∷ number jobs ∷ [])))
+    (file ∷ option (codes "trace") ∷ option (codes "page") ∷ option (codes "observe") ∷ option (codes "schedule")
+    ∷ flag (codes "overwrite") ∷ flag (codes "expect-one") ∷ flag (codes "quiet") ∷ symbols ∷ decimal ∷ json
+    ∷ (sizes
+    ++ (number steps.bounds ∷ number runs.bounds ∷ number start.bounds ∷ number jobs ∷ number depth ∷ [])))
 
 unfoldable pub explore_command : App
 explore_command = command (codes "explore")
-    (file ∷ option (codes "trace") ∷ option (codes "observe") ∷ option (codes "filter") ∷ option (codes "against")
-    ∷ option (codes "never") ∷ option (codes "always") ∷ option (codes "finally") ∷ flag (codes "each")
-    ∷ flag (codes "fair") ∷ flag (codes "every") ∷ flag (codes "quiet") ∷ symbols ∷ decimal ∷ json
+    (file ∷ option (codes "trace") ∷ option (codes "page") ∷ option (codes "observe") ∷ option (codes "filter")
+    ∷ option (codes "against") ∷ option (codes "never") ∷ option (codes "always") ∷ option (codes "finally")
+    ∷ flag (codes "each") ∷ flag (codes "fair") ∷ flag (codes "every") ∷ flag (codes "quiet") ∷ symbols ∷ decimal ∷ json
     ∷ (sizes ++ (number states.bounds ∷ number seconds ∷ number witness ∷ [])))
 
 unfoldable pub replay_command : App

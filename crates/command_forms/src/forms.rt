@@ -15,9 +15,10 @@ use crate::help::{
     TRACE_ENDS, WORDS_ENDS,
 };
 use crate::ranges::{
-    BUDGET, COMBINATIONS, ChoiceOption, FIRST_LINE, FIRST_START, FIRST_STEP, JOBS, LAST_LINE,
-    NumberOption, PORT, PROCESSOR, QUEUE, RECORDS, RUN_STEPS, RUNS, SECONDS, SHARED_WORD,
-    SHARED_WORDS, STAGES, START, STATES, STEP, STEP_COUNT, STEPS, SWEEP_STEPS, WITNESS,
+    BUDGET, COMBINATIONS, ChoiceOption, DEPTH, FIRST_LINE, FIRST_START, FIRST_STEP, JOBS,
+    LAST_LINE, NumberOption, PORT, PROCESSOR, QUEUE, RECORDS, RUN_STEPS, RUNS, SECONDS,
+    SHARED_WORD, SHARED_WORDS, STAGES, START, STATES, STEP, STEP_COUNT, STEPS, SWEEP_STEPS,
+    WITNESS,
 };
 
 /// A command of the program.
@@ -223,13 +224,23 @@ const HUNT: CommandForm = CommandForm {
             help: "Write a trace for each result, for `ultra replay`, to PREFIX followed by the run's number and `.trace`",
         },
         Argument::Text {
+            name: "page",
+            value: "PREFIX",
+            help: "Write a page for each result, which plays its first run, to PREFIX followed by the run's number and `.html`",
+        },
+        Argument::Text {
             name: "observe",
             value: "LIST",
             help: "Words by which runs differ, as `0-3,8`; results have no others [default: all]",
         },
+        Argument::Text {
+            name: "schedule",
+            value: "NAME",
+            help: "How a run picks the processor of each turn: random, pct or sweep-like [default: random]",
+        },
         Argument::Flag {
             name: "overwrite",
-            help: "Overwrite traces that exist; without it the hunt is refused if one does",
+            help: "Overwrite traces and pages that exist; without it the hunt is refused if one does",
         },
         Argument::Flag {
             name: "expect-one",
@@ -248,6 +259,7 @@ const HUNT: CommandForm = CommandForm {
         Argument::Number(RUNS),
         Argument::Number(FIRST_START),
         Argument::Choice(JOBS),
+        Argument::Choice(DEPTH),
     ],
     ends: HUNT_ENDS,
 };
@@ -261,6 +273,11 @@ const EXPLORE: CommandForm = CommandForm {
             name: "trace",
             value: "OUT",
             help: "Where to write the steps to the result of --witness, those of a lasso, or those that break a property, for `ultra replay`; opened then",
+        },
+        Argument::Text {
+            name: "page",
+            value: "OUT",
+            help: "Where to write a page for a browser that plays the same steps, as `ultra page` makes it",
         },
         Argument::Text {
             name: "observe",

@@ -315,10 +315,10 @@ With --against SPEC the results of the image SPEC are found too, on a machine of
 those results of FILE that SPEC does not have, by their statuses, consoles and observed words, and not by pc;
 and a last line such as `1 of 2 observed results is not among the 1 of SPEC`, or `all 2 observed results are
 among the 3 of SPEC`. Alike processors are not exchanged, so the numbers are those of --each. It excludes
---every, --fair, --witness and --trace.
+--every, --fair, --witness, --trace and --page.
 
 With --every the machines of 1, 2, 4, 8, 16, 32 and 64 processors are explored one after another, and a
-line is printed for each; --k has no effect. It excludes --fair, --witness and --trace.
+line is printed for each; --k has no effect. It excludes --fair, --witness, --trace and --page.
 
 With --never CONDITION no result is printed, but `never CONDITION: holds`, or `never CONDITION: broken` and
 the numbers of the processors that refer, one after another, on a shortest way to a state that satisfies
@@ -337,6 +337,9 @@ its address, or for the shared word there. --never, --always and --finally exclu
 With --witness N and --trace OUT the steps of a path to result N are written to OUT, for a machine with
 --c and --b: `ultra replay OUT FILE` prints the report of that result. With --witness 0 they lead to the
 first of the states from which no end can be reached.
+
+With --page OUT a page of such steps is written to OUT, with --trace or in its place: what `ultra page`
+prints for their trace, with the names of --symbols. Of more than 500000 steps it shows the last.
 
 If a search finds --states states, or takes longer than --seconds, it is given up. Then the results found
 so far are printed, each of which the machine can give, and the last line is `incomplete: there may be more
@@ -360,10 +363,13 @@ does not have, else 0.";
 /// How `hunt` goes, what it prints, and its exit statuses.
 pub(crate) const HUNT_ENDS: &str = "\
 Runs are numbered from --start on. The number alone decides the schedule, so the same number gives the
-same run. A run favours one processor for some turns and then another, and after about half of the turns
-the messages in the network move on. A run whose number is divisible by 6 chooses a processor for each
-turn; each of the others chooses half as often as the one before. A run ends as that of `ultra run` does, or
-after --budget steps that did something or --budget turns; then the network is drained.
+same run. By --schedule random a run favours one processor for some turns and then another, and after about
+half of the turns the messages in the network move on. A run whose number is divisible by 6 chooses a
+processor for each turn; each of the others chooses half as often as the one before. By pct the processors
+take their turns in a random order, and --depth less 1 times one of them loses its place to the others
+(probabilistic concurrency testing). By sweep-like they take turns one after another, but some are passed
+over. A run ends as that of `ultra run` does, or after --budget steps that did something or --budget turns;
+then the network is drained.
 
 Each different result is printed once, after a line `runs N first S over`, or `budget` for `over`: how
 many runs gave it, and the number of the first. `ultra hunt FILE --runs 1 --start S` gives it again. Then
@@ -380,9 +386,11 @@ With --expect-one the exit status is 6 if the runs came to more than one result,
 The runs are taken by --jobs threads, or else by as many as the host has processors. Results are counted in
 the order of the runs, so the number of threads changes nothing that is printed or written.
 
-With --trace nothing is written before all runs are over. If a file that would be written exists then, no
-trace is written and no result is printed, unless --overwrite is given. Meanwhile a line on a terminal
-shows how many runs are over and how many results are found, unless --quiet is given.
+With --trace and --page nothing is written before all runs are over. If a file that would be written exists
+then, none is written and no result is printed, unless --overwrite is given. A page is what `ultra page`
+prints for the trace of the run, with the names of --symbols; of more than 500000 steps it shows the last.
+Meanwhile a line on a terminal shows how many runs are over and how many results are found, unless --quiet
+is given.
 
 Errors are reported on standard error as by `ultra run`, and then no result is printed.
 

@@ -166,6 +166,14 @@ pub const JOBS: ChoiceOption = ChoiceOption {
     help: "Threads that take the runs, 1 to 64; what is printed is the same with any number [default: the host's processors]",
 };
 
+/// The depth of the bugs that a hunt by priorities looks for.
+pub const DEPTH: ChoiceOption = ChoiceOption {
+    name: "depth",
+    low: 1,
+    high: 16,
+    help: "Depth of the bugs that --schedule pct looks for, 1 to 16: one more than the changes of priority [default: 12]",
+};
+
 /// The seconds after which an exploration gives up.
 pub const SECONDS: ChoiceOption = ChoiceOption {
     name: "seconds",
@@ -179,7 +187,7 @@ pub const WITNESS: ChoiceOption = ChoiceOption {
     name: "witness",
     low: 0,
     high: u32::MAX,
-    help: "Write the trace of a path to the result of this number, or with 0 to the first state without a path to an end; goes with --trace",
+    help: "Write the trace of a path to the result of this number, or with 0 to the first state without a path to an end; goes with --trace or --page",
 };
 
 /// The number of steps after which the machine is drawn.

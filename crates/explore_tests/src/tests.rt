@@ -10,7 +10,7 @@ mod labels;
 mod order;
 mod partial;
 mod properties;
-mod random_schedules;
+mod run_schedules;
 mod spinning;
 mod texts;
 mod ways;

@@ -128,6 +128,32 @@ pub fn open_beside_trace<'a, 'r, R: Files + Input>(
     open_beside(rt, path, trace, reason)
 }
 
+/// Refuses a page of a run if it is to be written to standard output, where results are printed, over the file that is
+/// read, or to the file of the run's trace.
+///
+/// # Errors
+///
+/// [`FileRefusal::PrintedPage`] if the page's path is [`STANDARD`], [`FileRefusal::SamePage`] if it is that of the
+/// trace, and [`FileRefusal::SameFile`] if it names the regular file at `path`; else as [`look_for_folder`].
+pub fn look_for_page<'a, R: Files>(
+    rt: &R,
+    page: &'a str,
+    path: &str,
+    trace: Option<&str>,
+) -> Result<(), FileRefusal<'a>> {
+    if page == STANDARD {
+        return Err(FileRefusal::PrintedPage);
+    }
+    if trace.is_some_and(|trace| trace == page || are_one_file(rt, trace, page)) {
+        return Err(FileRefusal::SamePage);
+    }
+    look_for_folder(rt, page)?;
+    if path != STANDARD && are_one_file(rt, path, page) {
+        return Err(FileRefusal::SameFile);
+    }
+    Ok(())
+}
+
 /// Refuses a file that is to be written in a folder that is not there: the first write, after a run, would fail.
 ///
 /// # Errors

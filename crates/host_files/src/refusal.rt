@@ -10,7 +10,7 @@ use trace_file::TraceError;
 pub enum FileRefusal<'a> {
     /// The file at this path cannot be opened or written, with this error of the system.
     Closed(&'a str, io::Error),
-    /// A trace cannot be written at this path: its folder cannot be found, with this error of the system.
+    /// A trace or a page cannot be written at this path: its folder cannot be found, with this error of the system.
     NoFolder(&'a str, io::Error),
     /// OUT is the same file as the one to read. Neither is opened.
     SameFile,
@@ -18,6 +18,10 @@ pub enum FileRefusal<'a> {
     InputTwice,
     /// A trace is to be written to standard output.
     PrintedTrace,
+    /// A page of a run is to be written to standard output, beside what is printed there.
+    PrintedPage,
+    /// A page of a run and its trace are to be written to one file.
+    SamePage,
 }
 
 impl FileRefusal<'_> {
@@ -39,6 +43,10 @@ impl FileRefusal<'_> {
             FileRefusal::PrintedTrace => {
                 refuse("a trace is not written to standard output", err)
             }
+            FileRefusal::PrintedPage => {
+                refuse("a page of a run is not written to standard output", err)
+            }
+            FileRefusal::SamePage => refuse("--page and --trace name the same file", err),
         }
     }
 }

@@ -3,7 +3,6 @@ pub mod Writing
 pub mod Refusing
 pub mod RunsOfSchedules
 pub mod Gathering
-pub mod Plans
 pub mod Asking
 pub mod Counting
 pub mod Recorded

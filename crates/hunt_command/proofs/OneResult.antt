@@ -16,7 +16,7 @@ use Rattle.machine_steps.specs.Runs.{IsOpening, all_after, answer_after, events_
 use Rattle.machine_steps.specs.Standing.{HasFaulted, IsFaulted, processor_of}
 use Rattle.machine_steps.proofs.Lemmas.{alike, same_code, same_config}
 use Rattle.machine_log.specs.Logs.{Log, entered}
-use Rattle.schedules.specs.Sweeps.{IsFault, IsOver, RunsAfter, entered_of}
+use Rattle.schedules.specs.Sweeps.{IsFault, IsOver, RunsAfter, entered_of, most_of}
 use Rattle.schedules.specs.declared.sweeping.SweepEnd.{SweepEnd}
 use Rattle.schedules.specs.declared.sweeping.SweepEnd.TheVariants.{Over, Budget}
 use Rattle.schedules.proofs.Lemmas.{GoesOnFrom, asked_append, longer}
@@ -25,6 +25,7 @@ use Rattle.command_io.specs.Lines.{word_lines}
 use Rattle.command_io.specs.Tallies.{ShownBy, nothing_shown}
 use Rattle.run_reports.specs.Reports.{IsExitOf, shared_lines}
 use Rattle.observed_results.specs.Lines.{observed_line}
+use Rattle.hunt_command.specs.declared.policy.Policy.{Policy}
 use Rattle.hunt_command.specs.Hunts.{IsResultOf, ResultState}
 use Rattle.hunt_command.specs.Lines.{end_line, observed_lines, outcome_line, outcome_lines, result_of}
 use Rattle.hunt_command.specs.Runs.{IsRandomRun}
@@ -58,8 +59,8 @@ module _ (c : Config) (image : ImageContents) (m n : MachineLists) (one : IsOpen
 -- ---- how two runs with one number end
 
 -- One run is over, and the other has used up its budget: that cannot be.
-module _ (c : Config) (image : ImageContents) (number most : ℕ) (a b : Log) (one : IsRandomRun c image number most Over a)
-    (two : IsRandomRun c image number most Budget b) where
+module _ (c : Config) (image : ImageContents) (number : ℕ) (policy : Policy) (a b : Log) (one : IsRandomRun c image number policy Over a)
+    (two : IsRandomRun c image number policy Budget b) where
   abbrev xs : List Step
   xs = one.ran.middle.steps
 
@@ -87,7 +88,7 @@ module _ (c : Config) (image : ImageContents) (number most : ℕ) (a b : Log) (o
       let f = one.ran.asked in
       let g = two.ran.asked in
       let whole : f.asked ++ f.unasked ≡ g.asked =
-      sym (plan_is c image number most Over a one) ∙ plan_is c image number most Budget b two
+      sym (plan_is c image number policy Over a one) ∙ plan_is c image number policy Budget b two
       ∙ ap (λ zs. g.asked ++ zs) none ∙ append-nil g.asked in
       let first : xs ≡ entered_of b.opening [] f.asked =
       f.steps ∙ same_entered c image a.opening b.opening one.opens two.opens [] f.asked in
@@ -103,12 +104,12 @@ module _ (c : Config) (image : ImageContents) (number most : ℕ) (a b : Log) (o
       less : length ys < length xs
       less = (let count = length-append ys (s ∷ ss) in let long = ap length is in omega (arith, count, long))
 
-      by : (length ys ≡ 0 + most) ⊎ (two.ran.asked.unasked ≡ []) → ⊥
+      by : (length ys ≡ 0 + most_of policy.budget) ⊎ (two.ran.asked.unasked ≡ []) → ⊥
       by (inl used) = (let few = one.ran.asked.few in absurd (omega (arith, few, used, less)))
       by (inr none) = (let many = as_many none in absurd (omega (arith, many, less)))
 
   apart : ⊥
-  apart = by (either_goes_on xs _ ys _ (sym one.ran.steps ∙ one_run c image number most Over Budget a b one two ∙ two.ran.steps))
+  apart = by (either_goes_on xs _ ys _ (sym one.ran.steps ∙ one_run c image number policy Over Budget a b one two ∙ two.ran.steps))
     where
       by : GoesOnFrom xs ys ⊎ GoesOnFrom ys xs → ⊥
       by (inl ([], is)) = not_same (is ∙ append-nil xs)
@@ -117,12 +118,12 @@ module _ (c : Config) (image : ImageContents) (number most : ℕ) (a b : Log) (o
       by (inr (s ∷ ss, is)) = not_before s ss is
 
 -- Two runs with one number end in the same way.
-same_end : (c : Config) (image : ImageContents) (number most : ℕ) (e d : SweepEnd) (a b : Log) → IsRandomRun c image number most e a →
-    IsRandomRun c image number most d b → e ≡ d
-same_end c image number most Over Over a b one two = refl
-same_end c image number most Over Budget a b one two = absurd (apart c image number most a b one two)
-same_end c image number most Budget Over a b one two = absurd (apart c image number most b a two one)
-same_end c image number most Budget Budget a b one two = refl
+same_end : (c : Config) (image : ImageContents) (number : ℕ) (policy : Policy) (e d : SweepEnd) (a b : Log) → IsRandomRun c image number policy e a →
+    IsRandomRun c image number policy d b → e ≡ d
+same_end c image number policy Over Over a b one two = refl
+same_end c image number policy Over Budget a b one two = absurd (apart c image number policy a b one two)
+same_end c image number policy Budget Over a b one two = absurd (apart c image number policy b a two one)
+same_end c image number policy Budget Budget a b one two = refl
 
 -- ---- exit statuses
 
@@ -154,8 +155,8 @@ faulted_alike m n size is h =
 
 -- ---- results
 
-module _ (observed : Option (List Bool)) (c : Config) (image : ImageContents) (most number : ℕ) (r s : ResultState)
-    (one : IsResultOf observed c image most number r) (two : IsResultOf observed c image most number s) where
+module _ (observed : Option (List Bool)) (c : Config) (image : ImageContents) (policy : Policy) (number : ℕ) (r s : ResultState)
+    (one : IsResultOf observed c image policy number r) (two : IsResultOf observed c image policy number s) where
   abbrev m : MachineLists
   m = one.machine
 
@@ -169,10 +170,10 @@ module _ (observed : Option (List Bool)) (c : Config) (image : ImageContents) (m
   N = all_after two.opening.config two.opening.code (machine_of two.opening (λ p. [])) two.log.steps
 
   steps_are : one.log.steps ≡ two.log.steps
-  steps_are = one_run c image number most r.end s.end one.log two.log one.ran two.ran
+  steps_are = one_run c image number policy r.end s.end one.log two.log one.ran two.ran
 
   end_is : r.end ≡ s.end
-  end_is = same_end c image number most r.end s.end one.log two.log one.ran two.ran
+  end_is = same_end c image number policy r.end s.end one.log two.log one.ran two.ran
 
   same : M ≡ N
   same =

@@ -7,7 +7,7 @@ use Rattle.command_io.specs.declared.fault.Fault.{Fault}
 use Rattle.command_io.specs.declared.fault.Fault.TheVariants as fault
 use Rattle.command_io.specs.Files.{IsFaultOfImage, IsFaultOfSize}
 use Rattle.command_io.specs.Links.{Output}
-use Rattle.schedules.specs.Sweeps.{most_of}
+use Rattle.hunt_command.specs.declared.policy.Policy.{Policy}
 use Rattle.hunt_command.specs.declared.refused.Refused.{Refused}
 use Rattle.hunt_command.specs.declared.refused.Refused.TheVariants as refused
 use Rattle.hunt_command.specs.Findings.{firsts}
@@ -33,15 +33,15 @@ module _ {T W : Type 0} (h : AskedHunt) (t : HuntTraces T W) (out : Output) wher
   of_size image meant fault.Memory same why = inl same
   of_size image meant other same why = absurd why
 
-  neither : (image : ImageContents) (most : ℕ) (numbers : List ℕ) (f : Fault) → (f ≡ fault.Memory → ⊥) →
-      ((old new : T) → AreNotWritten t.store.opens t.store.closes t.store.has_failed t.store.contents h.config image most numbers old new f → ⊥) →
-      AreNotSaved t.store.finds t.store.opens t.store.closes t.store.has_failed t.store.contents h.config image most numbers t.old t.new
+  neither : (image : ImageContents) (policy : Policy) (numbers : List ℕ) (f : Fault) → (f ≡ fault.Memory → ⊥) →
+      ((old new : T) → AreNotWritten t.store.opens t.store.closes t.store.has_failed t.store.contents h.config image policy numbers old new f → ⊥) →
+      AreNotSaved t.store.finds t.store.opens t.store.closes t.store.has_failed t.store.contents h.config image policy numbers t.old t.new
       (refused.Fault f) → ⊥
-  neither image most numbers f not_memory not_so = asked_of _ ⊥ by t.old t.new
+  neither image policy numbers f not_memory not_so = asked_of _ ⊥ by t.old t.new
     where
       by : (old new : T) → ((new ≡ old) × (f ≡ fault.Memory))
           ⊎ (AreFree t.store.finds numbers old
-          × AreNotWritten t.store.opens t.store.closes t.store.has_failed t.store.contents h.config image most numbers old new f) → ⊥
+          × AreNotWritten t.store.opens t.store.closes t.store.has_failed t.store.contents h.config image policy numbers old new f) → ⊥
       by old new (inl p) = not_memory p.1
       by old new (inr p) = not_so old new p.1
 
@@ -51,15 +51,15 @@ module _ {T W : Type 0} (h : AskedHunt) (t : HuntTraces T W) (out : Output) wher
   of_traces (refused.Fault (fault.Trace e)) why = why
   of_traces (refused.Fault fault.Memory) why = inr why
   of_traces (refused.Fault other) why =
-      absurd (neither why.image (most_of h.hunt.budget) (firsts why.found) other (λ e. let bad : other ≡ fault.Memory = e in cc) (λ old new no. no)
+      absurd (neither why.image h.hunt.policy (firsts why.found) other (λ e. let bad : other ≡ fault.Memory = e in cc) (λ old new no. no)
       why.unsaved)
 
   -- None of these reasons is a failed read of the image.
-  pub not_unread : (image : ImageContents) (most : ℕ) (numbers : List ℕ) (r : Refused) →
-      AreNotSaved t.store.finds t.store.opens t.store.closes t.store.has_failed t.store.contents h.config image most numbers t.old t.new r →
+  pub not_unread : (image : ImageContents) (policy : Policy) (numbers : List ℕ) (r : Refused) →
+      AreNotSaved t.store.finds t.store.opens t.store.closes t.store.has_failed t.store.contents h.config image policy numbers t.old t.new r →
       r ≡ refused.Fault (fault.Image image_error.Link) → ⊥
-  not_unread image most numbers (refused.There n) why same = absurd (cc)
-  not_unread image most numbers (refused.Fault (fault.Trace e)) why same = absurd (cc)
-  not_unread image most numbers (refused.Fault fault.Memory) why same = absurd (cc)
-  not_unread image most numbers (refused.Fault other) why same =
-      neither image most numbers other (λ e. let bad : other ≡ fault.Memory = e in cc) (λ old new no. no) why
+  not_unread image policy numbers (refused.There n) why same = absurd (cc)
+  not_unread image policy numbers (refused.Fault (fault.Trace e)) why same = absurd (cc)
+  not_unread image policy numbers (refused.Fault fault.Memory) why same = absurd (cc)
+  not_unread image policy numbers (refused.Fault other) why same =
+      neither image policy numbers other (λ e. let bad : other ≡ fault.Memory = e in cc) (λ old new no. no) why

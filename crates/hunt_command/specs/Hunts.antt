@@ -12,8 +12,8 @@ use Rattle.machine_steps.specs.Draining.{drain_steps}
 use Rattle.machine_steps.specs.Machines.{MachineLists, IsIdle}
 use Rattle.machine_steps.specs.Runs.{IsOpening}
 use Rattle.machine_log.specs.Logs.{Log}
-use Rattle.schedules.specs.Sweeps.{most_of}
 use Rattle.schedules.specs.declared.sweeping.SweepEnd.{SweepEnd}
+use Rattle.hunt_command.specs.declared.policy.Policy.{Policy}
 use Rattle.hunt_command.specs.Runs.{IsRandomRun}
 use Rattle.command_io.specs.declared.fault.Fault.TheVariants as fault
 use Rattle.command_io.specs.Faults.{status_of_fault}
@@ -41,10 +41,10 @@ pub record ResultState : Type 0 where
 
 -- This is the result of the run with this number, of at most this many steps and turns, on a machine that opens on the
 -- image, by the observed words.
-pub record IsResultOf (observed : Option (List Bool)) (c : Config) (image : ImageContents) (most number : ℕ)
-    (r : ResultState) : Type 0 where
+pub record IsResultOf (observed : Option (List Bool)) (c : Config) (image : ImageContents) (policy : Policy)
+    (number : ℕ) (r : ResultState) : Type 0 where
   pub log : Log
-  pub ran : IsRandomRun c image number most r.end log
+  pub ran : IsRandomRun c image number policy r.end log
   pub opening : MachineLists
   pub opens : IsOpening c image opening
   pub machine : MachineLists
@@ -66,8 +66,9 @@ pub record IsDrainedTo (observed : Option (List Bool)) (opening : MachineLists) 
   pub exit : IsExitOf machine status
 
 -- The log is that of the run with this number, and a trace file can spell its steps.
-pub record IsLogOf (c : Config) (image : ImageContents) (most number : ℕ) (end : SweepEnd) (log : Log) : Type 0 where
-  pub ran : IsRandomRun c image number most end log
+pub record IsLogOf (c : Config) (image : ImageContents) (policy : Policy) (number : ℕ) (end : SweepEnd)
+    (log : Log) : Type 0 where
+  pub ran : IsRandomRun c image number policy end log
   pub trace : IsTrace (trace_of c log.steps)
 
 -- ---- many runs
@@ -77,11 +78,11 @@ abbrev pub number_at : (start place : ℕ) → ℕ
 number_at start place = (start + place) % 2 ^ 32
 
 -- These are the results of consecutive runs, the first of which has this number.
-abbrev pub AreResults : (observed : Option (List Bool)) → Config → ImageContents → (most start : ℕ) →
+abbrev pub AreResults : (observed : Option (List Bool)) → Config → ImageContents → (policy : Policy) (start : ℕ) →
     List ResultState → Type 0
-AreResults observed c image most start results =
+AreResults observed c image policy start results =
     (place : ℕ) (r : ResultState) → slice_get results place ≡ Some r →
-    IsResultOf observed c image most (number_at start place) r
+    IsResultOf observed c image policy (number_at start place) r
 
 -- the results found after these are noted too, the first of them as that of the run at this place
 abbrev pub found_from : (start place : ℕ) → List FindingState → List ResultState → List FindingState
@@ -106,11 +107,11 @@ greatest_from status (r ∷ rs) = greatest_from (greater r.status status) rs
 
 -- These are the results found in this many runs, starting with this number, these are the numbers of the runs that are
 -- unfinished, and this is the greatest exit status of a machine: 1 if a fault has stopped a processor in some run.
-pub record AreFound (observed : Option (List Bool)) (c : Config) (image : ImageContents) (most start runs : ℕ)
-    (found : List FindingState) (unfinished : List ℕ) (greatest : ℕ) : Type 0 where
+pub record AreFound (observed : Option (List Bool)) (c : Config) (image : ImageContents) (policy : Policy)
+    (start runs : ℕ) (found : List FindingState) (unfinished : List ℕ) (greatest : ℕ) : Type 0 where
   pub results : List ResultState
   pub all : length results ≡ runs
-  pub each : AreResults observed c image most start results
+  pub each : AreResults observed c image policy start results
   pub are : found ≡ found_from start 0 [] results
   pub those : unfinished ≡ unfinished_from start 0 results
   pub exit : greatest ≡ greatest_from 0 results
@@ -171,14 +172,14 @@ hunt_traces store old new = record { store = store; old = old; new = new }
 pub record HasFound (h : AskedHunt) (image : ImageContents) (found : List FindingState) (unfinished : List ℕ)
     (greatest : ℕ) : Type 0 where
   pub meant : IsImageOf h.config.shared_words h.file.bytes image
-  pub are : AreFound (marks_of h.hunt) h.config image (most_of h.hunt.budget) h.hunt.start h.hunt.runs found unfinished
+  pub are : AreFound (marks_of h.hunt) h.config image h.hunt.policy h.hunt.start h.hunt.runs found unfinished
       greatest
 
 -- If traces are asked for, those of the first runs with each result are written, and no others.
 abbrev pub HasSaved : {T W : Type 0} → AskedHunt → HuntTraces T W → ImageContents → List FindingState → Type 0
 HasSaved h t image found =
     WhereAsked (AreSaved t.store.finds t.store.opens t.store.closes t.store.has_failed t.store.contents h.config image
-    (most_of h.hunt.budget) (firsts found)) t.old t.new
+    h.hunt.policy (firsts found)) t.old t.new
 
 -- This is the text of the hunt on the image in the file, and this is its exit status. The traces are written, if they
 -- are asked for.
@@ -204,7 +205,7 @@ pub record HasNotSaved {T W : Type 0} (h : AskedHunt) (t : HuntTraces T W) (r : 
   pub greatest : ℕ
   pub has_found : HasFound h image found unfinished greatest
   pub unsaved : AreNotSaved t.store.finds t.store.opens t.store.closes t.store.has_failed t.store.contents h.config
-      image (most_of h.hunt.budget) (firsts found) t.old t.new r
+      image h.hunt.policy (firsts found) t.old t.new r
 
 -- Why nothing is printed: the image is refused; the machine's size is out of limits; a trace exists already or cannot
 -- be written; or the text cannot be printed. If there is no memory, no trace or only the first ones are written.

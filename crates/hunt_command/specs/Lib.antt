@@ -1,7 +1,6 @@
 pub mod Lines
 pub mod Findings
 pub mod Hunts
-pub mod Schedules
 pub mod Traces
 pub mod Runs
 pub mod Taken

@@ -2,7 +2,6 @@
 use Rattle.std.specs.Prelude.{◌≤◌, ℕ, string_bytes}
 use Rattle.flat_machine.specs.declared.config.Config.{Config}
 use Rattle.elf_image.specs.Images.{ImageContents}
-use Rattle.schedules.specs.Sweeps.{most_of}
 use Rattle.hunt_command.specs.declared.ahead.Taken.{Taken}
 use Rattle.hunt_command.specs.declared.command.Hunt.{Hunt}
 use Rattle.hunt_command.specs.declared.runs.RunResult.{RunResult}
@@ -20,7 +19,7 @@ state_of r = record {
 -- This is the result of the run at a place of a hunt, and the exit status of its machine is at most 1.
 abbrev pub IsResultAt : Hunt → Config → ImageContents → (place : ℕ) → RunResult → Type 0
 IsResultAt hunt c image place r =
-    IsResultOf (marks_of hunt) c image (most_of hunt.budget) (number_at hunt.start place) (state_of r)
+    IsResultOf (marks_of hunt) c image hunt.policy (number_at hunt.start place) (state_of r)
     × (r.status ≤ 1)
 
 -- The result is that of the run at its place.

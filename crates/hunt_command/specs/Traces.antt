@@ -10,6 +10,7 @@ use Rattle.machine_log.specs.Logs.{Log}
 use Rattle.schedules.specs.declared.sweeping.SweepEnd.{SweepEnd}
 use Rattle.command_io.specs.declared.fault.Fault.{Fault}
 use Rattle.command_io.specs.declared.fault.Fault.TheVariants as fault
+use Rattle.hunt_command.specs.declared.policy.Policy.{Policy}
 use Rattle.hunt_command.specs.declared.refused.Refused.{Refused}
 use Rattle.hunt_command.specs.declared.refused.Refused.TheVariants as refused
 use Rattle.hunt_command.specs.Runs.{IsRandomRun}
@@ -17,17 +18,19 @@ use Rattle.hunt_command.specs.Runs.{IsRandomRun}
 -- ---- one trace
 
 -- The trace of the run with this number is appended.
-pub record IsRunSaved (c : Config) (image : ImageContents) (most number : ℕ) (old new : Option (List ℕ)) : Type 0 where
+pub record IsRunSaved (c : Config) (image : ImageContents) (policy : Policy) (number : ℕ)
+    (old new : Option (List ℕ)) : Type 0 where
   pub end : SweepEnd
   pub log : Log
-  pub ran : IsRandomRun c image number most end log
+  pub ran : IsRandomRun c image number policy end log
   pub saved : Appends old new (trace_bytes (trace_of c log.steps))
 
 -- A beginning of the trace of the run with this number, and not all of it, is appended.
-pub record IsRunBegun (c : Config) (image : ImageContents) (most number : ℕ) (old new : Option (List ℕ)) : Type 0 where
+pub record IsRunBegun (c : Config) (image : ImageContents) (policy : Policy) (number : ℕ)
+    (old new : Option (List ℕ)) : Type 0 where
   pub end : SweepEnd
   pub log : Log
-  pub ran : IsRandomRun c image number most end log
+  pub ran : IsRandomRun c image number policy end log
   pub part : AppendsPart old new (trace_bytes (trace_of c log.steps))
 
 -- ---- traces, each under its number
@@ -46,15 +49,15 @@ module _ {T W : Type 0} (opens : T → (number : ℕ) → W → T → Type 0) (c
     pub gets : what before after
     pub closed : closes middle after new
 
-  module _ (c : Config) (image : ImageContents) (most : ℕ) where
+  module _ (c : Config) (image : ImageContents) (policy : Policy) where
     -- The trace of the run with this number is written under the number.
     abbrev pub IsWhole : (number : ℕ) → (old new : T) → Type 0
-    IsWhole n = IsWritten n (λ before after. IsRunSaved c image most n (contents before) (contents after))
+    IsWhole n = IsWritten n (λ before after. IsRunSaved c image policy n (contents before) (contents after))
 
     -- The writer failed after a beginning of that trace.
     abbrev pub IsPart : (number : ℕ) → (old new : T) → Type 0
     IsPart n = IsWritten n (λ before after. (has_failed after ≡ true)
-        × IsRunBegun c image most n (contents before) (contents after))
+        × IsRunBegun c image policy n (contents before) (contents after))
 
     -- The traces of the runs with these numbers are written, one after another, each under its number, and nothing else
     -- is.
@@ -118,11 +121,11 @@ pub record IsThereAt {T : Type 0} (finds : T → (number : ℕ) → (is_there : 
 module _ {T W : Type 0} (finds : T → (number : ℕ) → (is_there : Bool) → Type 0) (opens : T → (number : ℕ) → W → T →
     Type 0)
     (closes : T → W → T → Type 0) (has_failed : W → Bool) (contents : W →
-    Option (List ℕ)) (c : Config) (image : ImageContents) (most : ℕ) where
+    Option (List ℕ)) (c : Config) (image : ImageContents) (policy : Policy) where
   -- No trace existed under these numbers, and the traces of their runs are written.
   abbrev pub AreSaved : (numbers : List ℕ) → (old new : T) → Type 0
   AreSaved numbers old new = AreFree finds numbers old
-      × AreWritten opens closes has_failed contents c image most numbers old new
+      × AreWritten opens closes has_failed contents c image policy numbers old new
 
   -- Why not all traces are written: one exists already, and none is written; there is no memory to look, and none is
   -- written; or none existed, and they cannot all be written.
@@ -130,4 +133,5 @@ module _ {T W : Type 0} (finds : T → (number : ℕ) → (is_there : Bool) → 
   AreNotSaved numbers old new (refused.There n) = AreAsked (λ t t'. IsThereAt finds numbers n t × (t' ≡ t)) old new
   AreNotSaved numbers old new (refused.Fault f) =
       AreAsked (λ t t'. ((t' ≡ t) × (f ≡ fault.Memory))
-      ⊎ (AreFree finds numbers t × AreNotWritten opens closes has_failed contents c image most numbers t t' f)) old new
+      ⊎ (AreFree finds numbers t
+      × AreNotWritten opens closes has_failed contents c image policy numbers t t' f)) old new

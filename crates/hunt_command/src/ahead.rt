@@ -78,7 +78,7 @@ impl Ahead {
             // There is one thread, or the one that took the run was out of memory.
             None => {
                 let number = hunt.start.wrapping_add(place);
-                result_of(alloc, image, config, hunt.budget, number, hunt.observed)
+                result_of(alloc, image, config, hunt.policy, number, hunt.observed)
             }
         }
     }
@@ -193,12 +193,12 @@ fn take_runs(
             break;
         }
         let number = hunt.start.wrapping_add(place);
-        let Ok(result) = result_of(alloc, image, config, hunt.budget, number, hunt.observed) else {
+        let Ok(result) = result_of(alloc, image, config, hunt.policy, number, hunt.observed) else {
             break;
         };
-        if all.push(Taken { place, result }).is_err() {
+        let Ok(()) = all.push(Taken { place, result }) else {
             break;
-        }
+        };
     }
     all
 }

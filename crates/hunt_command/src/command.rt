@@ -3,7 +3,6 @@
 ghost use Rattle.std.specs.Prelude.{◌≡◌, ◌≤◌, ◌↔◌, true, false, IfOk, IfErr, IsErrOf, OnErr, OnOk};
 ghost use Rattle.flat_machine.specs.Limits.{IsWithinLimits};
 ghost use Rattle.elf_image.specs.Files.{IsImageOf};
-ghost use Rattle.schedules.specs.Sweeps.{most_of};
 ghost use Rattle.command_io.specs.Files.{IsFaultOfSize};
 ghost use Rattle.command_io.specs.Links.{Input, input, output};
 ghost use Rattle.command_io.specs.Printing.{Prints, ReportsRefusal};
@@ -13,6 +12,7 @@ ghost use Rattle.hunt_command.specs.Hunts.{status_of, trace_store};
 
 use crate::findings::{Findings, findings_text};
 use crate::observer::HuntObserver;
+use crate::policy::Policy;
 use crate::refused::Refused;
 use crate::runs::findings_of;
 use crate::saving::{Traces, save_all};
@@ -36,8 +36,8 @@ pub const UNEXPECTED: u8 = 6;
 /// Which runs a hunt takes, and what is expected of them.
 #[derive(Clone, Copy, Debug, Drop)]
 pub struct Hunt<'a> {
-    /// The maximum number of steps of a run, and of turns that it asks for.
-    pub budget: u32,
+    /// How runs are scheduled, and how far they go.
+    pub policy: Policy,
     /// The number of runs.
     pub runs: u32,
     /// The number of the first run. Each later run has the next number, and 0 comes after the greatest.
@@ -181,7 +181,7 @@ fn hunt_image<P: Threads + Sync, T: Traces, G: HuntObserver, W: LinkWrite>(
 {
     let (findings, greatest) = run_hunt(rt, jobs, alloc, image, config, hunt, observer)?;
     let text = findings_text(alloc, &findings)?;
-    save_all(alloc, image, config, hunt.budget, &findings, traces)?;
+    save_all(alloc, image, config, hunt.policy, &findings, traces)?;
     print(out, text.as_str())?;
     let unexpected = is_unexpected(hunt.expect_one, &findings);
     Ok(hunt_status(greatest, findings.unfinished(), unexpected))
@@ -223,7 +223,7 @@ fn run_hunt<P: Threads + Sync, G: HuntObserver>(
 ) -> Result<(Findings, u8), Fault>
     requires words { image.now.shared_words ≡ config.shared_words }
     ensures found { IfOk result (λ done. AreFound (marks_of hunt.entry) config image.now
-        (most_of hunt.entry.budget) hunt.entry.start hunt.entry.runs done.0.found done.0.unfinished done.1) }
+        hunt.entry.policy hunt.entry.start hunt.entry.runs done.0.found done.0.unfinished done.1) }
     ensures low { IfOk result (λ done. done.1 ≤ 1) }
     ensures limits { OnOk result (IsWithinLimits config) }
     ensures size { (IsWithinLimits config → ⊥) → IsErrOf result Fault.Size }

@@ -8,15 +8,17 @@ ghost use Rattle.machine_log.specs.Logs.{Log};
 ghost use Rattle.schedules.specs.declared.sweeping.SweepEnd.{SweepEnd};
 ghost use Rattle.command_io.specs.Links.{known_input};
 ghost use Rattle.hunt_command.specs.declared.command.Hunt.{Hunt};
+ghost use Rattle.hunt_command.specs.declared.policy.Policy.{Policy};
 ghost use Rattle.hunt_command.specs.Findings.{FindingState};
 ghost use Rattle.hunt_command.specs.Hunts.{HasFound, asked_hunt};
 ghost use Rattle.hunt_command.specs.Runs.{IsRandomRun};
 
-/// The steps of a random run depend only on the machine's size, the image, the run's number and its budget. So the same
-/// number gives the same run.
+/// The steps of a random run depend only on the machine's size, the image, the run's number and the policy. So the
+/// same number gives the same run.
 pub fn random_runs_have_one_log()
-    ensures { (c : Config) (image : ImageContents) (number most : ℕ) (end other : SweepEnd) (first second : Log) →
-        IsRandomRun c image number most end first → IsRandomRun c image number most other second →
+    ensures { (c : Config) (image : ImageContents) (number : ℕ) (policy : Policy) (end other : SweepEnd)
+        (first second : Log) →
+        IsRandomRun c image number policy end first → IsRandomRun c image number policy other second →
         first.steps ≡ second.steps }
 {}
 

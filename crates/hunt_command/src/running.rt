@@ -7,14 +7,15 @@ ghost use Rattle.steps.specs.Kinds.{no_poke};
 ghost use Rattle.steps.specs.Answers.{is_stalled};
 ghost use Rattle.schedules.specs.Sweeps.{most_of};
 ghost use Rattle.hunt_command.specs.Runs.{HasRunAtRandom, WasAsked};
-ghost use Rattle.hunt_command.specs.Schedules.{schedule};
+ghost use Rattle.random_schedules.specs.Schedules.{schedule};
 ghost use Rattle.command_io.specs.Tallies.{noted_after};
 ghost use Rattle.trace_file.specs.Traces.{HaveRecords};
 
-use crate::schedule::Schedule;
+use crate::policy::Policy;
 use command_io::{Fault, Tally};
 use machine_log::{LockRefusal, Logged, ReservedLog, laws};
 use machine_steps::any_runs;
+use random_schedules::Schedule;
 use schedules::{MAX_BUDGET, SweepEnd, is_over, most_steps};
 use steps::{NoObserver, Outcome, Step, StepObserver};
 
@@ -26,19 +27,18 @@ use steps::{NoObserver, Outcome, Step, StepObserver};
 ///
 /// [`LockRefusal::Full`] if the log could then pass [`steps::MAX_STEPS`] steps, else [`LockRefusal::Memory`] if there
 /// is no memory for them. Either leaves the log unchanged.
-pub fn random_run(log: &mut Logged, number: u32, budget: u32) -> Result<SweepEnd, LockRefusal>
-    ensures ran { IfOk result (λ end. HasRunAtRandom number (most_of budget) log.old end log.new) }
+pub fn random_run(log: &mut Logged, number: u32, policy: Policy) -> Result<SweepEnd, LockRefusal>
+    ensures ran { IfOk result (λ end. HasRunAtRandom number policy log.old end log.new) }
     ensures records { OnOk result (HaveRecords log.old.machine.config.k log.old.steps →
         HaveRecords log.new.machine.config.k log.new.steps) }
     ensures full { (result ≡ Err LockRefusal.Full)
-        ↔ (4194304 < length log.old.steps + (most_of budget + drain_bound log.old.machine.config)) }
+        ↔ (4194304 < length log.old.steps + (most_of policy.budget + drain_bound log.old.machine.config)) }
     ensures named { result ≡ Err LockRefusal.Unnamed → ⊥ }
     ensures not_free { result ≡ Err LockRefusal.NotFree → ⊥ }
     ensures refused { OnErr result (log.new ≡ log.old) }
 {
-    let most = budget.min(MAX_BUDGET);
-    let room = most_steps(log.machine(), most);
-    Ok(run(log.room(room)?, number, most))
+    let room = most_steps(log.machine(), policy.budget.min(MAX_BUDGET));
+    Ok(run(log.room(room)?, number, policy))
 }
 
 /// Asks for the steps of the schedule with this number, as [`random_run`] does, in a log that has none yet. The tally
@@ -50,45 +50,44 @@ pub fn random_run(log: &mut Logged, number: u32, budget: u32) -> Result<SweepEnd
 pub(crate) fn observed_run(
     log: &mut Logged,
     number: u32,
-    budget: u32,
+    policy: Policy,
     tally: &mut Tally,
 ) -> Result<SweepEnd, Fault>
     requires none { log.old.steps ≡ [] }
     requires noting { tally.old.observed ≡ 0 }
-    ensures asked { IfOk result (λ end. WasAsked (schedule log.old.machine.config.k number (most_of budget))
-        (length log.old.steps + most_of budget)
-        log.old end log.new) }
+    ensures asked { IfOk result (λ end. WasAsked
+        (schedule policy.strategy log.old.machine.config.k number (most_of policy.budget))
+        (length log.old.steps + most_of policy.budget) log.old end log.new) }
     ensures noted { OnOk result (AreNoted (λ t step outcome t'. t'
         ≡ noted_after t step outcome) log.old.opening log.new.steps tally.old tally.new) }
     ensures refused { IfErr result (λ fault. fault ≡ Fault.Memory) }
 {
-    let most = budget.min(MAX_BUDGET);
-    let Ok(reserved) = log.room(most) else {
+    let Ok(reserved) = log.room(policy.budget.min(MAX_BUDGET)) else {
         return Err(Fault::Memory);
     };
-    match ask_by_number(reserved, number, most, tally) {
+    match ask_by_number(reserved, number, policy, tally) {
         Ok(end) => Ok(end),
         Err(_) => Err(Fault::Memory),
     }
 }
 
-/// Runs for at most this many steps and turns, and then drains the machine. The log has room for the steps.
-fn run(log: &mut ReservedLog, number: u32, most: u32) -> SweepEnd
-    requires few { most ≤ 4000000 }
-    requires room { most + drain_bound log.old.log.machine.config ≤ log.old.capacity_left }
-    ensures ran { HasRunAtRandom number most log.old.log result log.new.log }
+/// Runs for at most as many steps and turns as the policy says, and then drains the machine. The log has room for the
+/// steps.
+fn run(log: &mut ReservedLog, number: u32, policy: Policy) -> SweepEnd
+    requires room { most_of policy.budget + drain_bound log.old.log.machine.config ≤ log.old.capacity_left }
+    ensures ran { HasRunAtRandom number policy log.old.log result log.new.log }
     ensures records { HaveRecords log.old.log.machine.config.k log.old.log.steps →
         HaveRecords log.new.log.machine.config.k log.new.log.steps }
 {
     laws::reserved_log_is_well_formed(log);
-    let Ok(end) = ask_by_number(log, number, most, &mut NoObserver);
+    let Ok(end) = ask_by_number(log, number, policy, &mut NoObserver);
     log.drain();
     laws::reserved_log_is_well_formed(log);
     end
 }
 
-/// Asks for at most this many steps and turns of the schedule with this number. The observer sees each step logged. The
-/// log has room for the steps.
+/// Asks for at most as many steps and turns of the schedule with this number as the policy says. The observer sees each
+/// step logged. The log has room for the steps.
 ///
 /// # Errors
 ///
@@ -96,23 +95,24 @@ fn run(log: &mut ReservedLog, number: u32, most: u32) -> SweepEnd
 fn ask_by_number<N: StepObserver>(
     log: &mut ReservedLog,
     number: u32,
-    most: u32,
+    policy: Policy,
     observer: &mut N,
 ) -> Result<SweepEnd, N::Refusal>
-    requires few { most ≤ 4000000 }
-    requires room { most ≤ log.old.capacity_left }
-    requires noting { N.has_room observer.old most }
-    ensures asked { IfOk result (λ end. WasAsked (schedule log.old.log.machine.config.k number most)
-        (length log.old.log.steps + most) log.old.log end
-        log.new.log) }
+    requires room { most_of policy.budget ≤ log.old.capacity_left }
+    requires noting { N.has_room observer.old (most_of policy.budget) }
+    ensures asked { IfOk result (λ end. WasAsked
+        (schedule policy.strategy log.old.log.machine.config.k number (most_of policy.budget))
+        (length log.old.log.steps + most_of policy.budget) log.old.log end log.new.log) }
     ensures noted { OnOk result (AreNoted N.observed log.old.log.opening log.old.log.steps observer.old observer.old
         → AreNoted N.observed log.old.log.opening log.new.log.steps observer.old observer.new) }
     ensures config { log.new.log.machine.config ≡ log.old.log.machine.config }
     ensures room { length log.new.log.steps + log.new.capacity_left ≡ length log.old.log.steps + log.old.capacity_left }
 {
     laws::reserved_log_is_well_formed(log);
+    let most = policy.budget.min(MAX_BUDGET);
     let limit = log.steps().len() + most as usize;
-    let mut schedule = Schedule::new(log.machine().config().k, number, most);
+    let k = log.machine().config().k;
+    let mut schedule = Schedule::new(policy.strategy, k, number, most);
     ask(log, &mut schedule, limit, observer)
 }
 

@@ -4,7 +4,6 @@ ghost use Rattle.std.specs.Prelude.{◌≡◌, ◌≤◌, List, IfErr, IfOk, len
 ghost use Rattle.machine_steps.specs.Machines.{AreHome, MachineLists};
 ghost use Rattle.steps.specs.declared.step.Step.{Step};
 ghost use Rattle.run_reports.specs.CountedReplays.{IsReplayCounted};
-ghost use Rattle.schedules.specs.Sweeps.{most_of};
 ghost use Rattle.command_io.specs.Files.{IsFaultOfSize};
 ghost use Rattle.hunt_command.specs.Hunts.{AreFound, IsDrainedTo, IsLogOf, IsResultOf, greater, marks_of};
 
@@ -13,6 +12,7 @@ use crate::command::Hunt;
 use crate::findings::Findings;
 use crate::lines::result_text;
 use crate::observer::HuntObserver;
+use crate::policy::Policy;
 use crate::running::{observed_run, random_run};
 use command_io::{Fault, Tally, machine_of_copy};
 use elf_image::Image;
@@ -35,15 +35,15 @@ pub(crate) fn run_of(
     alloc: Global,
     image: &Image,
     config: Config,
-    budget: u32,
+    policy: Policy,
     number: u32,
 ) -> Result<(Logged, SweepEnd), Fault>
     requires words { image.now.shared_words ≡ config.shared_words }
-    ensures ran { IfOk result (λ done. IsLogOf config image.now (most_of budget) number done.1 done.0) }
+    ensures ran { IfOk result (λ done. IsLogOf config image.now policy number done.1 done.0) }
     ensures refused { IfErr result (IsFaultOfSize config) }
 {
     let mut log = Logged::new(alloc, machine_of_copy(alloc, image, config)?);
-    let Ok(end) = random_run(&mut log, number, budget) else {
+    let Ok(end) = random_run(&mut log, number, policy) else {
         // A new log has room for the longest run, so it refuses only if out of memory.
         return Err(Fault::Memory);
     };
@@ -68,13 +68,13 @@ pub(crate) fn result_of(
     alloc: Global,
     image: &Image,
     config: Config,
-    budget: u32,
+    policy: Policy,
     number: u32,
     observed: Option<&ObservedWords>,
 ) -> Result<RunResult, Fault>
     requires words { image.now.shared_words ≡ config.shared_words }
     ensures result { IfOk result (λ done.
-        IsResultOf (option_map (λ words. words.now) observed.entry) config image.now (most_of budget) number
+        IsResultOf (option_map (λ words. words.now) observed.entry) config image.now policy number
         (record {
           text = string_bytes done.text;
           printed = string_bytes done.printed;
@@ -87,7 +87,7 @@ pub(crate) fn result_of(
     let machine = machine_of_copy(alloc, image, config)?;
     let mut tally = Tally::new(alloc, machine.config().processors())?;
     let mut log = Logged::new(alloc, machine);
-    let end = observed_run(&mut log, number, budget, &mut tally)?;
+    let end = observed_run(&mut log, number, policy, &mut tally)?;
     laws::log_is_well_formed(&log);
     let (machine, _, _) = log.into_parts();
     let (text, printed, status) = drained_result(alloc, machine, end, tally, observed)?;
@@ -151,7 +151,7 @@ pub(crate) fn findings_of<P: Threads + Sync, G: HuntObserver>(
 ) -> Result<(Findings, u8), Fault>
     requires words { image.now.shared_words ≡ config.shared_words }
     ensures found { IfOk result (λ done. AreFound (marks_of hunt.entry) config image.now
-        (most_of hunt.entry.budget) hunt.entry.start hunt.entry.runs done.0.found done.0.unfinished done.1) }
+        hunt.entry.policy hunt.entry.start hunt.entry.runs done.0.found done.0.unfinished done.1) }
     ensures low { IfOk result (λ done. done.1 ≤ 1) }
     ensures refused { IfErr result (IsFaultOfSize config) }
 {

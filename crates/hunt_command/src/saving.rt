@@ -2,12 +2,12 @@
 
 ghost use Rattle.std.specs.Prelude.{◌≡◌, ℕ, Bool, true, false, IfErr, IfOk, OnErr, OnOk, slice_get, MatchOption};
 ghost use Rattle.flat_machine.specs.Limits.{IsWithinLimits};
-ghost use Rattle.schedules.specs.Sweeps.{most_of};
 ghost use Rattle.hunt_command.specs.Findings.{firsts};
 ghost use Rattle.hunt_command.specs.Traces.{AreFree, AreNotSaved, AreNotWritten, AreSaved, AreWritten, IsNotWhole};
 ghost use Rattle.hunt_command.specs.Traces.{IsThereAt, IsWhole, WhereAsked};
 
 use crate::findings::Findings;
+use crate::policy::Policy;
 use crate::refused::Refused;
 use crate::runs::run_of;
 use command_io::Fault;
@@ -62,7 +62,7 @@ pub(crate) fn save_all<T: Traces>(
     alloc: Global,
     image: &Image,
     config: Config,
-    budget: u32,
+    policy: Policy,
     findings: &Findings,
     traces: &mut Option<T>,
 ) -> Result<(), Refused>
@@ -70,11 +70,11 @@ pub(crate) fn save_all<T: Traces>(
     requires limits { IsWithinLimits config }
     ensures saved { OnOk result
         (WhereAsked (AreSaved T.finds T.opens T.closes T.Writer.has_failed T.Writer.contents config image.now
-        (most_of budget)
+        policy
         (firsts findings.now.found)) traces.old traces.new) }
     ensures refused { IfErr result
         (AreNotSaved T.finds T.opens T.closes T.Writer.has_failed T.Writer.contents config image.now
-        (most_of budget)
+        policy
         (firsts findings.now.found) traces.old traces.new) }
 {
     let Some(traces) = traces else {
@@ -83,7 +83,7 @@ pub(crate) fn save_all<T: Traces>(
     if let Some(number) = there(findings, traces)? {
         return Err(Refused::There(number));
     }
-    save_each(alloc, image, config, budget, findings, traces)?;
+    save_each(alloc, image, config, policy, findings, traces)?;
     Ok(())
 }
 
@@ -106,23 +106,23 @@ fn save_each<T: Traces>(
     alloc: Global,
     image: &Image,
     config: Config,
-    budget: u32,
+    policy: Policy,
     findings: &Findings,
     traces: &mut T,
 ) -> Result<(), Fault>
     requires words { image.now.shared_words ≡ config.shared_words }
     requires limits { IsWithinLimits config }
     ensures saved { OnOk result (AreWritten T.opens T.closes T.Writer.has_failed T.Writer.contents config image.now
-        (most_of budget)
+        policy
         (firsts findings.now.found) traces.old traces.new) }
     ensures refused { IfErr result
         (AreNotWritten T.opens T.closes T.Writer.has_failed T.Writer.contents config image.now
-        (most_of budget)
+        policy
         (firsts findings.now.found) traces.old traces.new) }
 {
     for place in 0..findings.count() {
         let number = findings.first_at(place);
-        save_run(alloc, image, config, budget, number, traces)?;
+        save_run(alloc, image, config, policy, number, traces)?;
     }
     Ok(())
 }
@@ -133,20 +133,20 @@ fn save_run<T: Traces>(
     alloc: Global,
     image: &Image,
     config: Config,
-    budget: u32,
+    policy: Policy,
     number: u32,
     traces: &mut T,
 ) -> Result<(), Fault>
     requires words { image.now.shared_words ≡ config.shared_words }
     requires limits { IsWithinLimits config }
     ensures saved { OnOk result (IsWhole T.opens T.closes T.Writer.has_failed T.Writer.contents config image.now
-        (most_of budget) number
+        policy number
         traces.old traces.new) }
     ensures refused { IfErr result (IsNotWhole T.opens T.closes T.Writer.has_failed T.Writer.contents config image.now
-        (most_of budget) number
+        policy number
         traces.old traces.new) }
 {
-    let (log, _) = run_of(alloc, image, config, budget, number)?;
+    let (log, _) = run_of(alloc, image, config, policy, number)?;
     let mut writer = traces.open(number)?;
     let written = write_trace(&mut writer, &config, log.steps());
     traces.close(writer);

@@ -1,7 +1,7 @@
 //! The different observed parts of results.
 
 ghost use Rattle.std.specs.Prelude.{◌≡◌, ◌+◌, ◌++◌, ◌<◌, ◌^◌, Bool, List, [], IfOk, IfSome, OnOk, length, option_map};
-ghost use Rattle.std.specs.Prelude.{bytes_eq, slice_index_or, string_bytes};
+ghost use Rattle.std.specs.Prelude.{◌≤◌, ℕ, None, Some, bytes_eq, slice_index, slice_index_or, string_bytes};
 ghost use Rattle.std.specs.List.{list_any};
 ghost use Rattle.exploration.specs.local_reduction.Results.{FinalResult as ResultState};
 ghost use Rattle.observed_results.specs.Lines.{heading, lines_by, observed_line, observed_of, parts_lines, with_text};
@@ -65,7 +65,10 @@ impl Parts {
     /// The number of the first result that has the part of this number, both counted from 1, or 0 for 0. None if there
     /// is no such part, or the number is too great.
     pub fn first_with(&self, number: u32) -> Option<u32>
-        ensures { IfSome result (λ first. (marks : List Bool) (results : List ResultState) →
+        ensures none { number ≡ 0 → result ≡ Some 0 }
+        ensures missing { result ≡ None → (part : ℕ) → number ≡ part + 1 → part < length self.now.places →
+            4294967295 ≤ slice_index self.now.places part }
+        ensures first { IfSome result (λ first. (marks : List Bool) (results : List ResultState) →
             AreParts marks results self.now → HasPart marks results number first) }
     {
         let Some(before) = number.checked_sub(1) else {

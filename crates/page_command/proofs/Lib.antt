@@ -6,6 +6,7 @@ pub mod Leading
 pub mod Lists
 pub mod Moving
 pub mod OpeningViews
+pub mod Pictures
 pub mod PlacesSet
 pub mod Putting
 pub mod Registers

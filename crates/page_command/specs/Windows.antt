@@ -39,6 +39,10 @@ lines_in from to = record { processor = None; word = None; from = Some from; to 
 abbrev pub story_choice : Window → Choice
 story_choice w = lines_in w.first w.last
 
+-- the entries with numbers from one on
+abbrev pub entries_from : (first : ℕ) → Choice
+entries_from first = lines_in first None
+
 -- the entries with numbers from one on and below another; none if there is no such number
 abbrev pub entries_between : (first end : ℕ) → Choice
 entries_between first end = if nat_lt first end then lines_in first (Some (end - 1)) else lines_in 1 (Some 0)
@@ -47,7 +51,11 @@ entries_between first end = if nat_lt first end then lines_in first (Some (end -
 abbrev pub entry_count : (opening : MachineLists) → List Step → ℕ
 entry_count opening steps = length (passed opening steps).order
 
--- the entries of a window's steps in the serial order: those after the entries of the steps before it
+-- The entries of a window's steps in the serial order: those after the entries of the steps before it, and, if it has a
+-- last step, only those of the steps up to that one.
+abbrev pub entries_up_to : (last : Option ℕ) → (first : ℕ) → (opening : MachineLists) → List Step → Choice
+entries_up_to None first opening all = entries_from first
+entries_up_to (Some last) first opening all = entries_between first (entry_count opening (steps_until (Some last) all))
+
 abbrev pub entry_choice : Window → (opening : MachineLists) → List Step → Choice
-entry_choice w opening all =
-    entries_between (entry_count opening (steps_before w all)) (entry_count opening (steps_until w.last all))
+entry_choice w opening all = entries_up_to w.last (entry_count opening (steps_before w all)) opening all

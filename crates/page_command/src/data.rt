@@ -2,6 +2,7 @@
 
 ghost use Rattle.std.specs.Prelude.{◌≡◌, ◌≤◌, ◌++◌, ℕ, List, IfOk, IfErr, OnOk, length, string_bytes};
 ghost use Rattle.std.specs.Option.{option_copied};
+ghost use Rattle.steps.specs.declared.step.Step.{Step};
 ghost use Rattle.machine_steps.specs.Machines.{MachineLists};
 ghost use Rattle.machine_steps.specs.Runs.{IsOpening, IsRun};
 ghost use Rattle.command_io.specs.Files.{IsFaultOfSize};
@@ -17,7 +18,7 @@ ghost use Rattle.page_command.specs.Windows.{entry_choice, entry_count, steps_be
 use crate::head::{Counts, push_head, push_symbols};
 use crate::opening::push_opening;
 use crate::step_changes::push_change_lines;
-use crate::window::{Window, entries_between};
+use crate::window::{Window, entries_between, entries_from};
 use command_io::{Fault, machine_of_copy};
 use elf_image::Image;
 use flat_machine::Config;
@@ -25,7 +26,7 @@ use machine_steps::Machine;
 use std::alloc::{AllocError, Global};
 use steps::Step;
 use symbol_table::SymbolTable;
-use trace_commands::{Order, TraceReport, drained_steps, entries_of, story_text};
+use trace_commands::{drained_steps, entries_of, order_lines, story_text};
 use trace_lines::Choice;
 
 /// The data of a page, and the exit status: takes the trace's steps, and then steps until no reference is open. The
@@ -44,7 +45,6 @@ pub fn data_text(
     window: Window,
     symbols: Option<&SymbolTable<'_>>,
 ) -> Result<(String, u8), Fault>
-    requires few { length steps.now ≤ 4194304 }
     requires words { image.now.shared_words ≡ config.shared_words }
     ensures are { IfOk result (λ done. AreDataOf window (rows_in (option_copied symbols.entry)) config image.now
         steps.now (string_bytes done.0) done.1) }
@@ -52,7 +52,7 @@ pub fn data_text(
     ensures refused { IfErr result (IsNotTaken config image.now steps.now) }
 {
     let all = drained_steps(alloc, image, config, steps)?;
-    data_of_all(alloc, image, config, steps, all.as_slice(), window, symbols)
+    data_of_all(alloc, image, config, all.as_slice(), window, symbols)
 }
 
 /// The data of a page, and the exit status, by all steps: those of the trace, and then those of a drain.
@@ -61,43 +61,42 @@ fn data_of_all(
     alloc: Global,
     image: &Image,
     config: Config,
-    steps: &[Step],
     all: &[Step],
     window: Window,
     symbols: Option<&SymbolTable<'_>>,
 ) -> Result<(String, u8), Fault>
-    requires few { length steps.now ≤ 4194304 }
     requires words { image.now.shared_words ≡ config.shared_words }
-    ensures are { IfOk result (λ done. IsDrainedWithSteps config image.now steps.now all.now →
-        AreDataOf window (rows_in (option_copied symbols.entry)) config image.now steps.now (string_bytes done.0)
+    ensures are { IfOk result (λ done. (steps : List Step) → IsDrainedWithSteps config image.now steps all.now →
+        AreDataOf window (rows_in (option_copied symbols.entry)) config image.now steps (string_bytes done.0)
         done.1) }
     ensures low { IfOk result (λ done. done.1 ≤ 1) }
-    ensures refused { IfErr result (IsNotTaken config image.now steps.now) }
+    ensures refused { IfErr result (IsFaultOfSize config) }
 {
     let mut text = text_to_changes(alloc, image, config, all, window, symbols)?;
     push_story(alloc, &mut text, image, config, all, window)?;
     let choice = entry_choice(alloc, image, config, all, window)?;
-    let status = push_order(alloc, &mut text, image, config, steps, choice)?;
+    let status = push_order(alloc, &mut text, image, config, all, choice)?;
     Ok((text, status))
 }
 
-/// Appends the chosen lines of the serial order of the steps of a trace and those of a drain. Returns the exit status.
+/// Appends the chosen lines of the serial order of all steps: those of a trace, and then those of a drain. Returns the
+/// exit status.
 fn push_order(
     alloc: Global,
     text: &mut String,
     image: &Image,
     config: Config,
-    steps: &[Step],
+    all: &[Step],
     choice: Choice,
 ) -> Result<u8, Fault>
-    requires few { length steps.now ≤ 4194304 }
     requires words { image.now.shared_words ≡ config.shared_words }
     ensures are { IfOk result (λ status. (order : List ℕ) × (string_bytes text.new ≡ string_bytes text.old ++ order)
-        × AreOrderLines choice config image.now steps.now order status) }
+        × ((steps : List Step) → IsDrainedWithSteps config image.now steps all.now →
+        AreOrderLines choice config image.now steps order status)) }
     ensures low { IfOk result (λ status. status ≤ 1) }
-    ensures refused { IfErr result (IsNotTaken config image.now steps.now) }
+    ensures refused { IfErr result (IsFaultOfSize config) }
 {
-    let (order, status) = Order { choice }.text(alloc, image, config, steps)?;
+    let (order, status) = order_lines(alloc, image, config, all, choice)?;
     text.push_str(order.as_str())?;
     Ok(status)
 }
@@ -115,11 +114,15 @@ fn entry_choice(
         choice ≡ entry_choice window opening all.now) }
     ensures refused { IfErr result (IsFaultOfSize config) }
 {
-    let until = window.until(all);
     let (before, _) = window.cut(all);
     let first = entry_count(alloc, image, config, before)?;
-    let end = entry_count(alloc, image, config, until)?;
-    Ok(entries_between(first, end))
+    match window.last {
+        None => Ok(entries_from(first)),
+        Some(_) => {
+            let end = entry_count(alloc, image, config, window.until(all))?;
+            Ok(entries_between(first, end))
+        }
+    }
 }
 
 /// The number of entries in the serial order of these steps.
@@ -129,6 +132,9 @@ fn entry_count(alloc: Global, image: &Image, config: Config, steps: &[Step]) -> 
         count ≡ entry_count opening steps.now) }
     ensures refused { IfErr result (IsFaultOfSize config) }
 {
+    if steps.is_empty() {
+        return Ok(0);
+    }
     let entries = entries_of(alloc, image, config, steps)?;
     // There are at most as many as steps.
     match u32::try_from(entries.len()) {

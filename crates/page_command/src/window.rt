@@ -1,14 +1,18 @@
 //! Windows of a run, and why a trace has too many steps for a page.
 
-ghost use Rattle.std.specs.Prelude.{◌≡◌};
-ghost use Rattle.page_command.specs.Windows.{entries_between, lines_in, steps_before, steps_until, steps_within};
-ghost use Rattle.page_command.specs.Windows.{story_choice};
+ghost use Rattle.std.specs.Prelude.{◌≡◌, ◌≤◌, ◌-◌, false, length};
+ghost use Rattle.flat_machine.specs.declared.config.Config.{Config as ConfigValue};
+ghost use Rattle.page_command.specs.Windows.{entries_between, entries_from, is_too_long, lines_in, steps_before};
+ghost use Rattle.page_command.specs.Windows.{steps_until, steps_within, story_choice};
 
 use flat_machine::Config;
 use std::fmt::{self, Display, Formatter};
 use steps::Step;
 use trace_commands::Selection;
 use trace_lines::Choice;
+
+/// The greatest number of steps of a trace that a page shows.
+const MAX_PAGE_STEPS: usize = 500_000;
 
 /// The steps of a run that a page plays: those with numbers from a first one up to a last one.
 #[derive(Clone, Copy, Debug, PartialEq, Eq, Drop)]
@@ -20,6 +24,19 @@ pub struct Window {
 }
 
 impl Window {
+    /// The last steps of a trace that has these, as many as a page shows, and those of a drain.
+    pub fn of_last(steps: &[Step]) -> Self
+        requires { length steps.now ≤ 4194304 }
+        ensures first { result.first ≡ length steps.now - 500000 }
+        ensures last { result.last ≡ None }
+        ensures shown { (c : ConfigValue) → is_too_long result c steps.now ≡ false }
+    {
+        Window {
+            first: steps.len().saturating_sub(MAX_PAGE_STEPS) as u32,
+            last: None,
+        }
+    }
+
     /// The steps up to the last one in the window.
     pub(crate) fn until<'a>(&self, all: &'a [Step]) -> &'a [Step]
         ensures { result.now ≡ steps_until self.now.last all.now }
@@ -60,7 +77,7 @@ impl Display for TooLong {
         let steps = self.steps;
         write!(
             f,
-            "a page shows 500000 steps, and the trace has {steps}: choose some with '--from <NUMBER>' and '--steps <NUMBER>'"
+            "a page shows {MAX_PAGE_STEPS} steps, and the trace has {steps}: choose some with '--from <NUMBER>' and '--steps <NUMBER>'"
         )
     }
 }
@@ -75,7 +92,7 @@ impl Selection for Window {
 
     fn refusal(&self, _config: Config, steps: &[Step]) -> Option<TooLong> {
         let count = steps.len().saturating_sub(self.first as usize);
-        if self.last.is_none() && 500_000 < count {
+        if self.last.is_none() && MAX_PAGE_STEPS < count {
             Some(TooLong { steps: count })
         } else {
             None
@@ -94,6 +111,13 @@ fn lines_in(from: u32, to: Option<u32>) -> Choice
         to,
         network: false,
     }
+}
+
+/// The entries with numbers from one on.
+pub(crate) fn entries_from(first: u32) -> Choice
+    ensures { result ≡ entries_from first }
+{
+    lines_in(first, None)
 }
 
 /// The entries with numbers from one on and below another.

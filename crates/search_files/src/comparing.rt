@@ -2,6 +2,7 @@
 
 ghost use Rattle.std.specs.Prelude.{◌≡◌, false};
 
+use crate::explore_files::saves_run;
 use crate::refusal::SearchRefusal;
 use crate::words::words_of;
 use command_io::Fault;
@@ -33,7 +34,7 @@ pub(crate) fn compare_files<
 ) -> Result<u8, SearchRefusal<'a>>
     requires works { W.has_failed out.old ≡ false }
 {
-    if explore.every || explore.fair || explore.witness.is_some() || explore.trace.is_some() {
+    if explore.every || explore.fair || explore.witness.is_some() || saves_run(explore) {
         return Err(SearchRefusal::Against);
     }
     if explore.file == STANDARD && against == STANDARD {

@@ -1,17 +1,21 @@
 //! `explore`: the results of an image.
 
 ghost use Rattle.std.specs.Prelude.{◌≡◌, false};
-ghost use Rattle.run_reports.specs.RunReports.{IsWorking};
+ghost use Rattle.trace_commands.specs.run_reports.RunReports.{IsWorking};
 
 use crate::comparing::{compare_files, compared_words};
+use crate::explore_files::{link_of, open_image, report_file, saves_run};
+use crate::page_source::PageSource;
 use crate::properties::{judge_file, property_of, read_filter};
 use crate::refusal::SearchRefusal;
+use crate::search_reports::{SearchReports, status_unless_short};
 use crate::words::words_of;
 use explore_command::{Asked, SearchObserver, SearchProgress, explore_command, explore_every_size};
 use flat_machine::Config;
-use host_files::{Reason, open_beside_trace, trace_to};
+use host_files::Reason;
 use link::{LinkRead, LinkWrite, Meter};
 use observed_results::ObservedWords;
+use page_command::Page;
 use settings::Explore;
 use std::alloc::Global;
 use std::io::{Input, Write};
@@ -19,11 +23,13 @@ use std::rt::Files;
 use std::time::Clock;
 use symbol_table::SymbolTable;
 
-/// Does what `explore FILE` asks for, with these names in a condition. The first write to OUT opens it.
+/// Does what `explore FILE` asks for, with these names in a condition. A page that is asked for is made as this one is,
+/// of other steps. The first write to OUT opens it.
 pub fn explore_file<'a, R: Files + Input + Clock + Eprint + AllocGlobal, W: LinkWrite, E: Write>(
     rt: &R,
     explore: &Explore<'a>,
     names: &Option<SymbolTable<'_>>,
+    page: Page<'_>,
     terminal: bool,
     reason: &Reason,
     out: &mut W,
@@ -33,7 +39,7 @@ pub fn explore_file<'a, R: Files + Input + Clock + Eprint + AllocGlobal, W: Link
 {
     let shown = terminal && !explore.quiet;
     if let Some(text) = property_of(explore)? {
-        return judge_file(rt, explore, text, names, shown, reason, out, err);
+        return judge_file(rt, explore, text, names, page, shown, reason, out, err);
     }
     if explore.filter.is_some() && (explore.every || explore.against.is_some()) {
         return Err(SearchRefusal::Filter);
@@ -41,7 +47,7 @@ pub fn explore_file<'a, R: Files + Input + Clock + Eprint + AllocGlobal, W: Link
     if let Some(against) = explore.against {
         return compare_files(rt, explore, against, terminal, reason, out, err);
     }
-    if explore.every && (explore.fair || explore.witness.is_some() || explore.trace.is_some()) {
+    if explore.every && (explore.fair || explore.witness.is_some() || saves_run(explore)) {
         return Err(SearchRefusal::Every);
     }
     if is_half(explore) {
@@ -49,8 +55,9 @@ pub fn explore_file<'a, R: Files + Input + Clock + Eprint + AllocGlobal, W: Link
     }
     let words = printed_words(rt.alloc(), explore)?;
     let filter = read_filter(rt.alloc(), explore, names)?;
-    let mut file = Meter::new(open_beside_trace(rt, explore.file, explore.trace, reason)?);
-    let mut trace = trace_to(rt, explore.trace, reason);
+    let source = PageSource::new(rt.alloc());
+    let mut file = Meter::new(open_image(rt, explore, &source, reason)?);
+    let mut trace = link_of(rt, explore, page, &source, reason)?;
     let config = explore.sizes.config();
     let asked = Asked {
         limit: explore.states,
@@ -62,7 +69,11 @@ pub fn explore_file<'a, R: Files + Input + Clock + Eprint + AllocGlobal, W: Link
     };
     let every = explore.every;
     let mut observer = SearchProgress::new(rt, rt, shown, explore.seconds);
-    Ok(explore_image(
+    let mut reports = SearchReports {
+        err,
+        source: &source,
+    };
+    let status = explore_image(
         rt.alloc(),
         &mut file,
         config,
@@ -71,8 +82,10 @@ pub fn explore_file<'a, R: Files + Input + Clock + Eprint + AllocGlobal, W: Link
         &mut trace,
         &mut observer,
         out,
-        err,
-    ))
+        &mut reports,
+    );
+    report_file(&trace, explore, reason, &mut reports);
+    status_unless_short(status, &source)
 }
 
 /// The words by which results are printed, or None for results as they are. Those that satisfy a condition are printed
@@ -87,9 +100,9 @@ fn printed_words<'a>(
     Ok(Some(compared_words(alloc, explore.observe, &explore.sizes)?))
 }
 
-/// Whether a witness is asked for without a trace, or a trace without a witness or fair schedules.
+/// Whether a witness is asked for without a file for its run, or such a file without a witness or fair schedules.
 fn is_half(explore: &Explore<'_>) -> bool {
-    if explore.trace.is_some() {
+    if saves_run(explore) {
         explore.witness.is_none() && !explore.fair
     } else {
         explore.witness.is_some()

@@ -1,13 +1,19 @@
-//! `hunt`: the runs of an image, and their traces.
+//! `hunt`: the runs of an image, their traces and their pages.
 
 ghost use Rattle.std.specs.Prelude.{◌≡◌, false};
 
+use crate::hunt_files::HuntFiles;
+use crate::page_source::{ImageReader, PageSource};
 use crate::refusal::SearchRefusal;
-use crate::traces::TraceFiles;
+use crate::run_files::RunFiles;
+use crate::run_page::PageForm;
+use crate::search_reports::{SearchReports, status_unless_short};
 use crate::words::words_of;
 use host_files::{Reason, look_for_folder, open};
-use hunt_command::{Hunt as Hunted, HuntProgress, NoHuntProgress, hunt_command};
+use hunt_command::{Hunt as Hunted, HuntProgress, NoHuntProgress, Policy, hunt_command};
 use link::{LinkWrite, Meter};
+use page_command::Page;
+use random_schedules::Strategy;
 use settings::Hunt;
 use std::io::{Input, Write};
 use std::rt::Files;
@@ -26,8 +32,31 @@ fn processors(rt: &impl Threads) -> u8 {
     }
 }
 
-/// Does what `hunt FILE` asks for. The first write to a trace opens it. The progress of the hunt is reported on a
-/// terminal.
+/// The depth of the bugs that a hunt by priorities looks for if no depth is given. Of the depths that `bench/hunt`
+/// tries, the wrong algorithm that takes the most runs takes the fewest with this one.
+const USUAL_DEPTH: u8 = 12;
+
+/// The strategy of the schedules. Only that by priorities takes a depth.
+fn strategy_of<'a>(hunt: &Hunt<'a>) -> Result<Strategy, SearchRefusal<'a>> {
+    let strategy = match hunt.schedule {
+        None => Strategy::Random,
+        Some(name) => {
+            match Strategy::named(name, hunt.depth.unwrap_or(USUAL_DEPTH)) {
+                Some(strategy) => strategy,
+                None => return Err(SearchRefusal::NoStrategy(name)),
+            }
+        }
+    };
+    match strategy {
+        Strategy::Random | Strategy::SweepLike if hunt.depth.is_some() => {
+            Err(SearchRefusal::Depth)
+        }
+        _ => Ok(strategy),
+    }
+}
+
+/// Does what `hunt FILE` asks for. Its pages are made as this one is, of other steps. The first write to a file opens
+/// it. The progress of the hunt is reported on a terminal.
 pub fn hunt_file<
     'a,
     R: Files + Input + Threads + Clock + Eprint + Sync + AllocGlobal,
@@ -36,6 +65,7 @@ pub fn hunt_file<
 >(
     rt: &R,
     hunt: &Hunt<'a>,
+    page: Page<'_>,
     terminal: bool,
     reason: &Reason,
     out: &mut W,
@@ -47,10 +77,24 @@ pub fn hunt_file<
     if let Some(prefix) = hunt.trace {
         look_for_folder(rt, prefix)?;
     }
-    let mut file = Meter::new(open(rt, hunt.file, reason)?);
+    if let Some(prefix) = hunt.page {
+        look_for_folder(rt, prefix)?;
+    }
+    let strategy = strategy_of(hunt)?;
+    let source = PageSource::new(rt.alloc());
+    let device = open(rt, hunt.file, reason)?;
+    let copy = if hunt.page.is_some() {
+        Some(&source)
+    } else {
+        None
+    };
+    let mut file = Meter::new(ImageReader { device, copy });
     let config = hunt.sizes.config();
     let runs = Hunted {
-        budget: hunt.budget,
+        policy: Policy {
+            strategy,
+            budget: hunt.budget,
+        },
         runs: hunt.runs,
         start: hunt.start,
         expect_one: hunt.expect_one,
@@ -58,17 +102,12 @@ pub fn hunt_file<
     };
     let jobs = hunt.jobs.unwrap_or_else(|| processors(rt));
     let alloc = rt.alloc();
-    let mut traces = match hunt.trace {
-        Some(prefix) => Some(TraceFiles {
-            alloc,
-            files: rt,
-            image: hunt.file,
-            prefix,
-            overwrite: hunt.overwrite,
-        }),
-        None => None,
+    let mut traces = files_of(rt, hunt, page, &source, reason);
+    let mut reports = SearchReports {
+        err,
+        source: &source,
     };
-    Ok(if terminal && !hunt.quiet {
+    let status = if terminal && !hunt.quiet {
         let mut observer = HuntProgress::new(rt, rt);
         hunt_command(
             rt,
@@ -80,7 +119,7 @@ pub fn hunt_file<
             &mut traces,
             &mut observer,
             out,
-            err,
+            &mut reports,
         )
     } else {
         let mut observer = NoHuntProgress;
@@ -94,7 +133,38 @@ pub fn hunt_file<
             &mut traces,
             &mut observer,
             out,
-            err,
+            &mut reports,
         )
-    })
+    };
+    if let Some(files) = &traces {
+        files.report_file(&mut reports);
+    }
+    status_unless_short(status, &source)
+}
+
+/// The files to which the traces and the pages of a hunt go, if any are asked for.
+fn files_of<'a, 'h: 'a, R: Files + AllocGlobal>(
+    rt: &'a R,
+    hunt: &Hunt<'h>,
+    page: Page<'a>,
+    source: &'a PageSource,
+    reason: &'a Reason,
+) -> Option<HuntFiles<'a, R>> {
+    if hunt.trace.is_none() && hunt.page.is_none() {
+        return None;
+    }
+    let alloc = rt.alloc();
+    let run = RunFiles {
+        files: rt,
+        image: hunt.file,
+        overwrite: hunt.overwrite,
+        form: PageForm {
+            alloc,
+            page,
+            source,
+            words: hunt.sizes.words,
+        },
+        reason,
+    };
+    Some(HuntFiles::new(alloc, run, hunt.trace, hunt.page))
 }

@@ -2,10 +2,14 @@
 
 ghost use Rattle.std.specs.Prelude.{◌≡◌, false};
 
+use crate::explore_files::{link_of, open_image, report_file};
+use crate::page_source::PageSource;
 use crate::refusal::SearchRefusal;
+use crate::search_reports::{SearchReports, status_unless_short};
 use explore_command::SearchProgress;
-use host_files::{Reason, open_beside_trace, trace_to};
+use host_files::Reason;
 use link::{LinkWrite, Meter};
+use page_command::Page;
 use property_command::{Asked, property_command};
 use settings::Explore;
 use state_conditions::{Condition, Kind, Property, wrong_part};
@@ -59,8 +63,9 @@ fn asks_for_results(explore: &Explore<'_>) -> bool {
         || style.json
 }
 
-/// Judges a property of an image, whose condition has these names, if there are any. The first write to OUT opens it.
-/// The progress of the search is shown if `shown` says so.
+/// Judges a property of an image, whose condition has these names, if there are any. A page of a counterexample is made
+/// as this one is, of other steps. The first write to OUT opens it. The progress of the search is shown if `shown` says
+/// so.
 pub(crate) fn judge_file<
     'a,
     R: Files + Input + Clock + Eprint + AllocGlobal,
@@ -71,6 +76,7 @@ pub(crate) fn judge_file<
     explore: &Explore<'a>,
     text: PropertyText<'a>,
     names: &Option<SymbolTable<'_>>,
+    page: Page<'_>,
     shown: bool,
     reason: &Reason,
     out: &mut W,
@@ -80,8 +86,9 @@ pub(crate) fn judge_file<
 {
     let alloc = rt.alloc();
     let property = read_property(alloc, text, explore.sizes.words, names)?;
-    let mut file = Meter::new(open_beside_trace(rt, explore.file, explore.trace, reason)?);
-    let mut trace = trace_to(rt, explore.trace, reason);
+    let source = PageSource::new(alloc);
+    let mut file = Meter::new(open_image(rt, explore, &source, reason)?);
+    let mut trace = link_of(rt, explore, page, &source, reason)?;
     let config = explore.sizes.config();
     let asked = Asked {
         limit: explore.states,
@@ -89,7 +96,11 @@ pub(crate) fn judge_file<
         condition: text.condition,
     };
     let mut observer = SearchProgress::new(rt, rt, shown, explore.seconds);
-    Ok(property_command(
+    let mut reports = SearchReports {
+        err,
+        source: &source,
+    };
+    let status = property_command(
         alloc,
         &mut file,
         config,
@@ -97,8 +108,10 @@ pub(crate) fn judge_file<
         &mut trace,
         &mut observer,
         out,
-        err,
-    ))
+        &mut reports,
+    );
+    report_file(&trace, explore, reason, &mut reports);
+    status_unless_short(status, &source)
 }
 
 /// The property, on a machine that has this many shared words, with these names in its condition.

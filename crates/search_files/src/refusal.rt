@@ -13,7 +13,7 @@ use std::io::{self, Write};
 pub enum SearchRefusal<'a> {
     /// A file cannot be had.
     File(FileRefusal<'a>),
-    /// A witness is asked for without a file for its trace, or a trace without a witness or fair schedules.
+    /// A witness is asked for without a file for its run, or such a file without a witness or fair schedules.
     Half,
     /// A witness or fair schedules, and every size, are asked for.
     Every,
@@ -38,6 +38,10 @@ pub enum SearchRefusal<'a> {
     NoColumn(&'a str),
     /// The rows of a study are asked for in two formats.
     StudyFormats,
+    /// This text is the name of no strategy of schedules.
+    NoStrategy(&'a str),
+    /// A depth is asked for, and a strategy that takes none.
+    Depth,
     /// There is no memory for what the command line asks for.
     Memory,
 }
@@ -48,16 +52,16 @@ impl SearchRefusal<'_> {
         match self {
             SearchRefusal::File(refusal) => refusal.report_fault(err),
             SearchRefusal::Half => refuse(
-                "--witness goes with --trace, and --trace with --witness or --fair",
+                "--witness goes with --trace or --page, and these with --witness or --fair",
                 err,
             ),
             SearchRefusal::Every => refuse(
-                "--every goes with none of --fair, --witness and --trace",
+                "--every goes with none of --fair, --witness, --trace and --page",
                 err,
             ),
             SearchRefusal::Against => {
                 refuse(
-                    "--against goes with none of --every, --fair, --witness and --trace",
+                    "--against goes with none of --every, --fair, --witness, --trace and --page",
                     err,
                 )
             }
@@ -68,7 +72,7 @@ impl SearchRefusal<'_> {
             SearchRefusal::Properties => {
                 refuse(
                     "--never, --always and --finally exclude each other, and other options than the sizes, --states, \
-                     --seconds, --symbols, --trace and --quiet",
+                     --seconds, --symbols, --trace, --page and --quiet",
                     err,
                 )
             }
@@ -88,6 +92,8 @@ impl SearchRefusal<'_> {
                 "--csv, --json and --plot exclude each other",
                 err,
             ),
+            SearchRefusal::NoStrategy(name) => refuse_strategy(name, err),
+            SearchRefusal::Depth => refuse("--depth goes with --schedule pct", err),
             SearchRefusal::Memory => report_fault(Fault::Memory, err),
         }
     }
@@ -151,6 +157,16 @@ fn refuse_column<E: Write>(name: &str, err: &mut E) -> u8 {
         err,
         "error: invalid value '{name}' for '--plot <COLUMN>': not a column of numbers, as `steps`; `ultra help study` \
          lists them"
+    );
+    REFUSED
+}
+
+/// Reports that a text is the name of no strategy of schedules, in the same way, and returns the exit status.
+fn refuse_strategy<E: Write>(name: &str, err: &mut E) -> u8 {
+    // If standard error fails too, the exit status alone reports it.
+    let _ = writeln!(
+        err,
+        "error: invalid value '{name}' for '--schedule <NAME>': not random, pct or sweep-like"
     );
     REFUSED
 }

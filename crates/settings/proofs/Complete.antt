@@ -16,7 +16,7 @@ use Rattle.command_forms.specs.Commands.{dis_command, explain_command, explore_c
 use Rattle.command_forms.specs.Commands.{port, processor, queue, records, page_command, picture_command, replay_command}
 use Rattle.command_forms.specs.Commands.{run_command, runs}
 use Rattle.command_forms.specs.Commands.{shared_word, shared_words, stages, start, states, stats_command, step, steps}
-use Rattle.command_forms.specs.Commands.{first_line, first_step, jobs, last_line, steps_command, story_command, study_command, sweep_steps}
+use Rattle.command_forms.specs.Commands.{depth, first_line, first_step, jobs, last_line, steps_command, story_command, study_command, sweep_steps}
 use Rattle.command_forms.specs.Commands.{seconds, step_count, trace_command, ultra_command, witness, words_command}
 use Rattle.command_forms.proofs.Lemmas.{commands}
 use Rattle.settings.specs.Given.{HasAsm, HasDebug, HasDis, HasExplore, HasHunt, HasLines, HasPage, HasPath, HasPicture}
@@ -286,6 +286,7 @@ hunt_provided words e = whole (codes "hunt") _ refl (
   number_there (built_leaf hunt_command.top) runs.bounds words refl e,
   number_there (built_leaf hunt_command.top) start.bounds words refl e,
   number_there (built_leaf hunt_command.top) jobs words refl e,
+  number_there (built_leaf hunt_command.top) depth words refl e,
 )
 
 -- ---- the subcommand that words name

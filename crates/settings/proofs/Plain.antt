@@ -197,43 +197,47 @@ file_are OfRun file words named (asked.Run r) said =
       start.0,
     )
 file_are OfHunt file words named (asked.Hunt h) said =
-    let sizes = said.1.7 in
-    let budget = said.1.8 in
-    let runs = said.1.9 in
-    let start = said.1.10 in (
+    let sizes = said.1.9 in
+    let budget = said.1.10 in
+    let runs = said.1.11 in
+    let start = said.1.12 in (
       file_read file h.file.now words named said.1.0,
       no_text h.trace said.1.1,
-      no_text h.observe said.1.2,
-      unset h.overwrite said.1.3.0,
-      unset h.expect_one said.1.4.0,
-      unset h.quiet said.1.5.0,
-      as_it_is h.style said.1.6,
+      no_text h.page said.1.2,
+      no_text h.observe said.1.3,
+      no_text h.schedule said.1.4,
+      unset h.overwrite said.1.5.0,
+      unset h.expect_one said.1.6.0,
+      unset h.quiet said.1.7.0,
+      as_it_is h.style said.1.8,
       (sizes.0.0, sizes.1.0, sizes.2.0, sizes.3.0, sizes.4.0),
       budget.0,
       runs.0,
       start.0,
-      said.1.11,
+      said.1.13,
+      said.1.14,
     )
 file_are OfExplore file words named (asked.Explore x) said =
-    let sizes = said.1.9 in
-    let states = said.1.10 in (
+    let sizes = said.1.10 in
+    let states = said.1.11 in (
       file_read file x.file.now words named said.1.0,
       no_text x.trace said.1.1,
-      no_text x.observe said.1.2,
-      no_text x.against said.1.3,
-      unset x.each said.1.4.0,
-      unset x.fair said.1.5.0,
-      unset x.every said.1.6.0,
-      unset x.quiet said.1.7.0,
-      as_it_is x.style said.1.8,
+      no_text x.page said.1.2,
+      no_text x.observe said.1.3,
+      no_text x.against said.1.4,
+      unset x.each said.1.5.0,
+      unset x.fair said.1.6.0,
+      unset x.every said.1.7.0,
+      unset x.quiet said.1.8.0,
+      as_it_is x.style said.1.9,
       (sizes.0.0, sizes.1.0, sizes.2.0, sizes.3.0, sizes.4.0),
       states.0,
-      said.1.11,
       said.1.12,
-      no_text x.never said.1.13,
-      no_text x.always said.1.14,
-      no_text x.finally said.1.15,
-      no_text x.filter said.1.16,
+      said.1.13,
+      no_text x.never said.1.14,
+      no_text x.always said.1.15,
+      no_text x.finally said.1.16,
+      no_text x.filter said.1.17,
     )
 file_are OfStudy file words named (asked.Study s) said =
     let queue = said.1.7 in

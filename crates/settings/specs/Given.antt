@@ -1,9 +1,9 @@
 -- What clap finds in words without a fault: everything that a command requires.
 use Rattle.std.specs.Prelude.{◌≡◌, ◌⊎◌, pos, true, List, [], ◌∷◌, codes, Option, is_some, option_map, IfSome, IsSomeAnd}
 use Rattle.clap.specs.Words.{IsSignedIn, Row, Text, first_of, one_of, without_minus}
-use Rattle.command_forms.specs.Commands.{Bounds, budget, combinations, first_line, jobs, last_line, port, processor}
-use Rattle.command_forms.specs.Commands.{queue, records, runs, seconds, shared_word, shared_words, stages, start}
-use Rattle.command_forms.specs.Commands.{first_step, states, step, step_count, steps, sweep_steps, witness}
+use Rattle.command_forms.specs.Commands.{Bounds, budget, combinations, depth, first_line, jobs, last_line, port}
+use Rattle.command_forms.specs.Commands.{processor, queue, records, runs, seconds, shared_word, shared_words, stages}
+use Rattle.command_forms.specs.Commands.{first_step, start, states, step, step_count, steps, sweep_steps, witness}
 
 abbrev pub HasPath : Text → List Row → Type 0
 HasPath id rows = is_some (first_of id rows) ≡ true
@@ -56,7 +56,7 @@ HasExplore rows = HasPath (codes "FILE") rows × HasSizes rows × HasNumber stat
 abbrev pub HasHunt : List Row → Type 0
 HasHunt rows =
     HasPath (codes "FILE") rows × HasSizes rows × HasNumber steps.bounds rows × HasNumber runs.bounds rows
-    × HasNumber start.bounds rows × HasNumber jobs rows
+    × HasNumber start.bounds rows × HasNumber jobs rows × HasNumber depth rows
 
 -- the program's subcommands
 abbrev pub command_names : List Text

@@ -31,7 +31,7 @@ use Rattle.settings.specs.declared.choice.Explain.{Explain}
 use Rattle.settings.specs.declared.choice.Sizes.{Sizes}
 use Rattle.command_forms.specs.Commands.{Bounds, Ranged, stages, queue, records, combinations, shared_words}
 use Rattle.command_forms.specs.Commands.{budget, steps, port, seconds, states, runs, start, processor, shared_word}
-use Rattle.command_forms.specs.Commands.{jobs, witness, step, first_step, step_count, first_line, last_line}
+use Rattle.command_forms.specs.Commands.{depth, jobs, witness, step, first_step, step_count, first_line, last_line}
 use Rattle.command_forms.specs.Commands.{sweep_steps, ultra_command}
 
 abbrev pub IsPath : Text → List Row → Text → Type 0
@@ -91,16 +91,17 @@ GivesRun rows r = IsPath (codes "FILE") rows r.file.now
 
 abbrev pub GivesHunt : List Row → Hunt → Type 0
 GivesHunt rows h = IsPath (codes "FILE") rows h.file.now
-    × IsOption (codes "trace") rows h.trace × IsOption (codes "observe") rows h.observe
+    × IsOption (codes "trace") rows h.trace × IsOption (codes "page") rows h.page
+    × IsOption (codes "observe") rows h.observe × IsOption (codes "schedule") rows h.schedule
     × IsFlag (codes "overwrite") rows h.overwrite × IsFlag (codes "expect-one") rows h.expect_one
     × IsFlag (codes "quiet") rows h.quiet × GivesStyle rows h.style × AreSizes rows h.sizes
     × IsNumber steps rows h.budget × IsNumber runs rows h.runs × IsNumber start rows h.start
-    × IsChoice jobs rows h.jobs
+    × IsChoice jobs rows h.jobs × IsChoice depth rows h.depth
 
 abbrev pub GivesExplore : List Row → Explore → Type 0
 GivesExplore rows x = IsPath (codes "FILE") rows x.file.now
-    × IsOption (codes "trace") rows x.trace × IsOption (codes "observe") rows x.observe
-    × IsOption (codes "against") rows x.against
+    × IsOption (codes "trace") rows x.trace × IsOption (codes "page") rows x.page
+    × IsOption (codes "observe") rows x.observe × IsOption (codes "against") rows x.against
     × IsFlag (codes "each") rows x.each × IsFlag (codes "fair") rows x.fair × IsFlag (codes "every") rows x.every
     × IsFlag (codes "quiet") rows x.quiet × GivesStyle rows x.style × AreSizes rows x.sizes
     × IsNumber states rows x.states × IsChoice seconds rows x.seconds × IsChoice witness rows x.witness

@@ -61,12 +61,12 @@ IsPlain (asked.Run r) words = HasFile (codes "run") r.file.now words
     × (r.trace ≡ None) × (r.sweep ≡ false) × (r.no_log ≡ false) × (r.unfinished ≡ false) × (r.quiet ≡ false)
     × IsAsItIs r.style × AreUsual r.sizes × (r.budget ≡ 10000000) × (r.start ≡ 1)
 IsPlain (asked.Hunt h) words = HasFile (codes "hunt") h.file.now words
-    × (h.trace ≡ None) × (h.observe ≡ None) × (h.overwrite ≡ false) × (h.expect_one ≡ false) × (h.quiet ≡ false)
-    × IsAsItIs h.style × AreUsual h.sizes × (h.budget ≡ 100000) × (h.runs ≡ 1000)
-    × (h.start ≡ 1) × (h.jobs ≡ None)
+    × (h.trace ≡ None) × (h.page ≡ None) × (h.observe ≡ None) × (h.schedule ≡ None) × (h.overwrite ≡ false)
+    × (h.expect_one ≡ false) × (h.quiet ≡ false) × IsAsItIs h.style × AreUsual h.sizes × (h.budget ≡ 100000)
+    × (h.runs ≡ 1000) × (h.start ≡ 1) × (h.jobs ≡ None) × (h.depth ≡ None)
 IsPlain (asked.Explore x) words = HasFile (codes "explore") x.file.now words
-    × (x.trace ≡ None) × (x.observe ≡ None) × (x.against ≡ None) × (x.each ≡ false) × (x.fair ≡ false)
-    × (x.every ≡ false) × (x.quiet ≡ false)
+    × (x.trace ≡ None) × (x.page ≡ None) × (x.observe ≡ None) × (x.against ≡ None) × (x.each ≡ false)
+    × (x.fair ≡ false) × (x.every ≡ false) × (x.quiet ≡ false)
     × IsAsItIs x.style × AreUsual x.sizes × (x.states ≡ 1000000) × (x.seconds ≡ None) × (x.witness ≡ None)
     × (x.never ≡ None) × (x.always ≡ None) × (x.finally ≡ None) × (x.filter ≡ None)
 IsPlain (asked.Replay r) words = HasTrace (codes "replay") r.replay words × IsAsItIs r.style

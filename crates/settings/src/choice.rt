@@ -308,6 +308,8 @@ pub struct Explore<'a> {
     pub file: &'a str,
     /// Where to write the trace of a witness or a lasso, if anywhere.
     pub trace: Option<&'a str>,
+    /// Where to write a page of the same steps, if anywhere.
+    pub page: Option<&'a str>,
     /// The list of the words by which results are observed, if given. It may be no list.
     pub observe: Option<&'a str>,
     /// The image of the specification with whose results those of the image are compared, if any.
@@ -348,9 +350,13 @@ pub struct Hunt<'a> {
     pub file: &'a str,
     /// The beginning of the names of the traces to write, if any.
     pub trace: Option<&'a str>,
+    /// The beginning of the names of the pages to write, if any.
+    pub page: Option<&'a str>,
     /// The list of the words by which results are observed, if given. It may be no list.
     pub observe: Option<&'a str>,
-    /// Whether the traces may overwrite existing files.
+    /// The name of the strategy of the schedules, if given. It may be the name of none.
+    pub schedule: Option<&'a str>,
+    /// Whether the traces and the pages may overwrite existing files.
     pub overwrite: bool,
     /// Whether all runs are expected to come to one result.
     pub expect_one: bool,
@@ -368,4 +374,6 @@ pub struct Hunt<'a> {
     pub start: u32,
     /// The number of threads that take the runs, from 1 to 64; None for as many as the host has processors.
     pub jobs: Option<u8>,
+    /// The depth of the bugs that a hunt by priorities looks for, from 1 to 16, if given.
+    pub depth: Option<u8>,
 }

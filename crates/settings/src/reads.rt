@@ -19,9 +19,10 @@ use crate::choice::{
 };
 use clap::ArgMatches;
 use command_forms::{
-    BUDGET, COMBINATIONS, ChoiceOption, FIRST_LINE, FIRST_START, FIRST_STEP, JOBS, LAST_LINE,
-    NumberOption, PORT, PROCESSOR, QUEUE, RECORDS, RUN_STEPS, RUNS, SECONDS, SHARED_WORD,
-    SHARED_WORDS, STAGES, START, STATES, STEP, STEP_COUNT, STEPS, SWEEP_STEPS, WITNESS,
+    BUDGET, COMBINATIONS, ChoiceOption, DEPTH, FIRST_LINE, FIRST_START, FIRST_STEP, JOBS,
+    LAST_LINE, NumberOption, PORT, PROCESSOR, QUEUE, RECORDS, RUN_STEPS, RUNS, SECONDS,
+    SHARED_WORD, SHARED_WORDS, STAGES, START, STATES, STEP, STEP_COUNT, STEPS, SWEEP_STEPS,
+    WITNESS,
 };
 use std::alloc::{AllocError, Global};
 
@@ -396,6 +397,7 @@ fn explore<'a>(matches: &ArgMatches<'a>) -> Explore<'a>
     Explore {
         file: path(matches, "FILE"),
         trace: option(matches, "trace"),
+        page: option(matches, "page"),
         observe: option(matches, "observe"),
         against: option(matches, "against"),
         each: flag(matches, "each"),
@@ -421,7 +423,9 @@ fn hunt<'a>(matches: &ArgMatches<'a>) -> Hunt<'a>
     Hunt {
         file: path(matches, "FILE"),
         trace: option(matches, "trace"),
+        page: option(matches, "page"),
         observe: option(matches, "observe"),
+        schedule: option(matches, "schedule"),
         overwrite: flag(matches, "overwrite"),
         expect_one: flag(matches, "expect-one"),
         quiet: flag(matches, "quiet"),
@@ -431,6 +435,7 @@ fn hunt<'a>(matches: &ArgMatches<'a>) -> Hunt<'a>
         runs: number(matches, RUNS),
         start: number(matches, FIRST_START),
         jobs: byte_choice(matches, JOBS),
+        depth: byte_choice(matches, DEPTH),
     }
 }
 

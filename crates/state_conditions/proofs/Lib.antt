@@ -1,3 +1,4 @@
+pub mod Finding
 pub mod Exchanging
 pub mod Listing
 pub mod Parts

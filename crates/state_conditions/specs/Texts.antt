@@ -2,7 +2,7 @@
 -- is a list of words with blanks between them. The symbols of a file, if there is one, are names of addresses.
 use Rattle.std.specs.Prelude.{ℕ, ◌+◌, ◌-◌, ◌/◌, ◌%◌, ◌^◌, ◌==◌, ◌&&◌, nat_le, nat_lt, not, Bool, List, [], ◌∷◌}
 use Rattle.std.specs.Prelude.{Option, Some, None, bytes_eq, codes, filter, length, if◌then◌else◌, option_and_then}
-use Rattle.std.specs.Prelude.{option_map}
+use Rattle.std.specs.Prelude.{find, is_none, option_map}
 use Rattle.std.specs.Char.{digit_value}
 use Rattle.std.specs.Option.{option_or}
 use Rattle.std.specs.List.{after_first, before_first, list_all, position_or_len, slice_split}
@@ -167,3 +167,27 @@ abbrev pub condition_in : (names : Option (List SymbolRow)) → (shared_words : 
     Option (List (List Comparison))
 condition_in names shared_words text =
     all_read (conjunction_in names shared_words) (slice_split (λ b. b == 124) text)
+
+-- ---- texts that are no condition
+
+-- whether a text is no part of a condition
+abbrev pub is_wrong : (names : Option (List SymbolRow)) → (shared_words : ℕ) → (part : List ℕ) → Bool
+is_wrong names shared_words part = is_none (part_in names shared_words (words_of part))
+
+-- the first part of an alternative that is none of a condition
+abbrev pub wrong_part_of : (names : Option (List SymbolRow)) → (shared_words : ℕ) → (alternative : List ℕ) →
+    Option (List ℕ)
+wrong_part_of names shared_words alternative =
+    find (is_wrong names shared_words) (slice_split (λ b. b == 38) alternative)
+
+-- the first such part of these alternatives
+abbrev pub first_wrong_part : (names : Option (List SymbolRow)) → (shared_words : ℕ) → List (List ℕ) →
+    Option (List ℕ)
+first_wrong_part names shared_words [] = None
+first_wrong_part names shared_words (x ∷ xs) =
+    option_or (wrong_part_of names shared_words x) (first_wrong_part names shared_words xs)
+
+-- the first such part of a text
+abbrev pub wrong_part_in : (names : Option (List SymbolRow)) → (shared_words : ℕ) → (text : List ℕ) →
+    Option (List ℕ)
+wrong_part_in names shared_words text = first_wrong_part names shared_words (slice_split (λ b. b == 124) text)

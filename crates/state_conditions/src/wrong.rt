@@ -1,7 +1,7 @@
 //! What is wrong with a text that is no condition.
 
-ghost use Rattle.std.specs.Prelude.{◌≡◌, IfSome, None};
-ghost use Rattle.state_conditions.specs.Texts.{part_in, words_of};
+ghost use Rattle.std.specs.Prelude.{◌≡◌, option_map};
+ghost use Rattle.state_conditions.specs.Texts.{wrong_part_in, wrong_part_of};
 
 use crate::part::part_of;
 use symbol_table::SymbolTable;
@@ -13,7 +13,7 @@ pub fn wrong_part<'a>(
     shared_words: u32,
     names: &Option<SymbolTable<'_>>,
 ) -> Option<&'a str>
-    ensures { IfSome result (λ part. part_in names.now shared_words (words_of part.now) ≡ None) }
+    ensures { option_map (λ part. part.now) result ≡ wrong_part_in names.now shared_words text.now }
 {
     let mut rest = text;
     while let Some((alternative, after)) = rest.split_once('|') {
@@ -31,18 +31,17 @@ fn wrong_in<'a>(
     shared_words: u32,
     names: &Option<SymbolTable<'_>>,
 ) -> Option<&'a str>
-    ensures { IfSome result (λ part. part_in names.now shared_words (words_of part.now) ≡ None) }
+    ensures { option_map (λ part. part.now) result ≡ wrong_part_of names.now shared_words text.now }
 {
     let mut rest = text;
     while let Some((part, after)) = rest.split_once('&') {
-        if part_of(part, shared_words, names).is_none() {
+        let Some(_) = part_of(part, shared_words, names) else {
             return Some(part);
-        }
+        };
         rest = after;
     }
-    if part_of(rest, shared_words, names).is_none() {
-        Some(rest)
-    } else {
-        None
-    }
+    let Some(_) = part_of(rest, shared_words, names) else {
+        return Some(rest);
+    };
+    None
 }

@@ -10,8 +10,9 @@
 //! The others list the steps of the trace and those of a drain first ([`drained_steps`]). For a story, a second machine
 //! takes all these steps, and each becomes a line, if it is chosen ([`story_text`]). For an order, a second machine
 //! gives their serial order ([`entries_of`]). Two more machines execute it, one entry at a time: one of them has taken
-//! the entry and the other has not yet, so that its line can say what it changed ([`order_text`]). For a picture, a
-//! second machine takes as many steps as are asked for, and its view is drawn ([`picture_text`]).
+//! the entry and the other has not yet, so that its line can say what it changed ([`order_text`]). All of this is
+//! [`order_lines`]. For a picture, a second machine takes as many steps as are asked for, and its view is drawn
+//! ([`picture_text`]).
 #![tactic(auto)]
 
 mod choosing;
@@ -33,7 +34,7 @@ pub use draining::drained_steps;
 pub use drawing::picture_text;
 pub use input::trace_of;
 pub use lines::order_text;
-pub use order::{Order, entries_of};
+pub use order::{Order, entries_of, order_lines};
 pub use picture::Picture;
 pub use replay::{Report, replay_command};
 pub use size_line::push_size;

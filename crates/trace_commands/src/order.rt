@@ -42,9 +42,32 @@ impl TraceReport for Order {
         steps: &[Step],
     ) -> Result<(String, u8), Fault> {
         let all = drained_steps(alloc, image, config, steps)?;
-        let entries = entries_of(alloc, image, config, all.as_slice())?;
-        lines_of_entries(alloc, image, config, entries.as_slice(), self.choice)
+        order_lines(alloc, image, config, all.as_slice(), self.choice)
     }
+}
+
+/// The chosen lines of the serial order of all these steps, on a machine of this size that opens on the image, and the
+/// exit status: what an [`Order`] prints for the trace of which these are the steps and then those of a drain
+/// ([`drained_steps`]). The image was read for that number of shared words.
+///
+/// # Errors
+///
+/// [`Fault::Size`] if the size is out of limits, and [`Fault::Memory`].
+pub fn order_lines(
+    alloc: Global,
+    image: &Image,
+    config: Config,
+    all: &[Step],
+    choice: Choice,
+) -> Result<(String, u8), Fault>
+    requires words { image.now.shared_words ≡ config.shared_words }
+    ensures lines { IfOk result (λ done. (steps : List Step) → IsDrainedWithSteps config image.now steps all.now
+        → AreOrderLines choice config image.now steps (string_bytes done.0) done.1) }
+    ensures low { IfOk result (λ done. done.1 ≤ 1) }
+    ensures refused { IfErr result (IsFaultOfSize config) }
+{
+    let entries = entries_of(alloc, image, config, all)?;
+    lines_of_entries(alloc, image, config, entries.as_slice(), choice)
 }
 
 /// The serial order of these steps, on a machine of this size that opens on the image. The image was read for that

@@ -57,6 +57,12 @@ use trace_lines::Choice;
 use trace_text::{steps_command, text_command};
 use words_command::words_command;
 
+/// All steps of a run.
+const WHOLE: Window = Window {
+    first: 0,
+    last: None,
+};
+
 fn main(rt: HostRuntime) -> ExitCode {
     let (stdout, stderr) = (rt.stdout(), rt.stderr());
     let reason = Reason::new(None);
@@ -285,9 +291,13 @@ fn execute<
             Ok(dis_command(alloc, &mut file, dis.words, dis.comments, out, err))
         }
         Settings::Run(run) => run_file(rt, run, terminal, reason, out, err),
-        Settings::Hunt(hunt) => Ok(hunt_file(rt, hunt, terminal, reason, out, err)?),
+        Settings::Hunt(hunt) => {
+            let page = page(WHOLE, names.as_ref());
+            Ok(hunt_file(rt, hunt, page, terminal, reason, out, err)?)
+        }
         Settings::Explore(explore) => {
-            Ok(explore_file(rt, explore, names, terminal, reason, out, err)?)
+            let page = page(WHOLE, names.as_ref());
+            Ok(explore_file(rt, explore, names, page, terminal, reason, out, err)?)
         }
         Settings::Replay(report) => tell_steps(rt, &report.replay, &Report, reason, out, err),
         Settings::Order(order) => {

@@ -26,7 +26,8 @@ impl<E: Write> Write for Reports<'_, E> {
 }
 
 /// What is at fault by the first letter of a code: a text (A, S, V), an image (I), a trace (X), or what cannot be
-/// opened or read (`link`); or the budget of a run. None for other codes, which concern no file.
+/// opened or read (`link`); or the budget of a run. None for other codes, which concern no file, and for the trace or
+/// page of a search, which `search_files` names.
 pub(crate) fn place_of<'a>(settings: &Settings<'a>, letter: u8) -> Option<Place<'a>> {
     match (letter, settings) {
         (b'V' | b'l', Settings::Words(words)) => Some(Place::File(words.file)),
@@ -42,7 +43,6 @@ pub(crate) fn place_of<'a>(settings: &Settings<'a>, letter: u8) -> Option<Place<
         (b'X', Settings::Run(run)) => file(run.trace),
         (b'b', Settings::Run(run)) if !run.unfinished => Some(Place::Budget),
         (b'I', Settings::Explore(explore)) => Some(Place::File(explore.file)),
-        (b'X', Settings::Explore(explore)) => file(explore.trace),
         (b'I', Settings::Study(study)) => Some(Place::File(study.file)),
         (b'I', Settings::Hunt(hunt)) => Some(Place::File(hunt.file)),
         (b'I', Settings::Debug(session)) => Some(Place::File(session.file)),

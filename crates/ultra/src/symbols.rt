@@ -25,8 +25,9 @@ pub(crate) fn symbol_bytes<'a, R: Files + Input + AllocGlobal>(
     if path == STANDARD && reads_standard_input(settings) {
         return Err(Refusal::File(FileRefusal::InputTwice));
     }
-    let out = trace_of(settings);
-    if path != STANDARD && out.is_some_and(|out| are_one_file(rt, path, out)) {
+    if path != STANDARD
+        && (is_file_at(rt, path, trace_of(settings)) || is_file_at(rt, path, page_of(settings)))
+    {
         return Err(Refusal::File(FileRefusal::SameFile));
     }
     let mut file = Meter::new(open(rt, path, reason)?);
@@ -63,6 +64,22 @@ fn trace_of<'a>(settings: &Settings<'a>) -> Option<&'a str> {
         Settings::Run(run) => run.trace,
         Settings::Explore(explore) => explore.trace,
         _ => None,
+    }
+}
+
+/// Where a command that prints names writes the page that it is asked for.
+fn page_of<'a>(settings: &Settings<'a>) -> Option<&'a str> {
+    match settings {
+        Settings::Explore(explore) => explore.page,
+        _ => None,
+    }
+}
+
+/// Whether a path is given, and names the same file as another.
+fn is_file_at<R: Files>(rt: &R, path: &str, other: Option<&str>) -> bool {
+    match other {
+        Some(other) => are_one_file(rt, path, other),
+        None => false,
     }
 }
 

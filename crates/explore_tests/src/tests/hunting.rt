@@ -6,9 +6,10 @@ ghost use Rattle.std.specs.Prelude.{⊤};
 mod devices;
 
 use flat_machine::Config;
-use hunt_command::{Hunt, HuntObserver, Traces, UNEXPECTED, UNFINISHED, hunt_command};
+use hunt_command::{Hunt, HuntObserver, Policy, Traces, UNEXPECTED, UNFINISHED, hunt_command};
 use link::Meter;
 use observed_results::ObservedWords;
+use random_schedules::Strategy;
 use std::alloc::{AllocError, AllocGlobal, Global};
 use std::io::Write;
 use std::process::Abort;
@@ -103,7 +104,10 @@ struct Ran {
 /// This many runs, with a budget of 1,000 each.
 fn runs_from(start: u32, runs: u32) -> Hunt<'static> {
     Hunt {
-        budget: 1000,
+        policy: Policy {
+            strategy: Strategy::Random,
+            budget: 1000,
+        },
         runs,
         start,
         expect_one: false,

@@ -17,7 +17,7 @@ pub fn compare_first(rt: &(impl Abort + AllocGlobal), most: usize) -> bool {
 }
 
 /// Command lines with a number out of its range: the option, the number and the range.
-static OUT_OF_RANGE: [(&str, &str, &str, &str); 39] = [
+static OUT_OF_RANGE: [(&str, &str, &str, &str); 41] = [
     ("dis --words 0 a.elf", "--words", "0", "1..=262144"),
     (
         "dis a.elf --words=262145",
@@ -147,6 +147,8 @@ static OUT_OF_RANGE: [(&str, &str, &str, &str); 39] = [
     ("hunt a.elf --start=-1", "--start", "-1", "0..=4294967295"),
     ("hunt a.elf --jobs 0", "--jobs", "0", "1..=64"),
     ("hunt a.elf --jobs 65", "--jobs", "65", "1..=64"),
+    ("hunt a.elf --depth 0", "--depth", "0", "1..=16"),
+    ("hunt a.elf --depth 17", "--depth", "17", "1..=16"),
 ];
 
 fn out_of_range(rt: &(impl Abort + AllocGlobal), most: usize) -> bool {
@@ -231,7 +233,7 @@ fn twice(rt: &(impl Abort + AllocGlobal), most: usize) -> bool {
 }
 
 /// Command lines with an option that has no value.
-static WITHOUT_VALUE: [(&str, &str); 14] = [
+static WITHOUT_VALUE: [(&str, &str); 16] = [
     ("run a.elf --k", "--k <NUMBER>"),
     ("run a.elf --c", "--c <NUMBER>"),
     ("run a.elf --b", "--b <NUMBER>"),
@@ -244,6 +246,8 @@ static WITHOUT_VALUE: [(&str, &str); 14] = [
     ("replay a.trace a.elf --words", "--words <NUMBER>"),
     ("order a.trace a.elf --word", "--word <NUMBER>"),
     ("explore a.elf --trace", "--trace <OUT>"),
+    ("explore a.elf --page", "--page <OUT>"),
+    ("hunt a.elf --page", "--page <PREFIX>"),
     ("picture a.trace a.elf --step", "--step <NUMBER>"),
     ("picture a.trace a.elf --symbols", "--symbols <FILE>"),
 ];

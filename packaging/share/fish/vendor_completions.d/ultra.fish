@@ -100,8 +100,10 @@ complete -c ultra -n '__ultra_has_command run' -l help -d 'Print help'
 complete -c ultra -n '__ultra_wants_more run 1 --trace --symbols --k --c --b --r --words --budget --start' -F
 
 complete -c ultra -n '__ultra_has_command hunt' -l trace -r -F -d 'Write a trace for each result, for `ultra replay`, to PREFIX followed by the run\'s number and `.trace`'
+complete -c ultra -n '__ultra_has_command hunt' -l page -r -F -d 'Write a page for each result, which plays its first run, to PREFIX followed by the run\'s number and `.html`'
 complete -c ultra -n '__ultra_has_command hunt' -l observe -x -d 'Words by which runs differ, as `0-3,8`; results have no others [default: all]'
-complete -c ultra -n '__ultra_has_command hunt' -l overwrite -d 'Overwrite traces that exist; without it the hunt is refused if one does'
+complete -c ultra -n '__ultra_has_command hunt' -l schedule -r -F -d 'How a run picks the processor of each turn: random, pct or sweep-like [default: random]'
+complete -c ultra -n '__ultra_has_command hunt' -l overwrite -d 'Overwrite traces and pages that exist; without it the hunt is refused if one does'
 complete -c ultra -n '__ultra_has_command hunt' -l expect-one -d 'Expect all runs to come to one result; if they do not, the exit status says so'
 complete -c ultra -n '__ultra_has_command hunt' -l quiet -d 'Show no progress line on a terminal'
 complete -c ultra -n '__ultra_has_command hunt' -l symbols -r -F -d 'Print names beside addresses and words, from the symbol table of an ELF file or from what `nm` prints; not with --json'
@@ -116,10 +118,12 @@ complete -c ultra -n '__ultra_has_command hunt' -l budget -x -d 'Steps that each
 complete -c ultra -n '__ultra_has_command hunt' -l runs -x -d 'Runs to take, 1 to 1000000 [default: 1000]'
 complete -c ultra -n '__ultra_has_command hunt' -l start -x -d 'Number of the first run, which decides its choices, 0 to 4294967295; the next run has the next number [default: 1]'
 complete -c ultra -n '__ultra_has_command hunt' -l jobs -x -a '1 2 3 4 5 6 7 8 9 10 11 12 13 14 15 16 17 18 19 20 21 22 23 24 25 26 27 28 29 30 31 32 33 34 35 36 37 38 39 40 41 42 43 44 45 46 47 48 49 50 51 52 53 54 55 56 57 58 59 60 61 62 63 64' -d 'Threads that take the runs, 1 to 64; what is printed is the same with any number [default: the host\'s processors]'
+complete -c ultra -n '__ultra_has_command hunt' -l depth -x -a '1 2 3 4 5 6 7 8 9 10 11 12 13 14 15 16' -d 'Depth of the bugs that --schedule pct looks for, 1 to 16: one more than the changes of priority [default: 12]'
 complete -c ultra -n '__ultra_has_command hunt' -l help -d 'Print help'
-complete -c ultra -n '__ultra_wants_more hunt 1 --trace --observe --symbols --k --c --b --r --words --budget --runs --start --jobs' -F
+complete -c ultra -n '__ultra_wants_more hunt 1 --trace --page --observe --schedule --symbols --k --c --b --r --words --budget --runs --start --jobs --depth' -F
 
 complete -c ultra -n '__ultra_has_command explore' -l trace -r -F -d 'Where to write the steps to the result of --witness, those of a lasso, or those that break a property, for `ultra replay`; opened then'
+complete -c ultra -n '__ultra_has_command explore' -l page -r -F -d 'Where to write a page for a browser that plays the same steps, as `ultra page` makes it'
 complete -c ultra -n '__ultra_has_command explore' -l observe -x -d 'Words by which results differ, as `0-3,8`; they are printed without others [default: all]'
 complete -c ultra -n '__ultra_has_command explore' -l filter -r -F -d 'Print only the results that satisfy the condition, as `word 0 == 1`; not with --every or --against'
 complete -c ultra -n '__ultra_has_command explore' -l against -r -F -d 'Print only the results that the image SPEC does not have; not with --every or --witness'
@@ -140,9 +144,9 @@ complete -c ultra -n '__ultra_has_command explore' -l r -x -a '1 2 3' -d 'Times 
 complete -c ultra -n '__ultra_has_command explore' -l words -x -d 'Shared words of four bytes that the machine has, 1 to 262144 [default: 1024]'
 complete -c ultra -n '__ultra_has_command explore' -l states -x -d 'Give up when this many states are found, 1 to 4294967295 [default: 1000000]'
 complete -c ultra -n '__ultra_has_command explore' -l seconds -x -d 'Give up a search after so many seconds, 1 to 4294967295'
-complete -c ultra -n '__ultra_has_command explore' -l witness -x -d 'Write the trace of a path to the result of this number, or with 0 to the first state without a path to an end; goes with --trace'
+complete -c ultra -n '__ultra_has_command explore' -l witness -x -d 'Write the trace of a path to the result of this number, or with 0 to the first state without a path to an end; goes with --trace or --page'
 complete -c ultra -n '__ultra_has_command explore' -l help -d 'Print help'
-complete -c ultra -n '__ultra_wants_more explore 1 --trace --observe --filter --against --never --always --finally --symbols --k --c --b --r --words --states --seconds --witness' -F
+complete -c ultra -n '__ultra_wants_more explore 1 --trace --page --observe --filter --against --never --always --finally --symbols --k --c --b --r --words --states --seconds --witness' -F
 
 complete -c ultra -n '__ultra_has_command replay' -l words -x -d 'Shared words of four bytes that the machine has, 1 to 262144 [default: 1024]'
 complete -c ultra -n '__ultra_has_command replay' -l symbols -r -F -d 'Print names beside addresses and words, from the symbol table of an ELF file or from what `nm` prints; not with --json'

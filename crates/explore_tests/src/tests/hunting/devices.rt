@@ -1,8 +1,9 @@
 //! Refusals, writes that fail, and a test of which `tests/cli/memory.sh` refuses each request for memory in turn.
 
 use super::{Kept, hunted, keeping, runs_from, size};
-use hunt_command::{Hunt, NoHuntProgress, hunt_command};
+use hunt_command::{Hunt, NoHuntProgress, Policy, hunt_command};
 use link::Meter;
+use random_schedules::Strategy;
 use std::test::Fail;
 use test_support::{EBREAK, Sink, assert_same};
 
@@ -10,7 +11,10 @@ use test_support::{EBREAK, Sink, assert_same};
 const STOPPED: &[u8] = b"runs 2 first 1 over\nprocessor 0 pc 00010000 fault 8 console -\n";
 
 const HUNT: Hunt<'static> = Hunt {
-    budget: 10,
+    policy: Policy {
+        strategy: Strategy::Random,
+        budget: 10,
+    },
     runs: 2,
     start: 1,
     expect_one: false,

@@ -7,7 +7,6 @@ use Rattle.command_io.specs.Links.{output}
 use Rattle.hunt_command.specs.Hunts.{asked_hunt, hunt_status, hunt_traces, is_unexpected, trace_store}
 use Rattle.elf_image.specs.declared.error.ImageError.TheVariants as image_error
 use Rattle.command_io.specs.declared.fault.Fault.TheVariants as fault
-use Rattle.schedules.specs.Sweeps.{most_of}
 use Rattle.hunt_command.specs.declared.refused.Refused.TheVariants as refused
 use Rattle.hunt_command.specs.Findings.{firsts}
 use Rattle.hunt_command.proofs.Refusing.{not_unread, of_size, of_traces}
@@ -54,7 +53,7 @@ returns-in_err-save_all-clause-unread g c same =
     not_unread (asked_hunt c.args.config c.args.hunt (record { bytes = None; has_failed = false }))
     (hunt_traces (trace_store g.T.Traces.finds g.T.Traces.opens g.T.Traces.closes g.T.Writer.Link.has_failed g.T.Writer.Write.contents)
     c.args.traces.now c.save_all.new.traces)
-    (output g.W.Write.contents g.W.Link.has_failed c.args.out.now c.args.out.now) c.args.image.now (most_of c.args.hunt.budget)
+    (output g.W.Write.contents g.W.Link.has_failed c.args.out.now c.args.out.now) c.args.image.now c.args.hunt.policy
     (firsts c.in_ok-findings.findings.found) c.in_err-save_all.field-0.0 c.in_err-save_all.ensures.refused failed
 
 pub returns-in_err-print-clause-fault : goal.returns-in_err-print-clause-fault

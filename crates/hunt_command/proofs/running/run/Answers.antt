@@ -8,7 +8,7 @@ returns c =
     let old = c.args.log.now.log in
     let new = c.drain.new.self.log in
     let asked = c.in-Ok.ensures.asked in
-    let ran : HasRunAtRandom c.args.number c.args.most old c.in-Ok.end new =
+    let ran : HasRunAtRandom c.args.number c.args.policy old c.in-Ok.end new =
     record {
       middle = c.ask_by_number.new.log.log;
       asked = asked;
@@ -18,6 +18,6 @@ returns c =
     } in
     record {
       ran = ran;
-      records = run_has_records c.args.number c.args.most old c.in-Ok.end new ran c.reserved_log_is_well_formed-2.ensures.replay
+      records = run_has_records c.args.number c.args.policy old c.in-Ok.end new ran c.reserved_log_is_well_formed-2.ensures.replay
           c.reserved_log_is_well_formed.ensures.replay.run.config;
     }

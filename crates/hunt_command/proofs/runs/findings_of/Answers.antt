@@ -1,6 +1,5 @@
 use Rattle.std.proofs.Common.{◌+◌, ◌∙◌, refl, ap, arith, rules}
 use Rattle.std.proofs.lemmas.List.Elements.{All-nil, All-same}
-use Rattle.schedules.specs.Sweeps.{most_of}
 use Rattle.hunt_command.specs.Findings.{FindingsState}
 use Rattle.hunt_command.specs.Taken.{IsTaken}
 use Rattle.hunt_command.proofs.Gathering.{none_found, one_observed}
@@ -11,7 +10,7 @@ loop-place-init g c =
     let taken = IsTaken c.args.hunt c.args.config c.args.image.now in
     rw c.new-findings.ensures
     (record {
-      found = none_found _ c.args.config c.args.image.now (most_of c.args.hunt.budget) c.args.hunt.start;
+      found = none_found _ c.args.config c.args.image.now c.args.hunt.policy c.args.hunt.start;
       noted = refl;
       low = omega arith;
       ahead = All-same taken _ _ c.new-ahead.ensures (All-nil taken);

@@ -2,7 +2,6 @@ use Rattle.std.proofs.Common.{◌^◌, ◌∙◌, sym, ap, subst}
 use Rattle.std.specs.Prelude.{option_map, replicate, string_bytes}
 use Rattle.flat_machine.specs.declared.config.Config.{Config}
 use Rattle.machine_steps.specs.Machines.{MachineLists}
-use Rattle.schedules.specs.Sweeps.{most_of}
 use Rattle.command_io.specs.Tallies.{nothing_shown}
 use Rattle.run_reports.specs.CountedReplays.{IsReplayCounted}
 use Rattle.hunt_command.specs.Hunts.{IsDrainedTo}
@@ -40,7 +39,7 @@ returns-clause-result c =
     let observed = option_map (λ words. words.now) c.args.observed in
     let text = string_bytes c.in_ok-text.text in
     let printed = string_bytes c.in_ok-text.printed in
-    result_of_drain observed c.args.config c.args.image.now (most_of c.args.budget) c.args.number m c.new-log.result log c.in_ok-end.end text printed
+    result_of_drain observed c.args.config c.args.image.now c.args.policy c.args.number m c.new-log.result log c.in_ok-end.end text printed
     c.in_ok-text.status
     c.in_ok-machine.ensures.opening c.new-log.ensures c.in_ok-end.ensures.asked
     (subst (λ (n : MachineLists). IsDrainedTo observed log.opening log.steps n c.in_ok-end.end text printed c.in_ok-text.status) machine

@@ -7,6 +7,6 @@ use Rattle.page_command.proofs.data.data_text.Goals as goal
 pub returns-clause-are : goal.returns-clause-are
 returns-clause-are c =
     IfOk-weaker c.data_of_all.result _ _
-    (λ done are. are (subst (λ (all : List Step). IsDrainedWithSteps c.args.config c.args.image.now c.args.steps.now all)
+    (λ done are. are c.args.steps.now (subst (λ (all : List Step). IsDrainedWithSteps c.args.config c.args.image.now c.args.steps.now all)
     (sym c.as_slice.ensures.value) c.in_ok-all.ensures.home))
     c.data_of_all.ensures.are

@@ -3,8 +3,8 @@ use Rattle.observed_results.specs.Parts.{AreFirsts, PartLists}
 use Rattle.observed_results.proofs.ObservedParts.{part_there}
 use Rattle.observed_results.proofs.parts.Parts.first_with.Goals as goal
 
-pub returns : goal.returns
-returns c = λ marks results parts.
+pub returns-clause-first : goal.returns-clause-first
+returns-clause-first c = λ marks results parts.
     let before = c.in-Some.ensures in
     let places = c.deref.ensures.value ∙ ap (λ (s : PartLists). s.places) c.self.view_is in
     part_there marks results c.args.self.now.texts c.deref.result.now c.in-Some.before c.args.number

@@ -1,0 +1,4 @@
+pub mod Strategies
+pub mod Epochs
+pub mod Schedules
+pub mod Laws
