@@ -454,6 +454,11 @@ const PAGE: CommandForm = CommandForm {
             value: "FILE",
             help: "Show names of words and program counters, from the symbol table of an ELF file or from what `nm` prints",
         },
+        Argument::Text {
+            name: "source",
+            value: "TEXT",
+            help: "Show the lines of the program's text beside its instructions; FILE has to be what `asm --course TEXT` makes",
+        },
     ],
     ends: PAGE_ENDS,
 };

@@ -224,6 +224,8 @@ those of `ultra story`. The page shows the machine before and after each of them
 does, and beside it the registers, the words, the lines of the story and those of `ultra order`. It plays
 them, goes to a step, and to the next combination, service or stop; `FILE.html#step=43` opens at step 43.
 A key for each is listed under `?`. With --symbols words and program counters are shown by their names.
+With --source the page has the text of the program, and shows which line each processor is at. If TEXT
+does not assemble to FILE, nothing is written.
 
 With --from N the page begins with step N, and with --steps M it has at most M steps. Steps keep their
 numbers. A trace of more than 500000 steps is refused without --steps, if as many follow step N.
