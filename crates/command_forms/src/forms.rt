@@ -236,7 +236,7 @@ const HUNT: CommandForm = CommandForm {
         Argument::Text {
             name: "schedule",
             value: "NAME",
-            help: "How a run picks the processor of each turn: random, pct or sweep-like [default: random]",
+            help: "How a run picks the processor of each turn: random, pct or sweep-like [default: pct]",
         },
         Argument::Flag {
             name: "overwrite",

@@ -365,12 +365,12 @@ does not have, else 0.";
 /// How `hunt` goes, what it prints, and its exit statuses.
 pub(crate) const HUNT_ENDS: &str = "\
 Runs are numbered from --start on. The number alone decides the schedule, so the same number gives the
-same run. By --schedule random a run favours one processor for some turns and then another, and after about
-half of the turns the messages in the network move on. A run whose number is divisible by 6 chooses a
-processor for each turn; each of the others chooses half as often as the one before. By pct the processors
-take their turns in a random order, and --depth less 1 times one of them loses its place to the others
-(probabilistic concurrency testing). By sweep-like they take turns one after another, but some are passed
-over. A run ends as that of `ultra run` does, or after --budget steps that did something or --budget turns;
+same run. By --schedule pct the processors take their turns in a random order, and --depth less 1 times one
+of them loses its place to the others (probabilistic concurrency testing). By random a run favours one
+processor for some turns and then another, and after about half of the turns the messages in the network
+move on. A run whose number is divisible by 6 chooses a processor for each turn; each of the others chooses
+half as often as the one before. By sweep-like they take turns one after another, but some are passed over.
+A run ends as that of `ultra run` does, or after --budget steps that did something or --budget turns;
 then the network is drained.
 
 Each different result is printed once, after a line `runs N first S over`, or `budget` for `over`: how
