@@ -42,7 +42,14 @@ function setUpProgram(run, choose) {
   return run.data.source.length ? setUpSource(run, choose) : setUpListing(run, choose);
 }
 
-// The source. Its lines are made once; a step moves the marks.
+// Whether a line of a list that scrolls can be seen whole.
+function isInSight(list, line) {
+  const top = line.offsetTop - list.offsetTop - list.scrollTop;
+  return top >= 0 && top + line.offsetHeight <= list.clientHeight;
+}
+
+// The source. Its lines are made once; a step moves the marks. If no processor is at a line in sight, the list scrolls to
+// one that is.
 function setUpSource(run, choose) {
   const { data, facts } = run;
   const list = byId('program-list');
@@ -51,7 +58,7 @@ function setUpSource(run, choose) {
   for (const [pc, number] of data.lineAt) addresses.set(number, (addresses.get(number) || []).concat(pc));
   const lines = data.source.map((text, i) => {
     const line = make('div', { class: 'program-line', 'data-line': i + 1 });
-    line.append(processorMarks([]), make('code', { class: 'address' }, String(i + 1)), make('code', {}, text));
+    line.append(processorMarks([]), make('code', { class: 'line-number' }, String(i + 1)), make('code', {}, text));
     list.append(line);
     return line;
   });
@@ -66,9 +73,13 @@ function setUpSource(run, choose) {
     for (const number of it.marked) mark(lines[number - 1], at.get(number));
     for (const [number, pcs] of addresses) {
       const seen = pcs.some((pc) => facts.listing.has(pc) && facts.listing.get(pc).from < now);
-      lines[number - 1].classList.toggle('unseen', !seen && data.first === 0);
+      lines[number - 1].classList.toggle('ahead', !seen && data.first === 0);
     }
     elsewhere.textContent = at.has(0) ? 'Not at a line: ' + at.get(0).join(' ') : '';
+    const here = it.marked.map((number) => lines[number - 1]);
+    if (here.length && !here.some((line) => isInSight(list, line))) {
+      list.scrollTop = here[0].offsetTop - list.offsetTop - list.clientHeight / 3;
+    }
   };
   const mark = (line, processors) => {
     line.classList.toggle('here', processors.length > 0);

@@ -190,7 +190,8 @@ padding: 1px 2px; border-radius: 4px; }
 font-size: 12px; }
 .address { color: var(--faint); }
 .gap { color: var(--faint); padding-left: 108px; }
-.program-line.unseen code { color: var(--faint); }
+.program-line.ahead:not(.here) code { color: var(--faint); }
+.line-number { flex: none; width: 28px; color: var(--faint); text-align: right; }
 .program-label { padding-left: 108px; font-size: 12.5px; font-weight: 600; }
 #register-table { flex: 1 1 45%; min-height: 120px; overflow: auto; display: grid; grid-template-columns: 1fr 1fr;
 gap: 0 14px; align-content: start; }
@@ -1767,6 +1768,10 @@ return number ? number + ': ' + data.source[number - 1].trim() : '';
 function setUpProgram(run, choose) {
 return run.data.source.length ? setUpSource(run, choose) : setUpListing(run, choose);
 }
+function isInSight(list, line) {
+const top = line.offsetTop - list.offsetTop - list.scrollTop;
+return top >= 0 && top + line.offsetHeight <= list.clientHeight;
+}
 function setUpSource(run, choose) {
 const { data, facts } = run;
 const list = byId('program-list');
@@ -1775,7 +1780,7 @@ const addresses = new Map();
 for (const [pc, number] of data.lineAt) addresses.set(number, (addresses.get(number) || []).concat(pc));
 const lines = data.source.map((text, i) => {
 const line = make('div', { class: 'program-line', 'data-line': i + 1 });
-line.append(processorMarks([]), make('code', { class: 'address' }, String(i + 1)), make('code', {}, text));
+line.append(processorMarks([]), make('code', { class: 'line-number' }, String(i + 1)), make('code', {}, text));
 list.append(line);
 return line;
 });
@@ -1790,9 +1795,13 @@ it.marked = [...at.keys()].filter((number) => number > 0);
 for (const number of it.marked) mark(lines[number - 1], at.get(number));
 for (const [number, pcs] of addresses) {
 const seen = pcs.some((pc) => facts.listing.has(pc) && facts.listing.get(pc).from < now);
-lines[number - 1].classList.toggle('unseen', !seen && data.first === 0);
+lines[number - 1].classList.toggle('ahead', !seen && data.first === 0);
 }
 elsewhere.textContent = at.has(0) ? 'Not at a line: ' + at.get(0).join(' ') : '';
+const here = it.marked.map((number) => lines[number - 1]);
+if (here.length && !here.some((line) => isInSight(list, line))) {
+list.scrollTop = here[0].offsetTop - list.offsetTop - list.clientHeight / 3;
+}
 };
 const mark = (line, processors) => {
 line.classList.toggle('here', processors.length > 0);
