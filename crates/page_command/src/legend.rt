@@ -1,6 +1,6 @@
 //! What a page tells of the program: its symbols, and its source.
 
-ghost use Rattle.std.specs.Prelude.{◌≡◌, ◌++◌, None, OnOk, length, string_bytes};
+ghost use Rattle.std.specs.Prelude.{◌≡◌, ◌<◌, ◌^◌, ◌++◌, None, OnOk, length, string_bytes};
 ghost use Rattle.std.specs.List.{flat_map};
 ghost use Rattle.std.specs.Option.{option_copied, option_map};
 ghost use Rattle.machine_views.specs.Names.{rows_in};
@@ -75,7 +75,8 @@ pub fn row_count(source: Option<Source<'_>>) -> usize
 
 /// The number of lines that end in a text.
 fn feed_count(text: &str) -> usize
-    ensures { result ≡ feed_count text.now }
+    ensures count { result ≡ feed_count text.now }
+    ensures few { result < 2 ^ 63 }
 {
     text.as_bytes().iter().filter(|byte| **byte == b'\n').count()
 }
