@@ -20,5 +20,6 @@ mod step_changes;
 mod window;
 
 pub use data::data_text;
-pub use page::Page;
+pub use head::push_symbols;
+pub use page::{Page, page_text};
 pub use window::{TooLong, Window};
