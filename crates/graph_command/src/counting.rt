@@ -58,11 +58,7 @@ pub(crate) fn count_ends<const N: usize>(
 }
 
 /// Whether no processor runs in the state of a row.
-fn is_end<const N: usize>(
-    state_tables: &StateTables,
-    extent: Extent,
-    row: &StateVector<N>,
-) -> bool
+fn is_end<const N: usize>(state_tables: &StateTables, extent: Extent, row: &StateVector<N>) -> bool
     requires row { IsRow extent state_tables.now row.now }
     requires room { extent.processors < N }
     requires narrow { N ≤ 65 }

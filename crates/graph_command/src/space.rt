@@ -1,13 +1,14 @@
 //! The graph of the rows of a search.
 
-ghost use Rattle.std.specs.Prelude.{◌≡◌, ◌<◌, ◌≤◌, false, List, ℕ, length, IfOk, string_bytes};
+ghost use Rattle.std.specs.Prelude.{◌≡◌, ◌<◌, ◌≤◌, ◌++◌, false, length, IfOk, string_bytes};
+ghost use Rattle.std.specs.List.{flat_map};
 ghost use Rattle.local_reduction.specs.Live.{HasAllLive};
 ghost use Rattle.state_search.specs.Ends.{AreRows};
 ghost use Rattle.state_search.specs.state_store.TransitionCache.{KnowsLists, KnowsLocalStates};
 ghost use Rattle.state_search.specs.state_store.Moves.{AreClasses};
 ghost use Rattle.state_search.specs.state_store.StateTables.{setting_at};
-ghost use Rattle.graph_command.specs.Found.{AreTargeted, IsGraphOfRows, states_of};
-ghost use Rattle.graph_command.specs.Lines.{counts_of, graph_lines};
+ghost use Rattle.graph_command.specs.Found.{IsGraphOfRows, states_of};
+ghost use Rattle.graph_command.specs.Lines.{edge_lines, moves_from, state_line};
 
 use crate::counting::{count_ends, count_moves};
 use crate::counts::Counts;
@@ -49,6 +50,11 @@ pub(crate) fn graph_of_space<const N: usize>(
         found.now.rows.keys (string_bytes graph.lines) graph.counts) }
 {
     let rows = found.rows.as_slice();
+    let Ok(lines) = lines_of_states(alloc, state_tables, code, extent, rows) else {
+        return Err(MoveRefusal::Memory);
+    };
+    let results = count_ends(state_tables, extent, rows);
+    let states = rows.len();
     let targets = targets_of_rows(
         alloc,
         state_tables,
@@ -58,39 +64,55 @@ pub(crate) fn graph_of_space<const N: usize>(
         classes,
         &found.rows,
     )?;
-    match graph_of_targets(alloc, state_tables, code, extent, rows, &targets) {
+    match with_edges(lines, &targets, states, results) {
         Ok(graph) => Ok(graph),
         Err(AllocError) => Err(MoveRefusal::Memory),
     }
 }
 
-/// The graph of these rows, given the targets of each.
-fn graph_of_targets<const N: usize>(
+/// The lines of the states of these rows.
+fn lines_of_states<const N: usize>(
     alloc: Global,
     state_tables: &StateTables,
     code: &Code,
     extent: Extent,
     rows: &[StateVector<N>],
-    targets: &Successors,
-) -> Result<Graph, AllocError>
+) -> Result<String, AllocError>
     requires live { HasAllLive code.now state_tables.now.live }
     requires rows { AreRows extent state_tables.now rows.now }
     requires own { extent.exchanged ≡ false }
     requires room { extent.processors < N }
     requires narrow { N ≤ 65 }
-    ensures lines { IfOk result (λ graph. string_bytes graph.lines
-        ≡ graph_lines (setting_at extent) code.now (states_of extent state_tables.now rows.now) targets.now) }
-    ensures counts { IfOk result (λ graph.
-        graph.counts ≡ counts_of (states_of extent state_tables.now rows.now) targets.now) }
+    ensures { IfOk result (λ lines. string_bytes lines
+        ≡ flat_map (state_line (setting_at extent) code.now) (states_of extent state_tables.now rows.now)) }
 {
     let mut lines = String::new(alloc);
     push_states(alloc, &mut lines, state_tables, code, extent, rows)?;
+    Ok(lines)
+}
+
+/// The graph with these lines of so many states, and the edges that these targets give. So many of the states are
+/// results.
+fn with_edges(
+    lines: String,
+    targets: &Successors,
+    states: usize,
+    results: usize,
+) -> Result<Graph, AllocError>
+    ensures lines { IfOk result (λ graph. string_bytes graph.lines
+        ≡ string_bytes lines.entry ++ edge_lines targets.now (length targets.now)) }
+    ensures counts { IfOk result (λ graph. graph.counts ≡ record {
+          states = states;
+          moves = moves_from targets.now (length targets.now);
+          results = results;
+        }) }
+{
+    let mut lines = lines;
     push_edge_lines(&mut lines, targets)?;
-    let moves = count_moves(targets)?;
     let counts = Counts {
-        states: rows.len(),
-        moves,
-        results: count_ends(state_tables, extent, rows),
+        states,
+        moves: count_moves(targets)?,
+        results,
     };
     Ok(Graph { lines, counts })
 }

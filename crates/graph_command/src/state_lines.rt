@@ -62,7 +62,11 @@ fn push_state<const N: usize>(
         ++ state_line (setting_at extent) code.now (means extent state_tables.now row.now)) }
 {
     push_processors(alloc, text, state_tables, code, extent, row)?;
-    push_words(alloc, text, state_tables.words(row[usize::from(extent.processors)]))?;
+    push_words(
+        alloc,
+        text,
+        state_tables.words(row[usize::from(extent.processors)]),
+    )?;
     text.push('\n')
 }
 

@@ -11,9 +11,7 @@ ghost use Rattle.graph_command.specs.Found.{AreTargeted, IsTargeted};
 use indexmap::IndexSet;
 use local_memory::Code;
 use state_graph::Successors;
-use state_search::{
-    Extent, MoveRefusal, StateTables, StateVector, TransitionCaches, find_targets,
-};
+use state_search::{Extent, MoveRefusal, StateTables, StateVector, TransitionCaches, find_targets};
 use std::alloc::Global;
 
 /// The targets of all rows: for each processor, the place of the row to which its move leads, or

@@ -1,0 +1,5 @@
+pub mod Stands
+pub mod Rows
+pub mod Edges
+pub mod Graphing
+pub mod NotGraphed
