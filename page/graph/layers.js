@@ -1,7 +1,12 @@
 // Where states stand: a column for each distance from the first state. In a column they are ordered so that few arrows
-// cross, and stand beside those that they lead to and come from.
+// cross, and stand beside those that they lead to and come from. A column of many states is a few columns wide.
 
-const columnGap = 150, rowGap = 92;
+const rowGap = 114, sideGap = 62;
+
+// the more columns, the nearer they stand
+function columnGapFor(columns) {
+  return Math.max(112, Math.min(152, 1800 / columns));
+}
 
 // those of each distance; states that no move leads to have none
 function layersOf(distance) {
@@ -57,16 +62,26 @@ function spread(wanted, gap) {
   return pools.flatMap((pool) => new Array(pool.size).fill(pool.sum / pool.size)).map((it, i) => it + i * gap);
 }
 
+// how many columns a layer is wide
+function wideness(layer) {
+  return Math.min(6, Math.ceil(layer.length / 14));
+}
+
 function makeLayers(distance, moves) {
   const layers = layersOf(distance), neighbours = neighboursOf(distance, moves);
   orderLayers(layers, neighbours);
-  const x = [], y = [];
-  layers.forEach((layer, d) => layer.forEach((state, i) => {
-    x[state] = d * columnGap;
-    y[state] = (i - (layer.length - 1) / 2) * rowGap;
-  }));
+  const x = [], y = [], columnGap = columnGapFor(layers.length);
+  let right = -columnGap;
+  for (const layer of layers) {
+    const many = wideness(layer), left = right + columnGap;
+    layer.forEach((state, i) => {
+      x[state] = left + i % many * sideGap;
+      y[state] = (i - (layer.length - 1) / 2) * rowGap / many;
+    });
+    right = left + (many - 1) * sideGap;
+  }
   const settle = (layer, beside) => {
-    const places = spread(layer.map((state) => mean(beside(state).map((it) => y[it]), y[state])), rowGap);
+    const places = spread(layer.map((state) => mean(beside(state).map((it) => y[it]), y[state])), rowGap / wideness(layer));
     layer.forEach((state, i) => { y[state] = places[i]; });
   };
   for (let pass = 0; pass < 8; pass++) {
@@ -74,10 +89,18 @@ function makeLayers(distance, moves) {
     for (let d = layers.length - 2; d >= 0; d--) settle(layers[d], (state) => neighbours.after[state]);
   }
   for (const layer of layers) settle(layer, (state) => neighbours.before[state].concat(neighbours.after[state]));
-  const left = 96, right = 70, top = 80, bottom = 76;
-  const least = Math.min(...y.filter((it) => it !== undefined)), most = Math.max(...y.filter((it) => it !== undefined));
+  return inFrame(x, y, right, distance);
+}
+
+// The places in a frame whose form is that of a screen: what is low or narrow is stretched.
+function inFrame(x, y, width, distance) {
+  const left = 118, right = 76, top = 92, bottom = 80, form = 1.55;
+  const there = y.filter((it) => it !== undefined);
+  const least = Math.min(...there), height = Math.max(...there) - least;
+  const down = Math.min(1.6, Math.max(1, width / form / Math.max(1, height)));
+  const along = Math.min(5, Math.max(1, height * form / Math.max(1, width)));
   return {
-    x: x.map((it) => it + left), y: y.map((it) => it - least + top),
-    width: (layers.length - 1) * columnGap + left + right, height: most - least + top + bottom, layers,
+    x: x.map((it) => it * along + left), y: y.map((it) => (it - least) * down + top),
+    width: width * along + left + right, height: height * down + top + bottom, distance,
   };
 }

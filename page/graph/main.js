@@ -84,6 +84,12 @@ function start() {
     }
   };
 
+  // zooms so that the current state stays where it is
+  function zoomAtCurrent(factor) {
+    const i = way.current(), { layout } = stage;
+    zoomCamera(factor, layout.x[i] * camera.scale + camera.x, layout.y[i] * camera.scale + camera.y);
+  }
+
   // ---- actions of buttons and keys
 
   const speed = byId('speed');
@@ -131,7 +137,7 @@ function start() {
       document.documentElement.dataset.theme = dark ? 'light' : 'dark';
     },
     panels: () => byId('button-panels').setAttribute('aria-pressed', String(!document.body.classList.toggle('alone'))),
-    fit: fitCamera, closer: () => zoomCamera(1.25), farther: () => zoomCamera(0.8),
+    fit: fitCamera, closer: () => zoomAtCurrent(1.25), farther: () => zoomAtCurrent(0.8),
     print: () => window.print(),
     help: () => { byId('help').open ? byId('help').close() : byId('help').showModal(); },
     leave: () => way.choose(0),
@@ -195,6 +201,9 @@ function start() {
 
   relabel();
   setUpCamera();
+  // from far away the signs are dots
+  new MutationObserver(() => svg.classList.toggle('far', camera.scale < 0.38))
+    .observe(stage.camera, { attributes: true, attributeFilter: ['transform'] });
   fitCamera();
   way.choose(stateInAddress(location.href), true);
   document.body.dataset.ready = 'yes';

@@ -65,9 +65,6 @@ function setUpPanel(graph, follow, go) {
       return line;
     }));
     const here = byId('way').querySelector('[aria-current]');
-    if (here) {
-      const box = here.closest('.long'), top = here.getBoundingClientRect().top - box.getBoundingClientRect().top;
-      if (top > box.clientHeight - 40) box.scrollTop += top - box.clientHeight + 60;
-    }
+    if (here) byId('way').scrollTop = here.offsetTop - byId('way').clientHeight / 2;
   } };
 }

@@ -29,12 +29,15 @@ function pathOfMove(layout, move, lane, lanes) {
   const x1 = x[move.from], y1 = y[move.from], x2 = x[move.to], y2 = y[move.to];
   const shift = (lane - (lanes - 1) / 2) * 20;
   if (move.from === move.to) {
-    const wide = 22 + lane * 12, high = 74 + lane * 22;
-    return `M${x1 - 12} ${y1 - radius}C${x1 - wide} ${y1 - high} ${x1 + wide} ${y1 - high} ${x1 + 12} ${y1 - radius - 5}`;
+    // above the sign; several fan out
+    const turn = (lane - (lanes - 1) / 2) * 0.95;
+    const at = (right, up) => `${(x1 + right * Math.cos(turn) + up * Math.sin(turn)).toFixed(1)} ${(y1 + right * Math.sin(turn)
+      - up * Math.cos(turn)).toFixed(1)}`;
+    return `M${at(-13, radius - 1)}C${at(-24, 67)} ${at(24, 67)} ${at(14, radius + 5)}`;
   }
   const dx = x2 - x1, dy = y2 - y1, length = Math.hypot(dx, dy);
   const nx = -dy / length, ny = dx / length;
-  const columns = Math.round(dx / columnGap);
+  const columns = layout.distance[move.to] - layout.distance[move.from];
   const bend = columns === 1 ? shift : (columns <= 0 ? 1 : -1) * (34 + 0.16 * length) + shift;
   const cx = (x1 + x2) / 2 + nx * bend * 1.4, cy = (y1 + y2) / 2 + ny * bend * 1.4;
   const [fromX, fromY] = edgeOfSign(x1, y1, cx, cy, 3), [toX, toY] = edgeOfSign(x2, y2, cx, cy, 8);
@@ -49,7 +52,7 @@ function arrowGlyph(graph, move, lane, lanes) {
     'marker-end': 'url(#tip-' + move.by + ')' });
   g.append(draw('title', {}, moveText(graph, move)), path);
   stage.parts.moves.append(g);
-  const middle = path.getPointAtLength(path.getTotalLength() * (move.from === move.to ? 0.5 : 0.46));
+  const middle = path.getPointAtLength(path.getTotalLength() * (move.from === move.to ? 0.5 : 0.37));
   const label = draw('g', { class: 'mover', transform: `translate(${middle.x.toFixed(1)} ${middle.y.toFixed(1)})` });
   label.append(draw('circle', { r: 12 }), draw('text', { y: 5.5, 'text-anchor': 'middle' }, String(move.by)));
   g.append(label);
@@ -106,9 +109,9 @@ function nodeGlyph(graph, i) {
     'aria-label': stateText(graph, i), transform: `translate(${stage.layout.x[i].toFixed(1)} ${stage.layout.y[i].toFixed(1)})` });
   g.append(draw('title', {}, stateText(graph, i)));
   if (i === 0) {
-    g.append(draw('path', { class: 'entry', d: `M${-radius - 38} 0H${-radius - 7}` }),
-      draw('path', { class: 'entry-tip', d: `M${-radius - 14} -7L${-radius - 2} 0L${-radius - 14} 7Z` }),
-      draw('text', { class: 'tag', x: -radius - 24, y: -10, 'text-anchor': 'middle' }, 'start'));
+    g.append(draw('path', { class: 'entry', d: `M${-radius - 56} 0H${-radius - 26}` }),
+      draw('path', { class: 'entry-tip', d: `M${-radius - 31} -8L${-radius - 17} 0L${-radius - 31} 8Z` }),
+      draw('text', { class: 'tag', x: -radius - 42, y: -12, 'text-anchor': 'middle' }, 'start'));
   }
   g.append(draw('circle', { class: 'halo', r: radius + 11 }));
   if (found.cycle[i]) g.append(draw('circle', { class: 'ring', r: radius + 6 }));
@@ -130,7 +133,8 @@ function setUpScene(svg, graph) {
   for (let p = 0; p < graph.states[0].processors.length; p++) {
     const tip = draw('marker', { id: 'tip-' + p, viewBox: '0 0 10 10', refX: 7, refY: 5, markerWidth: 13, markerHeight: 13,
       markerUnits: 'userSpaceOnUse', orient: 'auto-start-reverse' });
-    tip.append(draw('path', { d: 'M0 0L10 5L0 10Z', fill: colourOf(p), class: 'tip' }));
+    tip.append(draw('path', { d: 'M0 0L10 5L0 10Z', class: 'tip' }));
+    tip.style.setProperty('--own', colourOf(p));
     tips.append(tip);
   }
   stage.token = draw('circle', { class: 'token', r: 10, hidden: '' });

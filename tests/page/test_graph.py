@@ -124,9 +124,12 @@ def check_drawing(browser, graph):
     # by form as well: a square, an octagon, a ring
     same([look["squares"], look["octagons"], look["rings"]], [graph.ends, graph.deadlocks, graph.cycles], f"{what}: forms")
     same(look["labels"], [str(i) for i in range(count)], f"{what}: labels")
-    left = {graph.distance[i]: look["x"][i] for i in range(count)}
-    same([look["x"][i] for i in range(count)], [left[graph.distance[i]] for i in range(count)], f"{what}: columns")
-    same([left[d] for d in sorted(left)], sorted(set(left.values())), f"{what}: columns by distance")
+    # a column for each distance, the nearer ones to the left
+    columns = {}
+    for i in range(count):
+        columns.setdefault(graph.distance[i], []).append(look["x"][i])
+    for d in range(1, len(columns)):
+        same(max(columns[d - 1]) < min(columns[d]), True, f"{what}: columns {d - 1} and {d}")
     same(look["places"], count, f"{what}: no state on another")
     for i, (said, tags) in enumerate(zip(look["spoken"], look["tags"])):
         same(said.startswith(f"state {i}, ") and said.endswith(counted(graph.distance[i], "move") + " from the start"), True, f"{what}: {said}")

@@ -70,12 +70,12 @@ grid-template: minmax(0, 1fr) auto auto / minmax(0, 1fr) clamp(380px, 25vw, 480p
 .alone aside { display: none; }
 aside { grid-area: 1 / 2 / 4 / 3; border-left: 1px solid var(--line); background: var(--card); display: flex;
 flex-direction: column; min-height: 0; padding: 10px 12px; }
-:root { --result: #188043; --result-soft: #e2f3e8; --stop: #c22b2b; --stop-soft: #fbe3e1; --round: #8a5a00; }
+:root { --lift: 0%; --result: #188043; --result-soft: #e2f3e8; --stop: #c22b2b; --stop-soft: #fbe3e1; --round: #8a5a00; }
 @media (prefers-color-scheme: dark) {
-:root:not([data-theme=light]) { --result: #5fd08a; --result-soft: #143524; --stop: #ff7a70; --stop-soft: #42191a;
+:root:not([data-theme=light]) { --lift: 30%; --result: #5fd08a; --result-soft: #143524; --stop: #ff7a70; --stop-soft: #42191a;
 --round: #e6b450; }
 }
-:root[data-theme=dark] { --result: #5fd08a; --result-soft: #143524; --stop: #ff7a70; --stop-soft: #42191a;
+:root[data-theme=dark] { --lift: 30%; --result: #5fd08a; --result-soft: #143524; --stop: #ff7a70; --stop-soft: #42191a;
 --round: #e6b450; }
 .scene { position: relative; min-height: 0; overflow: hidden; }
 #drawing { position: absolute; inset: 0; width: 100%; height: calc(100% - 50px); touch-action: none; cursor: grab;
@@ -107,7 +107,15 @@ stroke-width: 4px; }
 .deadlock .body { fill: var(--stop-soft); stroke: var(--stop); stroke-width: 3.5; }
 #drawing .deadlock .tag, #drawing .bang { fill: var(--stop); }
 .bang { font-size: 26px; font-weight: 800; paint-order: stroke; stroke: var(--paper); stroke-width: 4px; }
-.arrow { fill: none; stroke: var(--own); stroke-width: 2.5; opacity: .75; }
+.arrow { fill: none; stroke: color-mix(in srgb, var(--own), #fff var(--lift)); stroke-width: 2.5; opacity: .8; }
+.tip { fill: color-mix(in srgb, var(--own), #fff var(--lift)); }
+.far .mover, .far .label, .far .tag, .far .inner { display: none; }
+.far .arrow { stroke-width: 4; opacity: .5; }
+.far .body { fill: var(--edge); stroke: var(--edge); stroke-width: 6; }
+.far .result .body { fill: var(--result); stroke: var(--result); }
+.far .deadlock .body { fill: var(--stop); stroke: var(--stop); }
+.far .on-way .arrow { stroke-width: 14; }
+.far .current .halo { stroke-width: 22; }
 .mover circle { fill: var(--own); stroke: var(--paper); stroke-width: 2; }
 #drawing .mover text { fill: #fff; font-size: 15px; font-weight: 700; }
 .choosing .move:not(.on-way), .choosing .node:not(.on-way) { opacity: .3; }
@@ -140,8 +148,8 @@ stroke-linejoin: round; }
 #speed-text { display: inline-block; min-width: 118px; margin-left: 6px; color: var(--faint); font-size: 13px; }
 aside h2 { font-size: 15px; margin: 12px 0 4px; }
 #state-title { font-size: 24px; margin: 0; }
-#state-marks { color: var(--faint); font-size: 15px; min-height: 2.8em; }
-.long { flex: 1; min-height: 0; overflow: auto; }
+#state-marks { color: var(--faint); font-size: 15px; min-height: 2.8em; margin-bottom: 10px; }
+.long { flex: 0 1 auto; min-height: 0; overflow: auto; }
 #processors { border-collapse: collapse; width: 100%; font-size: 14.5px; }
 #processors th { text-align: left; font-size: 12px; color: var(--faint); font-weight: 600; padding: 0 8px 2px 0; }
 #processors td { padding: 3px 8px 3px 0; vertical-align: top; overflow-wrap: anywhere; }
@@ -153,7 +161,7 @@ aside h2 { font-size: 15px; margin: 12px 0 4px; }
 background: var(--own, #777); color: #fff; font: 700 14px/22px system-ui, sans-serif; text-align: center; flex: none; }
 .word-row { display: flex; justify-content: space-between; font-size: 15px; padding: 2px 4px; border-radius: 4px; }
 .word-row.changed { background: var(--soft); font-weight: 700; }
-#way { margin: 0; padding: 0; list-style: none; }
+#way { position: relative; flex: 1 1 0; min-height: 30%; overflow: auto; margin: 0; padding: 0; list-style: none; }
 .move-line { display: flex; gap: 8px; align-items: center; width: 100%; text-align: left; border: 0; background: none;
 padding: 3px 4px; min-height: 28px; font-size: 14px; }
 .move-line .text { flex: 1; font-family: ui-monospace, "DejaVu Sans Mono", Menlo, Consolas, monospace; font-size: 13px;
@@ -253,12 +261,13 @@ title="to the end of the way (End)"><svg viewBox="0 0 20 20"><path d="M16 3v14M4
 id="speed-text"></span></label>
 <label>to state <input type="number" id="state-number" min="0" value="0"></label>
 <div class="group" role="group" aria-label="to the next state of a kind">
+<span>next</span>
 <button type="button" data-does="result" id="button-result" title="next result (r; with Shift the one before)"
->next result</button>
-<button type="button" data-does="deadlock" id="button-deadlock"
-title="next deadlock (d; with Shift the one before)">next deadlock</button>
-<button type="button" data-does="cycle" id="button-cycle"
-title="next state in a cycle (c; with Shift the one before)">next in a cycle</button>
+aria-label="next result">result</button>
+<button type="button" data-does="deadlock" id="button-deadlock" aria-label="next deadlock"
+title="next deadlock (d; with Shift the one before)">deadlock</button>
+<button type="button" data-does="cycle" id="button-cycle" aria-label="next state in a cycle"
+title="next state in a cycle (c; with Shift the one before)">cycle</button>
 </div>
 </div>
 </section>
@@ -272,9 +281,9 @@ scope="col">next</th></tr></thead><tbody></tbody></table>
 <div id="words"></div>
 <h2>Moves from here</h2>
 <div id="moves"></div>
-<h2>The way <span id="way-count" class="faint"></span></h2>
-<ol id="way"></ol>
 </div>
+<h2>The way <span id="way-count" class="faint"></span></h2>
+<ol id="way" tabindex="0" aria-label="the way"></ol>
 </aside>
 </main>
 <dialog id="help" aria-labelledby="help-title">
@@ -593,7 +602,10 @@ component,
 cycle: states.map((_, i) => component[i].length > 1 || loops[i]),
 };
 }
-const columnGap = 150, rowGap = 92;
+const rowGap = 114, sideGap = 62;
+function columnGapFor(columns) {
+return Math.max(112, Math.min(152, 1800 / columns));
+}
 function layersOf(distance) {
 const layers = [];
 distance.forEach((d, i) => { if (d >= 0) (layers[d] = layers[d] || []).push(i); });
@@ -639,16 +651,24 @@ pools.push(pool);
 });
 return pools.flatMap((pool) => new Array(pool.size).fill(pool.sum / pool.size)).map((it, i) => it + i * gap);
 }
+function wideness(layer) {
+return Math.min(6, Math.ceil(layer.length / 14));
+}
 function makeLayers(distance, moves) {
 const layers = layersOf(distance), neighbours = neighboursOf(distance, moves);
 orderLayers(layers, neighbours);
-const x = [], y = [];
-layers.forEach((layer, d) => layer.forEach((state, i) => {
-x[state] = d * columnGap;
-y[state] = (i - (layer.length - 1) / 2) * rowGap;
-}));
+const x = [], y = [], columnGap = columnGapFor(layers.length);
+let right = -columnGap;
+for (const layer of layers) {
+const many = wideness(layer), left = right + columnGap;
+layer.forEach((state, i) => {
+x[state] = left + i % many * sideGap;
+y[state] = (i - (layer.length - 1) / 2) * rowGap / many;
+});
+right = left + (many - 1) * sideGap;
+}
 const settle = (layer, beside) => {
-const places = spread(layer.map((state) => mean(beside(state).map((it) => y[it]), y[state])), rowGap);
+const places = spread(layer.map((state) => mean(beside(state).map((it) => y[it]), y[state])), rowGap / wideness(layer));
 layer.forEach((state, i) => { y[state] = places[i]; });
 };
 for (let pass = 0; pass < 8; pass++) {
@@ -656,11 +676,17 @@ for (let d = 1; d < layers.length; d++) settle(layers[d], (state) => neighbours.
 for (let d = layers.length - 2; d >= 0; d--) settle(layers[d], (state) => neighbours.after[state]);
 }
 for (const layer of layers) settle(layer, (state) => neighbours.before[state].concat(neighbours.after[state]));
-const left = 96, right = 70, top = 80, bottom = 76;
-const least = Math.min(...y.filter((it) => it !== undefined)), most = Math.max(...y.filter((it) => it !== undefined));
+return inFrame(x, y, right, distance);
+}
+function inFrame(x, y, width, distance) {
+const left = 118, right = 76, top = 92, bottom = 80, form = 1.55;
+const there = y.filter((it) => it !== undefined);
+const least = Math.min(...there), height = Math.max(...there) - least;
+const down = Math.min(1.6, Math.max(1, width / form / Math.max(1, height)));
+const along = Math.min(5, Math.max(1, height * form / Math.max(1, width)));
 return {
-x: x.map((it) => it + left), y: y.map((it) => it - least + top),
-width: (layers.length - 1) * columnGap + left + right, height: most - least + top + bottom, layers,
+x: x.map((it) => it * along + left), y: y.map((it) => (it - least) * down + top),
+width: width * along + left + right, height: height * down + top + bottom, distance,
 };
 }
 function doingText(processor) {
@@ -728,12 +754,14 @@ const { x, y } = layout;
 const x1 = x[move.from], y1 = y[move.from], x2 = x[move.to], y2 = y[move.to];
 const shift = (lane - (lanes - 1) / 2) * 20;
 if (move.from === move.to) {
-const wide = 22 + lane * 12, high = 74 + lane * 22;
-return `M${x1 - 12} ${y1 - radius}C${x1 - wide} ${y1 - high} ${x1 + wide} ${y1 - high} ${x1 + 12} ${y1 - radius - 5}`;
+const turn = (lane - (lanes - 1) / 2) * 0.95;
+const at = (right, up) => `${(x1 + right * Math.cos(turn) + up * Math.sin(turn)).toFixed(1)} ${(y1 + right * Math.sin(turn)
+- up * Math.cos(turn)).toFixed(1)}`;
+return `M${at(-13, radius - 1)}C${at(-24, 67)} ${at(24, 67)} ${at(14, radius + 5)}`;
 }
 const dx = x2 - x1, dy = y2 - y1, length = Math.hypot(dx, dy);
 const nx = -dy / length, ny = dx / length;
-const columns = Math.round(dx / columnGap);
+const columns = layout.distance[move.to] - layout.distance[move.from];
 const bend = columns === 1 ? shift : (columns <= 0 ? 1 : -1) * (34 + 0.16 * length) + shift;
 const cx = (x1 + x2) / 2 + nx * bend * 1.4, cy = (y1 + y2) / 2 + ny * bend * 1.4;
 const [fromX, fromY] = edgeOfSign(x1, y1, cx, cy, 3), [toX, toY] = edgeOfSign(x2, y2, cx, cy, 8);
@@ -747,7 +775,7 @@ const path = draw('path', { d: pathOfMove(stage.layout, move, lane, lanes), clas
 'marker-end': 'url(#tip-' + move.by + ')' });
 g.append(draw('title', {}, moveText(graph, move)), path);
 stage.parts.moves.append(g);
-const middle = path.getPointAtLength(path.getTotalLength() * (move.from === move.to ? 0.5 : 0.46));
+const middle = path.getPointAtLength(path.getTotalLength() * (move.from === move.to ? 0.5 : 0.37));
 const label = draw('g', { class: 'mover', transform: `translate(${middle.x.toFixed(1)} ${middle.y.toFixed(1)})` });
 label.append(draw('circle', { r: 12 }), draw('text', { y: 5.5, 'text-anchor': 'middle' }, String(move.by)));
 g.append(label);
@@ -797,9 +825,9 @@ const g = draw('g', { class: kinds.join(' '), 'data-state': i, role: 'button', t
 'aria-label': stateText(graph, i), transform: `translate(${stage.layout.x[i].toFixed(1)} ${stage.layout.y[i].toFixed(1)})` });
 g.append(draw('title', {}, stateText(graph, i)));
 if (i === 0) {
-g.append(draw('path', { class: 'entry', d: `M${-radius - 38} 0H${-radius - 7}` }),
-draw('path', { class: 'entry-tip', d: `M${-radius - 14} -7L${-radius - 2} 0L${-radius - 14} 7Z` }),
-draw('text', { class: 'tag', x: -radius - 24, y: -10, 'text-anchor': 'middle' }, 'start'));
+g.append(draw('path', { class: 'entry', d: `M${-radius - 56} 0H${-radius - 26}` }),
+draw('path', { class: 'entry-tip', d: `M${-radius - 31} -8L${-radius - 17} 0L${-radius - 31} 8Z` }),
+draw('text', { class: 'tag', x: -radius - 42, y: -12, 'text-anchor': 'middle' }, 'start'));
 }
 g.append(draw('circle', { class: 'halo', r: radius + 11 }));
 if (found.cycle[i]) g.append(draw('circle', { class: 'ring', r: radius + 6 }));
@@ -818,7 +846,8 @@ const tips = draw('defs', {});
 for (let p = 0; p < graph.states[0].processors.length; p++) {
 const tip = draw('marker', { id: 'tip-' + p, viewBox: '0 0 10 10', refX: 7, refY: 5, markerWidth: 13, markerHeight: 13,
 markerUnits: 'userSpaceOnUse', orient: 'auto-start-reverse' });
-tip.append(draw('path', { d: 'M0 0L10 5L0 10Z', fill: colourOf(p), class: 'tip' }));
+tip.append(draw('path', { d: 'M0 0L10 5L0 10Z', class: 'tip' }));
+tip.style.setProperty('--own', colourOf(p));
 tips.append(tip);
 }
 stage.token = draw('circle', { class: 'token', r: 10, hidden: '' });
@@ -935,10 +964,7 @@ line.append(moveButton(graph, move, i, '\u2192'));
 return line;
 }));
 const here = byId('way').querySelector('[aria-current]');
-if (here) {
-const box = here.closest('.long'), top = here.getBoundingClientRect().top - box.getBoundingClientRect().top;
-if (top > box.clientHeight - 40) box.scrollTop += top - box.clientHeight + 60;
-}
+if (here) byId('way').scrollTop = here.offsetTop - byId('way').clientHeight / 2;
 } };
 }
 const speeds = [0.5, 1, 2, 4, 8];
@@ -1056,6 +1082,10 @@ const at = (way.target + (forwards ? step : states.length - step)) % states.leng
 if (wanted(at)) { playTo(at); return; }
 }
 };
+function zoomAtCurrent(factor) {
+const i = way.current(), { layout } = stage;
+zoomCamera(factor, layout.x[i] * camera.scale + camera.x, layout.y[i] * camera.scale + camera.y);
+}
 const speed = byId('speed');
 const setSpeed = (i) => {
 const index = Math.min(speeds.length - 1, Math.max(0, i));
@@ -1099,7 +1129,7 @@ const dark = document.documentElement.dataset.theme ? document.documentElement.d
 document.documentElement.dataset.theme = dark ? 'light' : 'dark';
 },
 panels: () => byId('button-panels').setAttribute('aria-pressed', String(!document.body.classList.toggle('alone'))),
-fit: fitCamera, closer: () => zoomCamera(1.25), farther: () => zoomCamera(0.8),
+fit: fitCamera, closer: () => zoomAtCurrent(1.25), farther: () => zoomAtCurrent(0.8),
 print: () => window.print(),
 help: () => { byId('help').open ? byId('help').close() : byId('help').showModal(); },
 leave: () => way.choose(0),
@@ -1155,6 +1185,8 @@ placeCamera();
 });
 relabel();
 setUpCamera();
+new MutationObserver(() => svg.classList.toggle('far', camera.scale < 0.38))
+.observe(stage.camera, { attributes: true, attributeFilter: ['transform'] });
 fitCamera();
 way.choose(stateInAddress(location.href), true);
 document.body.dataset.ready = 'yes';
