@@ -1,5 +1,5 @@
-// Lines of data, and what stands in them. Data is the text of an element of the page; it is cut into lines only as they are
-// asked for, so that a long run opens at once.
+// Lines of data, and what stands in them. Data is the text of an element of the page; it is cut into lines only as they
+// are asked for, so that a long run opens at once.
 
 // What the program wrote for `%` and `<`, so that no data can end the element that holds it.
 function unescaped(text) {

@@ -81,7 +81,8 @@ function makeLayers(distance, moves) {
     right = left + (many - 1) * sideGap;
   }
   const settle = (layer, beside) => {
-    const places = spread(layer.map((state) => mean(beside(state).map((it) => y[it]), y[state])), rowGap / wideness(layer));
+    const wanted = layer.map((state) => mean(beside(state).map((it) => y[it]), y[state]));
+    const places = spread(wanted, rowGap / wideness(layer));
     layer.forEach((state, i) => { y[state] = places[i]; });
   };
   for (let pass = 0; pass < 8; pass++) {

@@ -10,8 +10,9 @@ function start() {
   const kinds = { result: found.result.map((it) => it > 0), deadlock: found.deadlock, cycle: found.cycle };
   const sizeOf = (kind) => kinds[kind].filter((it) => it).length;
 
-  byId('machine').textContent = [graph.machine, count(states[0].processors.length, 'processor'), count(states.length, 'state'),
-    count(moves.reduce((sum, list) => sum + list.length, 0), 'move'), count(sizeOf('result'), 'result'),
+  byId('machine').textContent = [graph.machine, count(states[0].processors.length, 'processor'),
+    count(states.length, 'state'), count(moves.reduce((sum, list) => sum + list.length, 0), 'move'),
+    count(sizeOf('result'), 'result'),
     count(sizeOf('deadlock'), 'state') + ' without an end', count(sizeOf('cycle'), 'state') + ' in cycles'].join(', ');
   document.title = 'Ultracomputer: ' + count(states.length, 'state');
   for (const kind of ['result', 'deadlock', 'cycle']) {
@@ -26,13 +27,15 @@ function start() {
   // ---- what is shown
 
   function captionText() {
-    if (way.at === 0) return way.moves.length ? 'The start: no processor has made a reference.' : 'State 0 is the start.';
+    if (way.at === 0) {
+      return way.moves.length ? 'The start: no processor has made a reference.' : 'State 0 is the start.';
+    }
     return moveText(graph, way.moves[way.at - 1]);
   }
 
   function wayText() {
     if (!way.moves.length) return 'A click on a state plays a shortest way to it.';
-    return (way.isShortest ? 'Shortest way' : 'Way') + ' to ' + stateText(graph, way.target).split(', ').slice(0, -1).join(', ')
+    return (way.isShortest ? 'Shortest way' : 'Way') + ' to ' + ['state ' + way.target, ...marksOf(graph, way.target)].join(', ')
       + ' \u00b7 move ' + way.at + ' of ' + way.moves.length;
   }
 
@@ -106,7 +109,9 @@ function start() {
   byId('slider').addEventListener('input', () => { way.pause(); way.go(Number(byId('slider').value)); });
   const number = byId('state-number');
   number.max = String(states.length - 1);
-  number.addEventListener('change', () => playTo(Math.max(0, Math.min(states.length - 1, Math.round(Number(number.value) || 0)))));
+  number.addEventListener('change', () => {
+    playTo(Math.max(0, Math.min(states.length - 1, Math.round(Number(number.value) || 0))));
+  });
 
   const relabel = () => {
     const kind = byId('label-kind').value, word = Number(kind.slice(1));

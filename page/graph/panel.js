@@ -1,6 +1,6 @@
 // The panel: what a state has, the moves from it, and the way that leads to it.
 
-function processorRow(graph, state, before, p) {
+function processorRow(state, before, p) {
   const it = state.processors[p], was = before && before.processors[p];
   const changed = was && (was.pc !== it.pc || was.status !== it.status);
   const row = make('tr', { class: (changed ? 'changed ' : '') + it.status.split(' ')[0], 'data-processor': p });
@@ -10,7 +10,8 @@ function processorRow(graph, state, before, p) {
   own.append(mark);
   const stands = make('td', { class: 'mono' }, standsText(it));
   stands.setAttribute('title', it.pc);
-  const next = make('td', { class: 'mono' }, it.status === 'run' ? it.next : doingText(it) + (it.next ? ': ' + it.next : ''));
+  const next = make('td', { class: 'mono' }, it.status === 'run' ? it.next
+    : doingText(it) + (it.next ? ': ' + it.next : ''));
   if (it.console) next.append(make('span', { class: 'printed' }, 'console ' + it.console));
   row.append(own, stands, next);
   return row;
@@ -51,7 +52,8 @@ function setUpPanel(graph, follow, go) {
     byId('state-title').textContent = 'State ' + current;
     byId('state-marks').textContent = [...marksOf(graph, current), count(graph.found.distance[current], 'move')
       + ' from the start'].join(' \u00b7 ');
-    byId('processors').tBodies[0].replaceChildren(...state.processors.map((_, p) => processorRow(graph, state, before, p)));
+    const rows = state.processors.map((_, p) => processorRow(state, before, p));
+    byId('processors').tBodies[0].replaceChildren(...rows);
     const words = wordRows(state, before);
     byId('words').replaceChildren(...(words.length ? words : [make('p', { class: 'faint' }, 'All are 0.')]));
     const moves = graph.moves[current].map((move, i) => moveButton(graph, move, i, '\u2192'));

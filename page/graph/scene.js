@@ -31,8 +31,8 @@ function pathOfMove(layout, move, lane, lanes) {
   if (move.from === move.to) {
     // above the sign; several fan out
     const turn = (lane - (lanes - 1) / 2) * 0.95;
-    const at = (right, up) => `${(x1 + right * Math.cos(turn) + up * Math.sin(turn)).toFixed(1)} ${(y1 + right * Math.sin(turn)
-      - up * Math.cos(turn)).toFixed(1)}`;
+    const sin = Math.sin(turn), cos = Math.cos(turn);
+    const at = (right, up) => `${(x1 + right * cos + up * sin).toFixed(1)} ${(y1 + right * sin - up * cos).toFixed(1)}`;
     return `M${at(-13, radius - 1)}C${at(-24, 67)} ${at(24, 67)} ${at(14, radius + 5)}`;
   }
   const dx = x2 - x1, dy = y2 - y1, length = Math.hypot(dx, dy);
@@ -41,7 +41,8 @@ function pathOfMove(layout, move, lane, lanes) {
   const bend = columns === 1 ? shift : (columns <= 0 ? 1 : -1) * (34 + 0.16 * length) + shift;
   const cx = (x1 + x2) / 2 + nx * bend * 1.4, cy = (y1 + y2) / 2 + ny * bend * 1.4;
   const [fromX, fromY] = edgeOfSign(x1, y1, cx, cy, 3), [toX, toY] = edgeOfSign(x2, y2, cx, cy, 8);
-  return `M${fromX.toFixed(1)} ${fromY.toFixed(1)}Q${cx.toFixed(1)} ${cy.toFixed(1)} ${toX.toFixed(1)} ${toY.toFixed(1)}`;
+  const place = (px, py) => px.toFixed(1) + ' ' + py.toFixed(1);
+  return `M${place(fromX, fromY)}Q${place(cx, cy)} ${place(toX, toY)}`;
 }
 
 function arrowGlyph(graph, move, lane, lanes) {
@@ -78,8 +79,8 @@ function signOf(graph, i) {
   const { found } = graph;
   if (found.result[i]) {
     const g = draw('g', {});
-    g.append(draw('rect', { class: 'body', x: -radius + 1, y: -radius + 1, width: 2 * radius - 2, height: 2 * radius - 2, rx: 8 }));
-    g.append(draw('rect', { class: 'inner', x: -radius + 6, y: -radius + 6, width: 2 * radius - 12, height: 2 * radius - 12, rx: 5 }));
+    const square = (name, half, rx) => draw('rect', { class: name, x: -half, y: -half, width: 2 * half, height: 2 * half, rx });
+    g.append(square('body', radius - 1, 8), square('inner', radius - 6, 5));
     return g;
   }
   if (found.deadlock[i]) {
@@ -105,8 +106,9 @@ function nodeGlyph(graph, i) {
   if (found.deadlock[i]) kinds.push('deadlock');
   if (found.cycle[i]) kinds.push('cycle');
   if (graph.states[i].processors.some((it) => it.status.startsWith('fault'))) kinds.push('faulted');
+  const { x, y } = stage.layout;
   const g = draw('g', { class: kinds.join(' '), 'data-state': i, role: 'button', tabindex: i === 0 ? 0 : -1,
-    'aria-label': stateText(graph, i), transform: `translate(${stage.layout.x[i].toFixed(1)} ${stage.layout.y[i].toFixed(1)})` });
+    'aria-label': stateText(graph, i), transform: `translate(${x[i].toFixed(1)} ${y[i].toFixed(1)})` });
   g.append(draw('title', {}, stateText(graph, i)));
   if (i === 0) {
     g.append(draw('path', { class: 'entry', d: `M${-radius - 56} 0H${-radius - 26}` }),
@@ -118,7 +120,9 @@ function nodeGlyph(graph, i) {
   g.append(signOf(graph, i), draw('text', { class: 'label', y: 7, 'text-anchor': 'middle' }, String(i)));
   const tag = tagOf(graph, i);
   if (tag) g.append(draw('text', { class: 'tag', y: radius + 21, 'text-anchor': 'middle' }, tag));
-  if (kinds.includes('faulted')) g.append(draw('text', { class: 'bang', x: radius - 2, y: -radius + 8, 'text-anchor': 'middle' }, '!'));
+  if (kinds.includes('faulted')) {
+    g.append(draw('text', { class: 'bang', x: radius - 2, y: -radius + 8, 'text-anchor': 'middle' }, '!'));
+  }
   return g;
 }
 
@@ -131,8 +135,8 @@ function setUpScene(svg, graph) {
   stage.parts = { moves: draw('g', { class: 'moves' }), nodes: draw('g', { class: 'nodes' }) };
   const tips = draw('defs', {});
   for (let p = 0; p < graph.states[0].processors.length; p++) {
-    const tip = draw('marker', { id: 'tip-' + p, viewBox: '0 0 10 10', refX: 7, refY: 5, markerWidth: 13, markerHeight: 13,
-      markerUnits: 'userSpaceOnUse', orient: 'auto-start-reverse' });
+    const tip = draw('marker', { id: 'tip-' + p, viewBox: '0 0 10 10', refX: 7, refY: 5, markerWidth: 13,
+      markerHeight: 13, markerUnits: 'userSpaceOnUse', orient: 'auto-start-reverse' });
     tip.append(draw('path', { d: 'M0 0L10 5L0 10Z', class: 'tip' }));
     tip.style.setProperty('--own', colourOf(p));
     tips.append(tip);
@@ -159,7 +163,9 @@ function labelNodes(textOf) {
 
 // Marks a way, and the state at which it stands.
 function markWay(way, at, current) {
-  for (const it of stage.camera.querySelectorAll('.on-way, .passed, .current')) it.classList.remove('on-way', 'passed', 'current');
+  for (const it of stage.camera.querySelectorAll('.on-way, .passed, .current')) {
+    it.classList.remove('on-way', 'passed', 'current');
+  }
   stage.camera.classList.toggle('choosing', way.length > 0);
   way.forEach((move, i) => {
     const arrow = stage.arrows.get(keyOfMove(move));

@@ -70,13 +70,14 @@ grid-template: minmax(0, 1fr) auto auto / minmax(0, 1fr) clamp(380px, 25vw, 480p
 .alone aside { display: none; }
 aside { grid-area: 1 / 2 / 4 / 3; border-left: 1px solid var(--line); background: var(--card); display: flex;
 flex-direction: column; min-height: 0; padding: 10px 12px; }
-:root { --lift: 0%; --result: #188043; --result-soft: #e2f3e8; --stop: #c22b2b; --stop-soft: #fbe3e1; --round: #8a5a00; }
+:root { --lift: 0%; --result: #188043; --result-soft: #e2f3e8; --stop: #c22b2b; --stop-soft: #fbe3e1;
+--round: #8a5a00; }
 @media (prefers-color-scheme: dark) {
-:root:not([data-theme=light]) { --lift: 30%; --result: #5fd08a; --result-soft: #143524; --stop: #ff7a70; --stop-soft: #42191a;
---round: #e6b450; }
+:root:not([data-theme=light]) { --lift: 30%; --result: #5fd08a; --result-soft: #143524; --stop: #ff7a70;
+--stop-soft: #42191a; --round: #e6b450; }
 }
-:root[data-theme=dark] { --lift: 30%; --result: #5fd08a; --result-soft: #143524; --stop: #ff7a70; --stop-soft: #42191a;
---round: #e6b450; }
+:root[data-theme=dark] { --lift: 30%; --result: #5fd08a; --result-soft: #143524; --stop: #ff7a70;
+--stop-soft: #42191a; --round: #e6b450; }
 .scene { position: relative; min-height: 0; overflow: hidden; }
 #drawing { position: absolute; inset: 0; width: 100%; height: calc(100% - 50px); touch-action: none; cursor: grab;
 user-select: none; }
@@ -161,7 +162,8 @@ aside h2 { font-size: 15px; margin: 12px 0 4px; }
 background: var(--own, #777); color: #fff; font: 700 14px/22px system-ui, sans-serif; text-align: center; flex: none; }
 .word-row { display: flex; justify-content: space-between; font-size: 15px; padding: 2px 4px; border-radius: 4px; }
 .word-row.changed { background: var(--soft); font-weight: 700; }
-#way { position: relative; flex: 1 1 0; min-height: 30%; overflow: auto; margin: 0; padding: 0; list-style: none; }
+#way { position: relative; flex: 1 1 0; min-height: 30%; overflow: auto; margin: 0; padding: 0;
+list-style: none; }
 .move-line { display: flex; gap: 8px; align-items: center; width: 100%; text-align: left; border: 0; background: none;
 padding: 3px 4px; min-height: 28px; font-size: 14px; }
 .move-line .text { flex: 1; font-family: ui-monospace, "DejaVu Sans Mono", Menlo, Consolas, monospace; font-size: 13px;
@@ -668,7 +670,8 @@ y[state] = (i - (layer.length - 1) / 2) * rowGap / many;
 right = left + (many - 1) * sideGap;
 }
 const settle = (layer, beside) => {
-const places = spread(layer.map((state) => mean(beside(state).map((it) => y[it]), y[state])), rowGap / wideness(layer));
+const wanted = layer.map((state) => mean(beside(state).map((it) => y[it]), y[state]));
+const places = spread(wanted, rowGap / wideness(layer));
 layer.forEach((state, i) => { y[state] = places[i]; });
 };
 for (let pass = 0; pass < 8; pass++) {
@@ -755,8 +758,8 @@ const x1 = x[move.from], y1 = y[move.from], x2 = x[move.to], y2 = y[move.to];
 const shift = (lane - (lanes - 1) / 2) * 20;
 if (move.from === move.to) {
 const turn = (lane - (lanes - 1) / 2) * 0.95;
-const at = (right, up) => `${(x1 + right * Math.cos(turn) + up * Math.sin(turn)).toFixed(1)} ${(y1 + right * Math.sin(turn)
-- up * Math.cos(turn)).toFixed(1)}`;
+const sin = Math.sin(turn), cos = Math.cos(turn);
+const at = (right, up) => `${(x1 + right * cos + up * sin).toFixed(1)} ${(y1 + right * sin - up * cos).toFixed(1)}`;
 return `M${at(-13, radius - 1)}C${at(-24, 67)} ${at(24, 67)} ${at(14, radius + 5)}`;
 }
 const dx = x2 - x1, dy = y2 - y1, length = Math.hypot(dx, dy);
@@ -765,7 +768,8 @@ const columns = layout.distance[move.to] - layout.distance[move.from];
 const bend = columns === 1 ? shift : (columns <= 0 ? 1 : -1) * (34 + 0.16 * length) + shift;
 const cx = (x1 + x2) / 2 + nx * bend * 1.4, cy = (y1 + y2) / 2 + ny * bend * 1.4;
 const [fromX, fromY] = edgeOfSign(x1, y1, cx, cy, 3), [toX, toY] = edgeOfSign(x2, y2, cx, cy, 8);
-return `M${fromX.toFixed(1)} ${fromY.toFixed(1)}Q${cx.toFixed(1)} ${cy.toFixed(1)} ${toX.toFixed(1)} ${toY.toFixed(1)}`;
+const place = (px, py) => px.toFixed(1) + ' ' + py.toFixed(1);
+return `M${place(fromX, fromY)}Q${place(cx, cy)} ${place(toX, toY)}`;
 }
 function arrowGlyph(graph, move, lane, lanes) {
 const g = draw('g', { class: 'move', 'data-move': keyOfMove(move), 'data-to': move.to, role: 'img',
@@ -797,8 +801,8 @@ function signOf(graph, i) {
 const { found } = graph;
 if (found.result[i]) {
 const g = draw('g', {});
-g.append(draw('rect', { class: 'body', x: -radius + 1, y: -radius + 1, width: 2 * radius - 2, height: 2 * radius - 2, rx: 8 }));
-g.append(draw('rect', { class: 'inner', x: -radius + 6, y: -radius + 6, width: 2 * radius - 12, height: 2 * radius - 12, rx: 5 }));
+const square = (name, half, rx) => draw('rect', { class: name, x: -half, y: -half, width: 2 * half, height: 2 * half, rx });
+g.append(square('body', radius - 1, 8), square('inner', radius - 6, 5));
 return g;
 }
 if (found.deadlock[i]) {
@@ -821,8 +825,9 @@ if (found.result[i]) kinds.push('result');
 if (found.deadlock[i]) kinds.push('deadlock');
 if (found.cycle[i]) kinds.push('cycle');
 if (graph.states[i].processors.some((it) => it.status.startsWith('fault'))) kinds.push('faulted');
+const { x, y } = stage.layout;
 const g = draw('g', { class: kinds.join(' '), 'data-state': i, role: 'button', tabindex: i === 0 ? 0 : -1,
-'aria-label': stateText(graph, i), transform: `translate(${stage.layout.x[i].toFixed(1)} ${stage.layout.y[i].toFixed(1)})` });
+'aria-label': stateText(graph, i), transform: `translate(${x[i].toFixed(1)} ${y[i].toFixed(1)})` });
 g.append(draw('title', {}, stateText(graph, i)));
 if (i === 0) {
 g.append(draw('path', { class: 'entry', d: `M${-radius - 56} 0H${-radius - 26}` }),
@@ -834,7 +839,9 @@ if (found.cycle[i]) g.append(draw('circle', { class: 'ring', r: radius + 6 }));
 g.append(signOf(graph, i), draw('text', { class: 'label', y: 7, 'text-anchor': 'middle' }, String(i)));
 const tag = tagOf(graph, i);
 if (tag) g.append(draw('text', { class: 'tag', y: radius + 21, 'text-anchor': 'middle' }, tag));
-if (kinds.includes('faulted')) g.append(draw('text', { class: 'bang', x: radius - 2, y: -radius + 8, 'text-anchor': 'middle' }, '!'));
+if (kinds.includes('faulted')) {
+g.append(draw('text', { class: 'bang', x: radius - 2, y: -radius + 8, 'text-anchor': 'middle' }, '!'));
+}
 return g;
 }
 function setUpScene(svg, graph) {
@@ -844,8 +851,8 @@ stage.camera = draw('g', { class: 'camera' });
 stage.parts = { moves: draw('g', { class: 'moves' }), nodes: draw('g', { class: 'nodes' }) };
 const tips = draw('defs', {});
 for (let p = 0; p < graph.states[0].processors.length; p++) {
-const tip = draw('marker', { id: 'tip-' + p, viewBox: '0 0 10 10', refX: 7, refY: 5, markerWidth: 13, markerHeight: 13,
-markerUnits: 'userSpaceOnUse', orient: 'auto-start-reverse' });
+const tip = draw('marker', { id: 'tip-' + p, viewBox: '0 0 10 10', refX: 7, refY: 5, markerWidth: 13,
+markerHeight: 13, markerUnits: 'userSpaceOnUse', orient: 'auto-start-reverse' });
 tip.append(draw('path', { d: 'M0 0L10 5L0 10Z', class: 'tip' }));
 tip.style.setProperty('--own', colourOf(p));
 tips.append(tip);
@@ -868,7 +875,9 @@ label.setAttribute('font-size', text.length > 4 ? 13 : text.length > 2 ? 17 : 21
 });
 }
 function markWay(way, at, current) {
-for (const it of stage.camera.querySelectorAll('.on-way, .passed, .current')) it.classList.remove('on-way', 'passed', 'current');
+for (const it of stage.camera.querySelectorAll('.on-way, .passed, .current')) {
+it.classList.remove('on-way', 'passed', 'current');
+}
 stage.camera.classList.toggle('choosing', way.length > 0);
 way.forEach((move, i) => {
 const arrow = stage.arrows.get(keyOfMove(move));
@@ -903,7 +912,7 @@ const x = layout.x[i] * camera.scale + camera.x, y = layout.y[i] * camera.scale 
 if (camera.fitted || x >= 60 && y >= 60 && x <= scene.width - 60 && y <= scene.height - 60) return;
 lookAt(layout.x[i], layout.y[i], camera.scale);
 }
-function processorRow(graph, state, before, p) {
+function processorRow(state, before, p) {
 const it = state.processors[p], was = before && before.processors[p];
 const changed = was && (was.pc !== it.pc || was.status !== it.status);
 const row = make('tr', { class: (changed ? 'changed ' : '') + it.status.split(' ')[0], 'data-processor': p });
@@ -913,7 +922,8 @@ mark.style.setProperty('--own', colourOf(p));
 own.append(mark);
 const stands = make('td', { class: 'mono' }, standsText(it));
 stands.setAttribute('title', it.pc);
-const next = make('td', { class: 'mono' }, it.status === 'run' ? it.next : doingText(it) + (it.next ? ': ' + it.next : ''));
+const next = make('td', { class: 'mono' }, it.status === 'run' ? it.next
+: doingText(it) + (it.next ? ': ' + it.next : ''));
 if (it.console) next.append(make('span', { class: 'printed' }, 'console ' + it.console));
 row.append(own, stands, next);
 return row;
@@ -950,7 +960,8 @@ const state = graph.states[current], before = at > 0 ? graph.states[way[at - 1].
 byId('state-title').textContent = 'State ' + current;
 byId('state-marks').textContent = [...marksOf(graph, current), count(graph.found.distance[current], 'move')
 + ' from the start'].join(' \u00b7 ');
-byId('processors').tBodies[0].replaceChildren(...state.processors.map((_, p) => processorRow(graph, state, before, p)));
+const rows = state.processors.map((_, p) => processorRow(state, before, p));
+byId('processors').tBodies[0].replaceChildren(...rows);
 const words = wordRows(state, before);
 byId('words').replaceChildren(...(words.length ? words : [make('p', { class: 'faint' }, 'All are 0.')]));
 const moves = graph.moves[current].map((move, i) => moveButton(graph, move, i, '\u2192'));
@@ -1022,8 +1033,9 @@ const { found, states, moves } = graph;
 const still = matchMedia('(prefers-reduced-motion: reduce)');
 const kinds = { result: found.result.map((it) => it > 0), deadlock: found.deadlock, cycle: found.cycle };
 const sizeOf = (kind) => kinds[kind].filter((it) => it).length;
-byId('machine').textContent = [graph.machine, count(states[0].processors.length, 'processor'), count(states.length, 'state'),
-count(moves.reduce((sum, list) => sum + list.length, 0), 'move'), count(sizeOf('result'), 'result'),
+byId('machine').textContent = [graph.machine, count(states[0].processors.length, 'processor'),
+count(states.length, 'state'), count(moves.reduce((sum, list) => sum + list.length, 0), 'move'),
+count(sizeOf('result'), 'result'),
 count(sizeOf('deadlock'), 'state') + ' without an end', count(sizeOf('cycle'), 'state') + ' in cycles'].join(', ');
 document.title = 'Ultracomputer: ' + count(states.length, 'state');
 for (const kind of ['result', 'deadlock', 'cycle']) {
@@ -1034,12 +1046,14 @@ setUpScene(byId('drawing'), graph);
 const way = makeWay(graph, show);
 const panel = setUpPanel(graph, way.follow, (at) => { way.pause(); way.go(at); });
 function captionText() {
-if (way.at === 0) return way.moves.length ? 'The start: no processor has made a reference.' : 'State 0 is the start.';
+if (way.at === 0) {
+return way.moves.length ? 'The start: no processor has made a reference.' : 'State 0 is the start.';
+}
 return moveText(graph, way.moves[way.at - 1]);
 }
 function wayText() {
 if (!way.moves.length) return 'A click on a state plays a shortest way to it.';
-return (way.isShortest ? 'Shortest way' : 'Way') + ' to ' + stateText(graph, way.target).split(', ').slice(0, -1).join(', ')
+return (way.isShortest ? 'Shortest way' : 'Way') + ' to ' + ['state ' + way.target, ...marksOf(graph, way.target)].join(', ')
 + ' \u00b7 move ' + way.at + ' of ' + way.moves.length;
 }
 function show(moved) {
@@ -1100,7 +1114,9 @@ setSpeed(1);
 byId('slider').addEventListener('input', () => { way.pause(); way.go(Number(byId('slider').value)); });
 const number = byId('state-number');
 number.max = String(states.length - 1);
-number.addEventListener('change', () => playTo(Math.max(0, Math.min(states.length - 1, Math.round(Number(number.value) || 0)))));
+number.addEventListener('change', () => {
+playTo(Math.max(0, Math.min(states.length - 1, Math.round(Number(number.value) || 0))));
+});
 const relabel = () => {
 const kind = byId('label-kind').value, word = Number(kind.slice(1));
 labelNodes(kind === 'number' ? String : (i) => shortValue(states[i].words.get(word) || 0));
