@@ -35,8 +35,9 @@ function start() {
 
   function wayText() {
     if (!way.moves.length) return 'A click on a state plays a shortest way to it.';
-    return (way.isShortest ? 'Shortest way' : 'Way') + ' to ' + ['state ' + way.target, ...marksOf(graph, way.target)].join(', ')
-      + ' \u00b7 move ' + way.at + ' of ' + way.moves.length;
+    const target = ['state ' + way.target, ...marksOf(graph, way.target)].join(', ');
+    return (way.isShortest ? 'Shortest way' : 'Way') + ' to ' + target + ' \u00b7 move ' + way.at + ' of '
+      + way.moves.length;
   }
 
   // Draws where the way stands; `moved` is the move that has just led there, null if there is none to be seen, and

@@ -79,7 +79,8 @@ function signOf(graph, i) {
   const { found } = graph;
   if (found.result[i]) {
     const g = draw('g', {});
-    const square = (name, half, rx) => draw('rect', { class: name, x: -half, y: -half, width: 2 * half, height: 2 * half, rx });
+    const square = (name, half, rx) => draw('rect', { class: name, x: -half, y: -half, width: 2 * half,
+      height: 2 * half, rx });
     g.append(square('body', radius - 1, 8), square('inner', radius - 6, 5));
     return g;
   }

@@ -801,7 +801,8 @@ function signOf(graph, i) {
 const { found } = graph;
 if (found.result[i]) {
 const g = draw('g', {});
-const square = (name, half, rx) => draw('rect', { class: name, x: -half, y: -half, width: 2 * half, height: 2 * half, rx });
+const square = (name, half, rx) => draw('rect', { class: name, x: -half, y: -half, width: 2 * half,
+height: 2 * half, rx });
 g.append(square('body', radius - 1, 8), square('inner', radius - 6, 5));
 return g;
 }
@@ -1053,8 +1054,9 @@ return moveText(graph, way.moves[way.at - 1]);
 }
 function wayText() {
 if (!way.moves.length) return 'A click on a state plays a shortest way to it.';
-return (way.isShortest ? 'Shortest way' : 'Way') + ' to ' + ['state ' + way.target, ...marksOf(graph, way.target)].join(', ')
-+ ' \u00b7 move ' + way.at + ' of ' + way.moves.length;
+const target = ['state ' + way.target, ...marksOf(graph, way.target)].join(', ');
+return (way.isShortest ? 'Shortest way' : 'Way') + ' to ' + target + ' \u00b7 move ' + way.at + ' of '
++ way.moves.length;
 }
 function show(moved) {
 const current = way.current();
