@@ -50,6 +50,7 @@ module _ (s : Setting) (code : List ℕ) where
   often (suc n) p = often n (once p)
 
   once_is : (a : LocalState) → (alone_once s code a).processor ≡ once a.processor
+  unfolding turned once
   once_is a = by (is_running a.processor.status) (turn_of s code a.processor)
     where
       by : (b : Bool) (t : Turn) → (cond b (alone_by a t) a).processor ≡ cond b (turned a.processor t) a.processor
@@ -59,6 +60,7 @@ module _ (s : Setting) (code : List ℕ) where
       by false t = refl
 
   often_is : (n : ℕ) (a : LocalState) → (alone n s code a).processor ≡ often n a.processor
+  unfolding often
   often_is zero a = refl
   often_is (suc n) a = often_is n (alone_once s code a) ∙ ap (often n) (once_is a)
 
@@ -118,17 +120,18 @@ module _ (at : ℕ → Setting) (code : List ℕ) (kept : LocalState → LocalSt
       by (inl refers) = refers
       by (inr spins) =
           absurd
-              (calm (record {
-                processor = k;
-                local_state = kept (moved m);
-                there = ap (λ (u : MacroState). slice_get u.local_states k) m.leaves
-                    ∙ set_there s.local_states k (kept (moved m)) m.local_state m.there;
-                goes_on = goes_alike at code kept f k (moved m) (kept (moved m)) (sym (f.once (moved m)))
-                    (goes_on_after (at k) code 0 (moved m) spins);
-              }))
+          (calm (record {
+            processor = k;
+            local_state = kept (moved m);
+            there = ap (λ (u : MacroState). slice_get u.local_states k) m.leaves
+                ∙ set_there s.local_states k (kept (moved m)) m.local_state m.there;
+            goes_on = goes_alike at code kept f k (moved m) (kept (moved m)) (sym (f.once (moved m)))
+                (goes_on_after (at k) code 0 (moved m) spins);
+          }))
 
   -- Two moves lead to the same state, if no processor spins in the first.
   same_state : (t u : MacroState) (m : IsMove at code kept s k t) (n : IsMove at code kept s k u) → (HasSpinner at code t → ⊥) → t ≡ u
+  unfolding word_of change_of after_of
   same_state t u m n calm = m.leaves ∙ (both ∙ sym n.leaves)
     where
       from : m.local_state ≡ n.local_state

@@ -72,16 +72,24 @@ module _ (at : ℕ → Setting) (code : List ℕ) (live : List (List Bool)) (f :
       let status : kept.processor.status ≡ a.processor.status = ap (λ (r : ProcessorResult). r.status) same in
       let console : kept.console ≡ a.console = ap (λ (r : ProcessorResult). r.console) same in
       λ i. hex_of_word (pc i) ++ codes " " ++ console_text (console i) ++ codes " " ++ doing_text (goes_on_alike i) (status i)
-          ++ cond (is_running (status i)) (instruction_at code (pc i)) [] ++ codes "\t"
+      ++ cond (is_running (status i)) (instruction_at code (pc i)) [] ++ codes "\t"
 
 -- ---- the processors of a row
 
-module _ (e : Extent) (code : List ℕ) (t : TableLists) (row : List ℕ) (h : IsRow e t row) (own : e.exchanged ≡ false) (p : ℕ) (few : p < e.processors) where
+module _ (e : Extent) (t : TableLists) (row : List ℕ) (p : ℕ) (few : p < e.processors) where
   -- A processor of the row's state is what is kept of the local state that the row names.
   pub processor_there : slice_index_or (means e t row).local_states p no_local_state ≡ kept_by t.live (placed_at t (slice_index row p)).local_state
   processor_there =
       listed_at (λ q. kept_by t.live (placed_at t (slice_index row q)).local_state) e.processors p no_local_state few
 
+  -- It runs exactly if that local state does.
+  pub runs_there : is_running (slice_index_or (means e t row).local_states p no_local_state).processor.status
+      ≡ is_running (placed_at t (slice_index row p)).local_state.processor.status
+  runs_there =
+      ap (λ (a : LocalState). is_running a.processor.status) processor_there
+      ∙ ap (λ (r : ProcessorResult). is_running r.status) (kept_result t.live (placed_at t (slice_index row p)).local_state)
+
+module _ (e : Extent) (code : List ℕ) (t : TableLists) (row : List ℕ) (h : IsRow e t row) (own : e.exchanged ≡ false) (p : ℕ) (few : p < e.processors) where
   setting_is : (placed_at t (slice_index row p)).setting ≡ setting_at e p
   setting_is = h.own p few ∙ ap (λ b. setting_at e (cond b 0 p)) own
 
@@ -92,11 +100,4 @@ module _ (e : Extent) (code : List ℕ) (t : TableLists) (row : List ℕ) (h : I
   text_there f =
       ap (λ s. processor_text s code (placed_at t (slice_index row p)).local_state) setting_is
       ∙ (sym (text_alike (setting_at e) code t.live f p (placed_at t (slice_index row p)).local_state)
-      ∙ sym (ap (processor_text (setting_at e p) code) processor_there))
-
-  -- It runs exactly if that local state does.
-  pub runs_there : is_running (slice_index_or (means e t row).local_states p no_local_state).processor.status
-      ≡ is_running (placed_at t (slice_index row p)).local_state.processor.status
-  runs_there =
-      ap (λ (a : LocalState). is_running a.processor.status) processor_there
-      ∙ ap (λ (r : ProcessorResult). is_running r.status) (kept_result t.live (placed_at t (slice_index row p)).local_state)
+      ∙ sym (ap (processor_text (setting_at e p) code) (processor_there e t row p few)))

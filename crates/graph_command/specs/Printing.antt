@@ -1,5 +1,5 @@
 -- What the command writes and prints: from the bytes of a file to the graph of its program.
-use Rattle.std.specs.Prelude.{◌≡◌, ℕ, List, min}
+use Rattle.std.specs.Prelude.{◌≡◌, ℕ, Bool, List, Option, min}
 use Rattle.std.specs.Io.KnownBytes.{Appends}
 use Rattle.std.specs.Option.{option_copied}
 use Rattle.flat_machine.specs.declared.config.Config.{Config}

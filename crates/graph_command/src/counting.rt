@@ -1,13 +1,14 @@
 //! How much a graph has: its edges, and the states in which no processor runs.
 
-ghost use Rattle.std.specs.Prelude.{◌≡◌, ◌<◌, ◌≤◌, length, IfOk};
+ghost use Rattle.std.specs.Prelude.{◌≡◌, ◌<◌, ◌≤◌, ◌&&◌, not, length, IfOk};
+ghost use Rattle.flat_machine.specs.State.{is_running};
 ghost use Rattle.state_search.specs.Ends.{AreRows};
 ghost use Rattle.state_search.specs.state_store.StateTables.{IsRow, means};
 ghost use Rattle.graph_command.specs.Found.{states_of};
 ghost use Rattle.graph_command.specs.Lines.{ends_in, is_end, moves_from, moves_in};
 
 use state_graph::{NO_MOVE, Successors};
-use state_search::{Extent, StateTables, StateVector};
+use state_search::{Extent, SavedLocalState, StateTables, StateVector};
 use std::alloc::AllocError;
 
 /// How many edges lead from all states, given the targets of each.
@@ -66,7 +67,14 @@ fn is_end<const N: usize>(state_tables: &StateTables, extent: Extent, row: &Stat
 {
     let mut ends = true;
     for p in 0..extent.processors {
-        ends = ends && !state_tables.local_state(row[usize::from(p)]).is_running();
+        ends = still_ends(ends, state_tables.local_state(row[usize::from(p)]));
     }
     ends
+}
+
+/// Whether none of the processors up to this one runs, given whether none of those before it does.
+fn still_ends(ends: bool, local_state: &SavedLocalState) -> bool
+    ensures { result ≡ ends && not (is_running local_state.now.local_state.processor.status) }
+{
+    ends && !local_state.is_running()
 }

@@ -9,6 +9,7 @@ ghost use Rattle.machine_steps.specs.Runs.{IsOpening};
 ghost use Rattle.machine_views.specs.Names.{rows_in};
 ghost use Rattle.observed_results.specs.Lines.{counted};
 ghost use Rattle.page_command.specs.Pages.{escaped};
+ghost use Rattle.trace_commands.specs.SizeLines.{size_line};
 ghost use Rattle.graph_command.specs.Found.{IsGraphOf};
 ghost use Rattle.graph_command.specs.Lines.{counts_line, graph_line, head_lines};
 ghost use Rattle.graph_command.specs.Printing.{IsGraphPage, IsNotGraphed, IsNotSearched, fault_of_search};
@@ -97,7 +98,6 @@ fn page_of_graph(
 }
 
 /// Appends the lines before those of the states.
-#[tactic(auto, unfolding(crate::specs::Lines::head_lines))]
 fn push_head(
     alloc: Global,
     text: &mut String,
@@ -108,10 +108,25 @@ fn push_head(
     ensures { OnOk result (string_bytes text.new
         ≡ string_bytes text.old ++ head_lines config (rows_in (option_copied symbols.entry)) counts) }
 {
+    push_sizes(text, config, symbol_count(symbols), counts)?;
+    push_symbols(alloc, text, symbols)?;
+    Ok(())
+}
+
+/// Appends the lines before those of the symbols.
+fn push_sizes(
+    text: &mut String,
+    config: Config,
+    symbols: usize,
+    counts: Counts,
+) -> Result<(), AllocError>
+    ensures { OnOk result (string_bytes text.new ≡ string_bytes text.old ++ (codes "ultra graph 1\n"
+        ++ size_line config ++ counts_line config.shared_words symbols counts)) }
+{
     text.push_str("ultra graph 1\n")?;
     push_size(text, config)?;
-    push_counts(text, config.shared_words, symbol_count(symbols), counts)?;
-    push_symbols(alloc, text, symbols)
+    push_counts(text, config.shared_words, symbols, counts)?;
+    Ok(())
 }
 
 /// The number of symbols of a table, if there is one.

@@ -100,12 +100,12 @@ fn with_edges(
     results: usize,
 ) -> Result<Graph, AllocError>
     ensures lines { IfOk result (λ graph. string_bytes graph.lines
-        ≡ string_bytes lines.entry ++ edge_lines targets.now (length targets.now)) }
+        ≡ string_bytes lines ++ edge_lines targets.now (length targets.now)) }
     ensures counts { IfOk result (λ graph. graph.counts ≡ record {
-          states = states;
-          moves = moves_from targets.now (length targets.now);
-          results = results;
-        }) }
+      states = states;
+      moves = moves_from targets.now (length targets.now);
+      results = results;
+    }) }
 {
     let mut lines = lines;
     push_edge_lines(&mut lines, targets)?;

@@ -7,4 +7,4 @@ use Rattle.graph_command.proofs.state_lines.push_processors.Given as goal
 abbrev pub invariant-loop-p : goal.invariant-loop-p
 invariant-loop-p g l =
     string_bytes l.text
-    ≡ string_bytes l.initial.text ++ processors_text (setting_at l.extent) l.code (means l.extent l.state_tables l.row).local_states l.p
+    ≡ string_bytes l.initial.text ++ processors_text (setting_at l.fn.extent) l.code (means l.fn.extent l.state_tables l.row).local_states l.p
