@@ -80,16 +80,16 @@ function makeLayers(distance, moves) {
     });
     right = left + (many - 1) * sideGap;
   }
-  const settle = (layer, beside) => {
+  const arrange = (layer, beside) => {
     const wanted = layer.map((state) => mean(beside(state).map((it) => y[it]), y[state]));
     const places = spread(wanted, rowGap / wideness(layer));
     layer.forEach((state, i) => { y[state] = places[i]; });
   };
   for (let pass = 0; pass < 8; pass++) {
-    for (let d = 1; d < layers.length; d++) settle(layers[d], (state) => neighbours.before[state]);
-    for (let d = layers.length - 2; d >= 0; d--) settle(layers[d], (state) => neighbours.after[state]);
+    for (let d = 1; d < layers.length; d++) arrange(layers[d], (state) => neighbours.before[state]);
+    for (let d = layers.length - 2; d >= 0; d--) arrange(layers[d], (state) => neighbours.after[state]);
   }
-  for (const layer of layers) settle(layer, (state) => neighbours.before[state].concat(neighbours.after[state]));
+  for (const layer of layers) arrange(layer, (state) => neighbours.before[state].concat(neighbours.after[state]));
   return inFrame(x, y, right, distance);
 }
 

@@ -81,8 +81,8 @@ GRAPH = Page(
     "graph/graph.html", ["common.css", "graph/graph.css"],
     ["lines", "names", "values", "elements", "camera", "graph/data", "graph/search", "graph/layers", "graph/texts", "graph/scene", "graph/panel",
      "graph/way", "graph/main"],
-    "graph_page.rt", '''//! The page of `ultra explore --graph`, before and after its data. `tests/tools/page.py --write` generates this file from
-//! page/.
+    "graph_page.rt", '''//! The page of `ultra explore --graph`, before and after its data. `tests/tools/page.py --write` generates this file
+//! from page/.
 
 use graph_command::GraphPage;
 use symbol_table::SymbolTable;

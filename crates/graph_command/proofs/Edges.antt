@@ -38,7 +38,8 @@ move_of at code kept s k t m = record {
   leaves = m.leaves;
 }
 
-module _ (e : Extent) (code classes : List ℕ) (t : TableLists) (rows targets : List (List ℕ)) (h : AreTargeted e code classes t rows targets (length rows)) where
+module _ (e : Extent) (code classes : List ℕ) (t : TableLists) (rows targets : List (List ℕ))
+    (h : AreTargeted e code classes t rows targets (length rows)) where
   abbrev at : ℕ → Setting
   at = setting_at e
 

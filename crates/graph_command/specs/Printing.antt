@@ -109,7 +109,8 @@ Opens c image = (opening : MachineLists) × IsOpening c image opening
 
 -- It has as many states as the limit, or more.
 abbrev pub HasTooMany : Config → (limit : ℕ) → ImageContents → Type 0
-HasTooMany c limit image = (opening : MachineLists) × IsOpening c image opening × HasManyStates (flat_state opening) limit
+HasTooMany c limit image =
+    (opening : MachineLists) × IsOpening c image opening × HasManyStates (flat_state opening) limit
 
 -- Why there is no graph of an image: the size is out of limits; or the machine opens, but the search gives up; or there
 -- is no memory.

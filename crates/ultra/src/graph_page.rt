@@ -1,5 +1,5 @@
-//! The page of `ultra explore --graph`, before and after its data. `tests/tools/page.py --write` generates this file from
-//! page/.
+//! The page of `ultra explore --graph`, before and after its data. `tests/tools/page.py --write` generates this file
+//! from page/.
 
 use graph_command::GraphPage;
 use symbol_table::SymbolTable;
@@ -159,7 +159,8 @@ aside h2 { font-size: 15px; margin: 12px 0 4px; }
 #processors tr.fault td, #processors tr.spin td { color: var(--stop); }
 .printed { display: block; font-size: 13px; font-weight: 400; }
 .own { display: inline-block; min-width: 24px; height: 22px; line-height: 22px; padding: 0 4px; border-radius: 11px;
-background: var(--own, #777); color: #fff; font: 700 14px/22px system-ui, sans-serif; text-align: center; flex: none; }
+background: var(--own, #777); color: #fff; font: 700 14px/22px system-ui, sans-serif; text-align: center;
+flex: none; }
 .word-row { display: flex; justify-content: space-between; font-size: 15px; padding: 2px 4px; border-radius: 4px; }
 .word-row.changed { background: var(--soft); font-weight: 700; }
 #way { position: relative; flex: 1 1 0; min-height: 30%; overflow: auto; margin: 0; padding: 0;
@@ -669,16 +670,16 @@ y[state] = (i - (layer.length - 1) / 2) * rowGap / many;
 });
 right = left + (many - 1) * sideGap;
 }
-const settle = (layer, beside) => {
+const arrange = (layer, beside) => {
 const wanted = layer.map((state) => mean(beside(state).map((it) => y[it]), y[state]));
 const places = spread(wanted, rowGap / wideness(layer));
 layer.forEach((state, i) => { y[state] = places[i]; });
 };
 for (let pass = 0; pass < 8; pass++) {
-for (let d = 1; d < layers.length; d++) settle(layers[d], (state) => neighbours.before[state]);
-for (let d = layers.length - 2; d >= 0; d--) settle(layers[d], (state) => neighbours.after[state]);
+for (let d = 1; d < layers.length; d++) arrange(layers[d], (state) => neighbours.before[state]);
+for (let d = layers.length - 2; d >= 0; d--) arrange(layers[d], (state) => neighbours.after[state]);
 }
-for (const layer of layers) settle(layer, (state) => neighbours.before[state].concat(neighbours.after[state]));
+for (const layer of layers) arrange(layer, (state) => neighbours.before[state].concat(neighbours.after[state]));
 return inFrame(x, y, right, distance);
 }
 function inFrame(x, y, width, distance) {
