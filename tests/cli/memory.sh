@@ -242,6 +242,14 @@ refuses_memory_of_pages() {
 }
 check 'explore and hunt without memory for one request report memory, status 4, or write their pages' refuses_memory_of_pages
 
+refuses_memory_of_a_graph() {
+    ./ultra asm --symbols "$room/signal.map" examples/explore/signal.s "$room/signal.elf" || return 1
+    local words=(explore --k 1 --symbols "$room/signal.map" --graph)
+    ./ultra "${words[@]}" "$room/ample.trace" "$room/signal.elf" >"$room/results" &&
+        refuses_each_request 0 "$room/results" /dev/null "${words[@]}" "$room/saved.trace" "$room/signal.elf"
+}
+check 'a graph without memory for one request reports memory, status 4, or is written' refuses_memory_of_a_graph
+
 # without_a_size LINE: standard input with one size not explored. LINE is `N:k K: ..`, the number of its line and the
 # line.
 without_a_size() {

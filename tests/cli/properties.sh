@@ -138,7 +138,7 @@ refuses_to_write_a_page() {
     ends 2 'error: OUT is the same file as FILE' "${judged[@]}" --page "$room/lost.elf" "$room/lost.elf" && cmp "$room/kept.elf" "$room/lost.elf" &&
         ends 2 'error: OUT is the same file as FILE' "${judged[@]}" --symbols "$room/lost.map" --page "$room/lost.map" "$room/lost.elf" &&
         cmp "$room/kept.map" "$room/lost.map" &&
-        ends 2 'error: a page of a run is not written to standard output' "${judged[@]}" --page - "$room/lost.elf" &&
+        ends 2 'error: a page is not written to standard output' "${judged[@]}" --page - "$room/lost.elf" &&
         ends 2 'error: --page and --trace name the same file' "${judged[@]}" --page "$room/new" --trace "$room/new" "$room/lost.elf" && [ ! -e "$room/new" ] &&
         ends 2 'error: --page and --trace name the same file' "${judged[@]}" --page "$room/link" --trace "$room/there" "$room/lost.elf" &&
         ends_with_code 3 X5 "$room/none/p: $no_such_file" "${judged[@]}" --page "$room/none/p" --states 1 "$room/lost.elf" &&

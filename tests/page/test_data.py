@@ -144,7 +144,7 @@ def check_values(run, view, told, upto):
 
 def check(run):
     front, data, back = data_of(run.page())
-    same([front, back], list(page.halves()), f"{run.name}: the page around the data")
+    same([front, back], list(page.RUN.halves()), f"{run.name}: the page around the data")
     assert data.endswith("\n"), run.name
     lines = data[:-1].split("\n")
     same(lines[0], "ultra page 1", run.name)

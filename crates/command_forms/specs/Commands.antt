@@ -201,9 +201,10 @@ hunt_command = command (codes "hunt")
 
 unfoldable pub explore_command : App
 explore_command = command (codes "explore")
-    (file ∷ option (codes "trace") ∷ option (codes "page") ∷ option (codes "observe") ∷ option (codes "filter")
-    ∷ option (codes "against") ∷ option (codes "never") ∷ option (codes "always") ∷ option (codes "finally")
-    ∷ flag (codes "each") ∷ flag (codes "fair") ∷ flag (codes "every") ∷ flag (codes "quiet") ∷ symbols ∷ decimal ∷ json
+    (file ∷ option (codes "trace") ∷ option (codes "page") ∷ option (codes "graph") ∷ option (codes "observe")
+    ∷ option (codes "filter") ∷ option (codes "against") ∷ option (codes "never") ∷ option (codes "always")
+    ∷ option (codes "finally") ∷ flag (codes "each") ∷ flag (codes "fair") ∷ flag (codes "every")
+    ∷ flag (codes "quiet") ∷ symbols ∷ decimal ∷ json
     ∷ (sizes ++ (number states.bounds ∷ number seconds ∷ number witness ∷ [])))
 
 unfoldable pub replay_command : App

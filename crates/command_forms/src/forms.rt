@@ -280,6 +280,11 @@ const EXPLORE: CommandForm = CommandForm {
             help: "Where to write a page for a browser that plays the same steps, as `ultra page` makes it",
         },
         Argument::Text {
+            name: "graph",
+            value: "OUT",
+            help: "Where to write a page for a browser that shows all states, up to 1000, and who moves from which to which",
+        },
+        Argument::Text {
             name: "observe",
             value: "LIST",
             help: "Words by which results differ, as `0-3,8`; they are printed without others [default: all]",

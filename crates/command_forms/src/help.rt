@@ -343,6 +343,11 @@ first of the states from which no end can be reached.
 With --page OUT a page of such steps is written to OUT, with --trace or in its place: what `ultra page`
 prints for their trace, with the names of --symbols. Of more than 500000 steps it shows the last.
 
+With --graph OUT no result is printed, but a page for a browser is written to OUT that shows all states and
+the moves between them, with the names of --symbols; a line says how many states, moves and results there
+are. Processors are not exchanged. It gives up at 1001 states, and goes with the sizes, --states, --seconds,
+--each, --symbols and --quiet alone.
+
 If a search finds --states states, or takes longer than --seconds, it is given up. Then the results found
 so far are printed, each of which the machine can give, and the last line is `incomplete: there may be more
 results`; an error follows. With --never and the like a state found so far may break the property; if none

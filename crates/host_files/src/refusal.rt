@@ -18,7 +18,7 @@ pub enum FileRefusal<'a> {
     InputTwice,
     /// A trace is to be written to standard output.
     PrintedTrace,
-    /// A page of a run is to be written to standard output, beside what is printed there.
+    /// A page is to be written to standard output, beside what is printed there.
     PrintedPage,
     /// A page of a run and its trace are to be written to one file.
     SamePage,
@@ -43,9 +43,7 @@ impl FileRefusal<'_> {
             FileRefusal::PrintedTrace => {
                 refuse("a trace is not written to standard output", err)
             }
-            FileRefusal::PrintedPage => {
-                refuse("a page of a run is not written to standard output", err)
-            }
+            FileRefusal::PrintedPage => { refuse("a page is not written to standard output", err) }
             FileRefusal::SamePage => refuse("--page and --trace name the same file", err),
         }
     }

@@ -109,7 +109,11 @@ fn push_source(text: &mut String, source: Option<Source<'_>>) -> Result<(), Allo
 }
 
 /// Appends a line for each symbol of a table, if there is one.
-fn push_symbols(
+///
+/// # Errors
+///
+/// [`AllocError`] if there is no memory for them.
+pub fn push_symbols(
     alloc: Global,
     text: &mut String,
     symbols: Option<&SymbolTable<'_>>,

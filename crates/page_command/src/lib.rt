@@ -22,6 +22,6 @@ mod step_changes;
 mod window;
 
 pub use data::data_text;
-pub use legend::{Legend, Source};
-pub use page::Page;
+pub use legend::{Legend, Source, push_symbols};
+pub use page::{Page, page_text};
 pub use window::{TooLong, Window};

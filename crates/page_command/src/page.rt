@@ -48,7 +48,11 @@ impl<'a> TraceReport for Page<'a> {
 }
 
 /// A page of these three parts, the second one escaped.
-fn page_text(alloc: Global, front: &str, shown: &str, back: &str) -> Result<String, AllocError>
+///
+/// # Errors
+///
+/// [`AllocError`] if there is no memory for it.
+pub fn page_text(alloc: Global, front: &str, shown: &str, back: &str) -> Result<String, AllocError>
     ensures { IfOk result (λ text. string_bytes text ≡ front.now ++ escaped shown.now ++ back.now) }
 {
     let mut text = String::new(alloc);

@@ -5,6 +5,7 @@ ghost use Rattle.trace_commands.specs.run_reports.RunReports.{IsWorking};
 
 use crate::comparing::{compare_files, compared_words};
 use crate::explore_files::{link_of, open_image, report_file, saves_run};
+use crate::graphing::graph_file;
 use crate::page_source::PageSource;
 use crate::properties::{judge_file, property_of, read_filter};
 use crate::refusal::SearchRefusal;
@@ -12,6 +13,7 @@ use crate::search_reports::{SearchReports, status_unless_short};
 use crate::words::words_of;
 use explore_command::{Asked, SearchObserver, SearchProgress, explore_command, explore_every_size};
 use flat_machine::Config;
+use graph_command::GraphPage;
 use host_files::Reason;
 use link::{LinkRead, LinkWrite, Meter};
 use observed_results::ObservedWords;
@@ -24,12 +26,13 @@ use std::time::Clock;
 use symbol_table::SymbolTable;
 
 /// Does what `explore FILE` asks for, with these names in a condition. A page that is asked for is made as this one is,
-/// of other steps. The first write to OUT opens it.
+/// of other steps, or as this one of a graph. The first write to OUT opens it.
 pub fn explore_file<'a, R: Files + Input + Clock + Eprint + AllocGlobal, W: LinkWrite, E: Write>(
     rt: &R,
     explore: &Explore<'a>,
     names: &Option<SymbolTable<'_>>,
     page: Page<'_>,
+    graph: GraphPage<'_>,
     terminal: bool,
     reason: &Reason,
     out: &mut W,
@@ -40,6 +43,9 @@ pub fn explore_file<'a, R: Files + Input + Clock + Eprint + AllocGlobal, W: Link
     let shown = terminal && !explore.quiet;
     if let Some(text) = property_of(explore)? {
         return judge_file(rt, explore, text, names, page, shown, reason, out, err);
+    }
+    if let Some(path) = explore.graph {
+        return graph_file(rt, explore, path, graph, shown, reason, out, err);
     }
     if explore.filter.is_some() && (explore.every || explore.against.is_some()) {
         return Err(SearchRefusal::Filter);

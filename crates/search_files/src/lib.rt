@@ -9,6 +9,7 @@ mod comparing;
 mod create_named;
 mod explore_files;
 mod exploring;
+mod graphing;
 mod hunt_files;
 mod hunting;
 mod page_source;

@@ -56,6 +56,7 @@ fn asks_for_results(explore: &Explore<'_>) -> bool {
         || explore.observe.is_some()
         || explore.filter.is_some()
         || explore.against.is_some()
+        || explore.graph.is_some()
         || explore.each
         || explore.fair
         || explore.every

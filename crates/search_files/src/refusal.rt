@@ -19,6 +19,8 @@ pub enum SearchRefusal<'a> {
     Every,
     /// A comparison is asked for, and a witness, fair schedules or every size.
     Against,
+    /// A graph is asked for, together with what it does not have.
+    Graph,
     /// The specification at this path is refused for this fault, with the system's last error if there was one.
     Specification(&'a str, Fault, Option<io::Error>),
     /// This text is no list of shared words of a machine that has this many.
@@ -65,6 +67,11 @@ impl SearchRefusal<'_> {
                     err,
                 )
             }
+            SearchRefusal::Graph => refuse(
+                "--graph goes with none of --every, --fair, --witness, --trace, --page, --observe, --filter, --against, \
+                 --never, --always, --finally, --decimal and --json",
+                err,
+            ),
             SearchRefusal::Specification(path, fault, reason) => {
                 refuse_specification(path, fault, reason, err)
             }

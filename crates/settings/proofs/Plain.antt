@@ -238,6 +238,7 @@ file_are OfExplore file words named (asked.Explore x) said =
       no_text x.always said.1.15,
       no_text x.finally said.1.16,
       no_text x.filter said.1.17,
+      no_text x.graph said.1.18,
     )
 file_are OfStudy file words named (asked.Study s) said =
     let queue = said.1.7 in

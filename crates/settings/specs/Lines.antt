@@ -107,6 +107,7 @@ GivesExplore rows x = IsPath (codes "FILE") rows x.file.now
     × IsNumber states rows x.states × IsChoice seconds rows x.seconds × IsChoice witness rows x.witness
     × IsOption (codes "never") rows x.never × IsOption (codes "always") rows x.always
     × IsOption (codes "finally") rows x.finally × IsOption (codes "filter") rows x.filter
+    × IsOption (codes "graph") rows x.graph
 
 abbrev pub GivesReplay : List Row → Replay → Type 0
 GivesReplay rows r = IsPath (codes "TRACE") rows r.trace.now × IsPath (codes "FILE") rows r.file.now

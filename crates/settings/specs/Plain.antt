@@ -68,7 +68,7 @@ IsPlain (asked.Explore x) words = HasFile (codes "explore") x.file.now words
     × (x.trace ≡ None) × (x.page ≡ None) × (x.observe ≡ None) × (x.against ≡ None) × (x.each ≡ false)
     × (x.fair ≡ false) × (x.every ≡ false) × (x.quiet ≡ false)
     × IsAsItIs x.style × AreUsual x.sizes × (x.states ≡ 1000000) × (x.seconds ≡ None) × (x.witness ≡ None)
-    × (x.never ≡ None) × (x.always ≡ None) × (x.finally ≡ None) × (x.filter ≡ None)
+    × (x.never ≡ None) × (x.always ≡ None) × (x.finally ≡ None) × (x.filter ≡ None) × (x.graph ≡ None)
 IsPlain (asked.Replay r) words = HasTrace (codes "replay") r.replay words × IsAsItIs r.style
 IsPlain (asked.Order o) words = HasTrace (codes "order") o.lines.replay words × TakesAll o.lines × (o.abi ≡ false)
 IsPlain (asked.Story s) words = HasTrace (codes "story") s.lines.replay words × TakesAll s.lines

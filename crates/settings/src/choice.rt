@@ -343,6 +343,8 @@ pub struct Explore<'a> {
     pub finally: Option<&'a str>,
     /// The condition that a result has to satisfy to be printed, if given.
     pub filter: Option<&'a str>,
+    /// Where to write a page of the graph of all states, if anywhere.
+    pub graph: Option<&'a str>,
 }
 
 /// `hunt FILE`.

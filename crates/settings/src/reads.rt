@@ -414,6 +414,7 @@ fn explore<'a>(matches: &ArgMatches<'a>) -> Explore<'a>
         always: option(matches, "always"),
         finally: option(matches, "finally"),
         filter: option(matches, "filter"),
+        graph: option(matches, "graph"),
     }
 }
 

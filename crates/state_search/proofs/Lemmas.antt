@@ -18,6 +18,7 @@ pub use Rattle.state_search.proofs.RowExchanges.{ordered_means, row_ordered}
 pub use Rattle.state_store.proofs.Lemmas.{rows_same}
 -- Tables that grow, and what rows of the old tables mean in the grown ones.
 pub use Rattle.state_store.proofs.Lemmas.{kept_all, kept_on, means_kept, row_kept}
+pub use Rattle.state_search.proofs.Targeting.{rows_kept, targets_kept}
 
 -- a way with one move after it
 module _ (at : ℕ → Setting) (code : List ℕ) (kept : LocalState → LocalState) (classes : List ℕ) where

@@ -71,9 +71,13 @@ pub fn targets_of<const N: usize>(
     Ok(Some(targets))
 }
 
-/// Replaces the contents of `list` by the targets of a row. Returns false if a processor spins in it, or a move leads
-/// to no row.
-fn find_targets<const N: usize>(
+/// Replaces the contents of `list` by the targets of a row: for each processor, the place of the row to which its move
+/// leads, or [`NO_MOVE`]. Returns false if a processor spins in it, or a move leads to no row.
+///
+/// # Errors
+///
+/// Those of [`StateTables::next`].
+pub fn find_targets<const N: usize>(
     state_tables: &mut StateTables,
     transition_caches: &mut TransitionCaches,
     code: &Code,

@@ -64,7 +64,7 @@ impl LocalState {
 
 impl SavedLocalState {
     /// Returns whether the processor runs and its next turn is not a reference.
-    fn goes_on(&self, code: &Code) -> bool
+    pub fn goes_on(&self, code: &Code) -> bool
         ensures { IsTrue result ↔ IsGoingOn code.now self.now }
     {
         if !self.is_running() {

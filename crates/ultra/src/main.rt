@@ -5,6 +5,7 @@ ghost use Rattle.std.specs.Prelude.{◌≡◌, false};
 ghost use Rattle.trace_commands.specs.run_reports.RunReports.{IsWorking};
 
 mod assembling;
+mod graph_page;
 mod loopback_port;
 mod output;
 mod page;
@@ -15,6 +16,7 @@ mod standard_streams;
 mod symbols;
 
 use crate::assembling::asm_file;
+use crate::graph_page::page_of_graph;
 use crate::loopback_port::LoopbackPort;
 use crate::output::{Output, format_of};
 use crate::page::page;
@@ -179,7 +181,7 @@ fn execute_with_file<
 fn uses_names(settings: &Settings<'_>) -> bool {
     match settings {
         Settings::Picture(_) | Settings::Page(_) => true,
-        Settings::Explore(explore) => asks_for_property(explore),
+        Settings::Explore(explore) => explore.graph.is_some() || asks_for_property(explore),
         _ => false,
     }
 }
@@ -299,7 +301,8 @@ fn execute<
         }
         Settings::Explore(explore) => {
             let page = page(WHOLE, Legend::of_symbols(names.as_ref()));
-            Ok(explore_file(rt, explore, names, page, terminal, reason, out, err)?)
+            let graph = page_of_graph(names.as_ref());
+            Ok(explore_file(rt, explore, names, page, graph, terminal, reason, out, err)?)
         }
         Settings::Replay(report) => tell_steps(rt, &report.replay, &Report, reason, out, err),
         Settings::Order(order) => {

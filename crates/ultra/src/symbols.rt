@@ -70,7 +70,7 @@ fn trace_of<'a>(settings: &Settings<'a>) -> Option<&'a str> {
 /// Where a command that prints names writes the page that it is asked for.
 fn page_of<'a>(settings: &Settings<'a>) -> Option<&'a str> {
     match settings {
-        Settings::Explore(explore) => explore.page,
+        Settings::Explore(explore) => explore.page.or(explore.graph),
         _ => None,
     }
 }

@@ -5,6 +5,7 @@ mod comparisons;
 mod devices;
 mod ends;
 mod filters;
+mod graphs;
 mod lassos;
 mod properties;
 mod sizes;

@@ -247,6 +247,7 @@ static WITHOUT_VALUE: [(&str, &str); 16] = [
     ("order a.trace a.elf --word", "--word <NUMBER>"),
     ("explore a.elf --trace", "--trace <OUT>"),
     ("explore a.elf --page", "--page <OUT>"),
+    ("explore a.elf --graph", "--graph <OUT>"),
     ("hunt a.elf --page", "--page <PREFIX>"),
     ("picture a.trace a.elf --step", "--step <NUMBER>"),
     ("picture a.trace a.elf --symbols", "--symbols <FILE>"),

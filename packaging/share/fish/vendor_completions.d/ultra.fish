@@ -124,6 +124,7 @@ complete -c ultra -n '__ultra_wants_more hunt 1 --trace --page --observe --sched
 
 complete -c ultra -n '__ultra_has_command explore' -l trace -r -F -d 'Where to write the steps to the result of --witness, those of a lasso, or those that break a property, for `ultra replay`; opened then'
 complete -c ultra -n '__ultra_has_command explore' -l page -r -F -d 'Where to write a page for a browser that plays the same steps, as `ultra page` makes it'
+complete -c ultra -n '__ultra_has_command explore' -l graph -r -F -d 'Where to write a page for a browser that shows all states, up to 1000, and who moves from which to which'
 complete -c ultra -n '__ultra_has_command explore' -l observe -x -d 'Words by which results differ, as `0-3,8`; they are printed without others [default: all]'
 complete -c ultra -n '__ultra_has_command explore' -l filter -r -F -d 'Print only the results that satisfy the condition, as `word 0 == 1`; not with --every or --against'
 complete -c ultra -n '__ultra_has_command explore' -l against -r -F -d 'Print only the results that the image SPEC does not have; not with --every or --witness'
@@ -146,7 +147,7 @@ complete -c ultra -n '__ultra_has_command explore' -l states -x -d 'Give up when
 complete -c ultra -n '__ultra_has_command explore' -l seconds -x -d 'Give up a search after so many seconds, 1 to 4294967295'
 complete -c ultra -n '__ultra_has_command explore' -l witness -x -d 'Write the trace of a path to the result of this number, or with 0 to the first state without a path to an end; goes with --trace or --page'
 complete -c ultra -n '__ultra_has_command explore' -l help -d 'Print help'
-complete -c ultra -n '__ultra_wants_more explore 1 --trace --page --observe --filter --against --never --always --finally --symbols --k --c --b --r --words --states --seconds --witness' -F
+complete -c ultra -n '__ultra_wants_more explore 1 --trace --page --graph --observe --filter --against --never --always --finally --symbols --k --c --b --r --words --states --seconds --witness' -F
 
 complete -c ultra -n '__ultra_has_command replay' -l words -x -d 'Shared words of four bytes that the machine has, 1 to 262144 [default: 1024]'
 complete -c ultra -n '__ultra_has_command replay' -l symbols -r -F -d 'Print names beside addresses and words, from the symbol table of an ELF file or from what `nm` prints; not with --json'

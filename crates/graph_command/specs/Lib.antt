@@ -1,0 +1,4 @@
+pub mod Graphs
+pub mod Found
+pub mod Lines
+pub mod Printing
