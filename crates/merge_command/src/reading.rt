@@ -55,7 +55,6 @@ fn place_after(start: u32, number: u32) -> u32
 }
 
 /// The text that bytes spell, if they are UTF-8.
-#[tactic(auto, using(crate::proofs::Utf8::is_text, crate::proofs::Utf8::is_no_text))]
 fn text_of(bytes: Vec<u8>) -> Option<String>
     ensures { MatchOption result (is_utf8 bytes.items ≡ false)
         (λ text. (is_utf8 bytes.items ≡ true) × (string_bytes text ≡ bytes.items)) }

@@ -1,0 +1,9 @@
+pub mod Joining
+pub mod OneHunt
+pub mod Splitting
+pub mod Numerals
+pub mod Reads
+pub mod Utf8
+pub mod Outcomes
+pub mod Results
+pub mod ReadBack
