@@ -7,3 +7,4 @@ pub mod Utf8
 pub mod Outcomes
 pub mod Results
 pub mod ReadBack
+pub mod Texts

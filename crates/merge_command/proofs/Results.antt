@@ -259,7 +259,7 @@ abbrev any_result : List ResultState → Bool
 any_result [] = false
 any_result (r ∷ rs) = has_fault r.text || any_result rs
 
-greater_fault : (a b : Bool) → greater (greatest_of a) (greatest_of b) ≡ greatest_of (b || a)
+pub greater_fault : (a b : Bool) → greater (greatest_of a) (greatest_of b) ≡ greatest_of (b || a)
 greater_fault true true = refl
 greater_fault true false = refl
 greater_fault false true = refl

@@ -9,6 +9,7 @@ use Rattle.hunt_command.specs.Hunts.{hunt_status, is_unexpected}
 use Rattle.merge_command.specs.declared.found_text.FoundText.{FoundText}
 use Rattle.merge_command.specs.declared.found_text.Break.{Break}
 use Rattle.merge_command.specs.declared.found_text.Break.TheVariants as break
+use Rattle.merge_command.specs.declared.command.Refused.{Refused}
 use Rattle.merge_command.specs.declared.refusal.Refusal.{Refusal}
 use Rattle.merge_command.specs.declared.refusal.Refusal.TheVariants as refusal
 use Rattle.merge_command.specs.declared.input.TheConstants.{MAX_TEXT_BYTES}
@@ -135,11 +136,20 @@ pub record IsRefusedAt (files : List (Option (List ℕ))) (place : ℕ) (r : Ref
   pub said : AreSaid (take place files) before
   pub unmerged : IsUnmerged before known r
 
+-- Why there is no text of all runs: a file is not merged, or there is none.
+abbrev pub IsFaultAt : (files : List (Option (List ℕ))) → (at : Option ℕ) → Refusal → Type 0
+IsFaultAt files (Some place) r = IsRefusedAt files place r
+IsFaultAt files None r = (r ≡ refusal.NoText) × (files ≡ [])
+
+abbrev pub IsTextFault : (files : List (Option (List ℕ))) → Refused → Type 0
+IsTextFault files r = IsFaultAt files r.place r.refusal
+
 -- Why nothing is printed, or not all: a file is not merged; the text cannot be printed, and a beginning of it is; or there
--- is no memory for it. The place is that of the file, if it is a file's fault.
+-- is no memory for it; or there is no file. The place is that of the file, if it is a file's fault.
 abbrev pub MergeFails : (expect_one : Bool) → (files : List (Option (List ℕ))) → (old new : Option (List ℕ)) →
     (at : Option ℕ) → Refusal → Type 0
 MergeFails expect_one files old new (Some place) r = IsRefusedAt files place r
 MergeFails expect_one files old new None refusal.Unprinted = PrintsPrefix (IsSomeMerged expect_one files) old new
 MergeFails expect_one files old new None refusal.Memory = Unit {0}
+MergeFails expect_one files old new None refusal.NoText = files ≡ []
 MergeFails expect_one files old new None other = ⊥

@@ -13,6 +13,7 @@ mistake_line line = codes "ultra: M1 line " ++ decimal line ++ line_feed
 
 -- the line that reports a refusal
 abbrev pub refusal_line : Refusal → List ℕ
+refusal_line refusal.NoText = codes "error: there is no FOUND\n"
 refusal_line (refusal.Line line) = mistake_line line
 refusal_line refusal.Apart = codes "ultra: M2\n"
 refusal_line refusal.TooMany = codes "ultra: M3\n"
@@ -23,6 +24,7 @@ refusal_line refusal.Memory = fault_line fault.Memory
 
 -- the exit status for a refusal
 abbrev pub status_of : Refusal → ℕ
+status_of refusal.NoText = 2
 status_of (refusal.Line line) = 2
 status_of refusal.Apart = 2
 status_of refusal.TooMany = 2

@@ -6,7 +6,7 @@ ghost use Rattle.std.specs.Io.KnownBytes.{Appends};
 ghost use Rattle.link.specs.Transfer.{AppendsPart};
 ghost use Rattle.command_io.specs.Printing.{Prints, ReportsRefusal};
 ghost use Rattle.hunt_command.specs.Hunts.{IsOfRefusal, IsOfResults};
-ghost use Rattle.merge_command.specs.Merging.{AreSaid, IsJoined, IsMerged, IsRefusedAt, IsUnmerged, MergeFails};
+ghost use Rattle.merge_command.specs.Merging.{AreSaid, IsJoined, IsMerged, IsTextFault, IsUnmerged, MergeFails};
 ghost use Rattle.merge_command.specs.Merging.{greatest_of, status_of_text, text_of};
 ghost use Rattle.merge_command.specs.Refusals.{IsReportedAs, status_of};
 
@@ -47,7 +47,6 @@ pub fn merge_command<T: HuntTexts, W: LinkWrite, E: Write>(
     out: &mut W,
     err: &mut E,
 ) -> Ended
-    requires some { 0 < length (T.known texts.now) }
     requires works { W.has_failed out.old ≡ false }
     ensures printed { IsOfResults result.status →
         Prints (IsMerged expect_one (T.known texts.now) result.status) (W.contents out.old) (W.contents out.new) }
@@ -77,7 +76,6 @@ fn execute<T: HuntTexts, W: LinkWrite>(
     expect_one: bool,
     out: &mut W,
 ) -> Result<u8, Refused>
-    requires some { 0 < length (T.known texts.now) }
     requires works { W.has_failed out.old ≡ false }
     ensures printed { IfOk result (λ status.
         Prints (IsMerged expect_one (T.known texts.now) status) (W.contents out.old) (W.contents out.new)) }
@@ -95,10 +93,8 @@ fn execute<T: HuntTexts, W: LinkWrite>(
 
 /// What all texts say together.
 fn merged<T: HuntTexts>(alloc: Global, texts: &T) -> Result<FoundText, Refused>
-    requires some { 0 < length (T.known texts.now) }
     ensures said { IfOk result (λ all. AreSaid (T.known texts.now) (Some all)) }
-    ensures refused { IfErr result (λ refused.
-        (place : ℕ) × (refused.place ≡ Some place) × IsRefusedAt (T.known texts.now) place refused.refusal) }
+    ensures refused { IfErr result (IsTextFault (T.known texts.now)) }
 {
     let mut all = None;
     for place in 0..texts.count() {
@@ -106,7 +102,10 @@ fn merged<T: HuntTexts>(alloc: Global, texts: &T) -> Result<FoundText, Refused>
     }
     match all {
         Some(all) => Ok(all),
-        None => unreachable!(),
+        None => Err(Refused {
+            place: None,
+            refusal: Refusal::NoText,
+        }),
     }
 }
 

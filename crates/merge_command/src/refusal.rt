@@ -13,6 +13,8 @@ use std::io::Write;
 /// Why texts are not merged.
 #[derive(Clone, Copy, Debug, PartialEq, Eq, Drop)]
 pub enum Refusal {
+    /// There is no text.
+    NoText,
     /// The line with this number, from 1, is the first of a text that no hunt could have printed there.
     Line(usize),
     /// The runs of a text do not begin with the one after those of the text before it.
@@ -48,6 +50,10 @@ pub(crate) fn report<E: Write>(refusal: Refusal, err: &mut E) -> u8
     ensures reported { IsReportedAs (E.contents err.old) (E.contents err.new) refusal }
 {
     match refusal {
+        Refusal::NoText => {
+            write_error("error: there is no FOUND\n", err);
+            REFUSED
+        }
         Refusal::Line(line) => {
             write_error(mistake_line(line).as_str(), err);
             REFUSED

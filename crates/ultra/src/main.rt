@@ -35,7 +35,7 @@ use machine_picture::Svg;
 use page_command::Window;
 use processor_threads::{Gate, Open};
 use run_command::{Progress, run_command, threaded_run_command, unlogged_run_command};
-use search_files::{asks_for_property, explore_file, hunt_file, study_file};
+use search_files::{asks_for_property, explore_file, hunt_file, merge_files, study_file};
 use settings::{
     Counts, Lines, Page, Replay, Run, Schedule, Session, Settings, settings, status_of,
 };
@@ -295,6 +295,7 @@ fn execute<
             let page = page(WHOLE, names.as_ref());
             Ok(hunt_file(rt, hunt, page, terminal, reason, out, err)?)
         }
+        Settings::Merge(merge) => Ok(merge_files(rt, merge, reason, out, err)?),
         Settings::Explore(explore) => {
             let page = page(WHOLE, names.as_ref());
             Ok(explore_file(rt, explore, names, page, terminal, reason, out, err)?)
