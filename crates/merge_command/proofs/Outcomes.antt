@@ -234,8 +234,7 @@ module _ (m : MachineLists) (shown : List ShownBy) (read : AreRead) where
   outcomes_are_ascii zero small = (refl, refl)
   outcomes_are_ascii (suc n) small =
       let o = outcome_of read n (omega arith) (processor_of m n).pc (processor_of m n).status (slice_index_or shown n nothing_shown) in
-      let before = outcomes_are_ascii n (omega arith) in
-      (
+      let before = outcomes_are_ascii n (omega arith) in (
         joined_all (λ b. nat_lt b 128) (outcome_lines false m shown n) _ before.0
             (subst IsAscii o.short_is (ascii_line (codes "processor") o.short refl o.each)),
         joined_all (λ b. nat_lt b 128) (outcome_lines true m shown n) _ before.1
@@ -336,8 +335,7 @@ unfolding word_line
 one_word n word small =
     let others = decimal n ∷ hex_of_word word ∷ [] in
     let all : AreWords others = (decimal_word n (omega arith), hex_word (to_be_bytes w32 word), tt) in
-    let is_line : said (codes "word") others ++ 10 ∷ [] ≡ word_line n word = simp append_assoc in
-    (
+    let is_line : said (codes "word") others ++ 10 ∷ [] ≡ word_line n word = simp append_assoc in (
       subst (λ l. Tells l false) is_line (tells_line (codes "word") others refl all),
       subst (λ l. list_all (λ b. nat_lt b 128) l ≡ true) is_line (ascii_line (codes "word") others refl all),
     )
@@ -347,8 +345,7 @@ words_tell text n none small = (tells_nothing, refl)
 words_tell text n (skipped {text} {m} before) small = words_tell text m before (omega arith)
 words_tell text n (written {front} {m} word before) small =
     let x = words_tell front m before (omega arith) in
-    let one = one_word m word (omega arith) in
-    (
+    let one = one_word m word (omega arith) in (
       tells_both front (word_line m word) false false x.0 one.0,
       joined_all (λ b. nat_lt b 128) front (word_line m word) x.1 one.1,
     )

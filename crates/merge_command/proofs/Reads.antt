@@ -24,8 +24,7 @@ reads_both r s t text more one two count rest =
 pub reads_line : (r s : Reading) (w : List ℕ) (ws : List (List ℕ)) → IsWord w → AreWords ws → read_after r (said w ws) ≡ Some s →
     Reads r (said w ws ++ 10 ∷ []) s
 reads_line r s w ws is all e count rest =
-    let parts = has_parts (λ b. b == 10) rest in
-    (
+    let parts = has_parts (λ b. b == 10) rest in (
       count + 1,
       ap (read_from count r) (first_line w ws rest is all)
           ∙ ap (λ l. read_from count r (said w ws ∷ l)) parts.are

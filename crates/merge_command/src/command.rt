@@ -194,5 +194,9 @@ fn status_of_text(expect_one: bool, all: &FoundText) -> u8
     ensures results { IsOfResults result }
 {
     let unexpected = is_unexpected(expect_one, &all.findings);
-    hunt_status(greatest_of(all.faulted), all.findings.unfinished(), unexpected)
+    hunt_status(
+        greatest_of(all.faulted),
+        all.findings.unfinished(),
+        unexpected,
+    )
 }

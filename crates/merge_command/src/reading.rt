@@ -97,12 +97,7 @@ fn add_finding(findings: &mut Findings, pending: Pending) -> Result<(), LineErro
 
 /// Adds the number of an unfinished run that a word says, whose place is `next` or more, to findings. Returns the place
 /// after it.
-fn add_number(
-    findings: &mut Findings,
-    start: u32,
-    next: u64,
-    word: &[u8],
-) -> Result<u64, LineError>
+fn add_number(findings: &mut Findings, start: u32, next: u64, word: &[u8]) -> Result<u64, LineError>
     ensures added { IfOk result (λ place. with_number findings.old start next (number_in word.now)
         ≡ Some (findings.new, place)) }
     ensures same { findings.new.noted ≡ findings.old.noted }
@@ -173,12 +168,7 @@ impl Reading {
     }
 
     /// Reads a line with these words.
-    fn read_words(
-        &mut self,
-        alloc: Global,
-        line: &[u8],
-        words: &[&[u8]],
-    ) -> Result<(), LineError>
+    fn read_words(&mut self, alloc: Global, line: &[u8], words: &[&[u8]]) -> Result<(), LineError>
         requires sound { self.old.unended ≤ self.old.findings.noted }
         ensures read { OnOk result (after_words self.old line.now (map (λ word. word.now) words.now) ≡ Some self.new) }
         ensures sound { OnOk result (self.new.unended ≤ self.new.findings.noted) }
@@ -246,13 +236,7 @@ impl Reading {
     }
 
     /// Opens a result.
-    fn open(
-        &mut self,
-        alloc: Global,
-        runs: u32,
-        first: u32,
-        end: SweepEnd,
-    ) -> Result<(), LineError>
+    fn open(&mut self, alloc: Global, runs: u32, first: u32, end: SweepEnd) -> Result<(), LineError>
         ensures opened { OnOk result (opened self.old runs first end ≡ Some self.new) }
         ensures same { (self.new.unended ≡ self.old.unended) × (self.new.findings ≡ self.old.findings) }
         ensures refused { IfErr result (IsNothing (opened self.old runs first end)) }

@@ -66,11 +66,7 @@ fn end(reading: Reading, number: usize) -> Result<FoundText, TextError>
 }
 
 /// Reads the lines after the first, and returns the number of the last.
-fn read_others(
-    alloc: Global,
-    reading: &mut Reading,
-    lines: &[&[u8]],
-) -> Result<usize, TextError>
+fn read_others(alloc: Global, reading: &mut Reading, lines: &[&[u8]]) -> Result<usize, TextError>
     requires sound { reading.old.unended ≤ reading.old.findings.noted }
     ensures read { IfOk result (λ count. read_from 1 reading.old (map (λ line. line.now) lines.now)
         ≡ at_line count (ended reading.new reading.new.last)) }
