@@ -8,3 +8,4 @@ pub mod Outcomes
 pub mod Results
 pub mod ReadBack
 pub mod Texts
+pub mod Written

@@ -42,6 +42,10 @@ HuntsAreReadBack = (observed : Option (List Bool)) (c : Config) (image : ImageCo
       faulted = faulted;
     }))
 
+-- Conversely, a text that says something is the text of a hunt that finds what it says.
+abbrev pub TextsAreWritten : Type 0
+TextsAreWritten = (text : List ℕ) (t : FoundText) → found_of text ≡ Ok t → text ≡ text_of t
+
 -- ---- texts of adjacent runs
 
 -- What a hunt of this many runs finds.
