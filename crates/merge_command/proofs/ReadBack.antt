@@ -135,8 +135,7 @@ module _ (read : AreRead) (c : Config) (limits : IsWithinLimits c) where
         let ascii = λ (b : ℕ). nat_lt b 128 in
         let outcomes = outcomes_are_ascii x.m x.shown read n (few_processors c x.m limits x.size) in
         let others = (words_tell words x.m.config.shared_words (observed_words x.observed x.m x.m.config.shared_words) (few_words c x.m limits x.size)).1 in
-        let end = end_ascii x.end in
-        (
+        let end = end_ascii x.end in (
           ap is_utf8 x.text_is ∙ ascii_is_utf8 (result_of x.observed false x.end x.m x.shown)
               (joined_all ascii (end_line x.end ++ front) words (joined_all ascii (end_line x.end) front end outcomes.0) others),
           ap is_utf8 x.printed_is ∙ ascii_is_utf8 (result_of x.observed true x.end x.m x.shown)
@@ -325,6 +324,7 @@ module _ (read : AreRead) (c : Config) (limits : IsWithinLimits c) (start runs :
     -- The text ends after its last result, or after the line of the unfinished runs.
     ends : (us : List ℕ) → unended_of (ds ++ f ∷ []) ≡ length us → AreNumbers start (runs_of (ds ++ f ∷ [])) 0 us → (count : ℕ) →
         read_from count s (parts_at 10 (unfinished_line us)) ≡ Ok (all_said (ds ++ f ∷ []) us)
+    unfolding read_after
     ends [] counted numbers count =
         let done = completes ds f [] x words different few in
         ap (λ o. at_line count (o >>= λ r. cond (r.unended == 0) (Some (found_text r)) None)) done
@@ -352,7 +352,6 @@ module _ (read : AreRead) (c : Config) (limits : IsWithinLimits c) (start runs :
       where
         last_read : (l : List ℕ) (others : List (List ℕ)) → parts_at 32 l ≡ codes "unfinished" ∷ others →
             {t : Reading} → after_last s others ≡ Some t → read_after s l ≡ Some t
-        unfolding read_after
         last_read l others cut {t} is = ap (after_words s l) cut ∙ is
 
   -- ---- all results
@@ -453,8 +452,7 @@ module _ (read : AreRead) (observed : Option (List Bool)) (c : Config) (image : 
       let counted : unended_of found ≡ length unfinished =
       ap unended_of are.are ∙ unended_found read observed c image policy limits start low 0 [] rs each ∙ ap length (sym are.those) in
       let numbers : AreNumbers start runs 0 unfinished =
-      subst (AreNumbers start runs 0) (sym are.those) (unfinished_numbers read observed c image policy limits start low 0 runs rs (omega (arith, all)) small) in
-      (
+      subst (AreNumbers start runs 0) (sym are.those) (unfinished_numbers read observed c image policy limits start low 0 runs rs (omega (arith, all)) small) in (
         any_fault found,
         are.exit ∙ greatest_is read observed c image policy limits start low rs each ∙ ap (λ fs. greatest_of (any_fault fs)) (sym are.are),
         by found kept' counted numbers,
