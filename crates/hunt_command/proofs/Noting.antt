@@ -1,6 +1,6 @@
 -- A result is noted: its place, and in how many runs it was found.
 use Rattle.std.proofs.Common.{◌≡◌, ℕ, zero, suc, ◌+◌, ◌≤◌, Bool, true, false, cond, not, List, [], ◌∷◌, ◌++◌, Option, Some, None}
-use Rattle.std.proofs.Common.{String, Global, string_bytes, length, take, refl, sym, ap, subst, ◌∙◌, arith, append_assoc}
+use Rattle.std.proofs.Common.{String, Global, string_bytes, length, take, refl, sym, ap, ◌∙◌, arith, append_assoc}
 use Rattle.std.specs.Prelude.{bytes_eq, is_some, nat_lt, position, slice_get, slice_set}
 use Rattle.std.specs.List.{position_or_len}
 use Rattle.std.specs.Map.{keys_of}
@@ -196,7 +196,9 @@ pub merged_step : (fs gs : List FindingState) (i : ℕ) (g : FindingState) → s
     merged fs (take (i + 1) gs) ≡ joined (merged fs (take i gs)) g
 merged_step fs [] i g there = absurd (cc)
 merged_step fs (x ∷ gs) zero g there = (let same : x ≡ g = cc in ap (joined fs) same)
-merged_step fs (x ∷ gs) (suc i) g there = merged_step (joined fs x) gs i g there
+merged_step fs (x ∷ gs) (suc i) g there =
+    let next : suc i + 1 ≡ suc (i + 1) = omega arith in
+    ap (λ n. merged fs (take n (x ∷ gs))) next ∙ merged_step (joined fs x) gs i g there
 
 -- The same for the number of their runs.
 pub runs_step : (gs : List FindingState) (i : ℕ) (g : FindingState) → slice_get gs i ≡ Some g →
@@ -205,7 +207,10 @@ runs_step [] i g there = absurd (cc)
 runs_step (x ∷ gs) zero g there =
     let same : x ≡ g = cc in
     let runs = ap (λ (f : FindingState). f.runs) same in omega (arith, runs)
-runs_step (x ∷ gs) (suc i) g there = let rest = runs_step gs i g there in omega (arith, rest)
+runs_step (x ∷ gs) (suc i) g there =
+    let next : suc i + 1 ≡ suc (i + 1) = omega arith in
+    let rest = runs_step gs i g there in
+    ap (λ n. runs_of (take n (x ∷ gs))) next ∙ (let sum : x.runs + runs_of (take (i + 1) gs) ≡ x.runs + runs_of (take i gs) + g.runs = omega (arith, rest) in sum)
 
 -- The first of some results have no more runs than all.
 pub runs_within : (gs : List FindingState) (i : ℕ) → runs_of (take i gs) ≤ runs_of gs

@@ -95,7 +95,10 @@ impl Findings {
     pub fn has(&self, text: &String) -> bool
         ensures { result ≡ nat_lt (place_of (string_bytes text.now) self.now.found) (length self.now.found) }
     {
-        self.found.get_index_of(text).is_some()
+        match self.found.get_index_of(text) {
+            Some(_) => true,
+            None => false,
+        }
     }
 
     /// Notes that this many later runs had the result with this text. If it is new, it is printed as `printed`, and
@@ -122,7 +125,6 @@ impl Findings {
           noted = self.old.noted + runs;
         }) }
     {
-        self.noted += runs;
         let Some(place) = self.found.get_index_of(&text) else {
             let counted = Counted {
                 runs,
@@ -130,13 +132,15 @@ impl Findings {
                 printed,
             };
             self.found.insert(text, counted)?;
+            self.noted += runs;
             return Ok(());
         };
         let Some((_, before)) = self.found.get_index(place) else {
             unreachable!()
         };
-        let runs = before.runs + runs;
-        put_at(&mut self.found, place, runs);
+        let all = before.runs + runs;
+        put_at(&mut self.found, place, all);
+        self.noted += runs;
         Ok(())
     }
 

@@ -31,8 +31,8 @@ returns-in_default c =
     let ended = ap (λ (s : FindingsState). s.unfinished) c.self.view_is in
     λ j. record { found = found j; noted = count j + c.args.runs; unfinished = ended j }
 
-pub overflow_add-runs : goal.overflow_add-runs
-overflow_add-runs c =
+pub overflow_add-all : goal.overflow_add-all
+overflow_add-all c =
     let es = c.self.inside.found.entries in
     let f = runs_here (found_in text_in printed_in runs_in first_of es) c.in-Some.place _
     (entry_in text_in printed_in runs_in first_of es c.in-Some.place _ c.in-Some-get_index.before.now
