@@ -2,7 +2,7 @@ pub mod Joining
 pub mod OneHunt
 pub mod Splitting
 pub mod Numerals
-pub mod Reads
+pub mod LineByLine
 pub mod Utf8
 pub mod Outcomes
 pub mod Results

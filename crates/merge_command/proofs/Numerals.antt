@@ -1,5 +1,5 @@
 -- Numbers, values and bytes that are printed are words, and are read back.
-use Rattle.std.proofs.Common.{◌≡◌, ◌∙◌, ℕ, zero, suc, ◌/◌, ◌%◌, ◌^◌, ◌<◌, ◌≤◌, Bool, true, false, eqb, List, [], ◌∷◌, length, get_or, Some, refl}
+use Rattle.std.proofs.Common.{◌≡◌, ◌∙◌, ℕ, zero, suc, ◌*◌, ◌/◌, ◌%◌, ◌^◌, ◌<◌, ◌≤◌, Bool, true, false, eqb, List, [], ◌∷◌, length, get_or, Some, refl}
 use Rattle.std.proofs.Common.{sym, ap, arith, inl, inr}
 use Rattle.std.specs.Prelude.{◌==◌, ◌||◌, ◌&&◌, bytes_eq, nat_le, nat_lt, not, pos, codes}
 use Rattle.std.specs.Char.{digit_value}
@@ -7,7 +7,7 @@ use Rattle.std.specs.Fmt.{decimal}
 use Rattle.std.specs.Int.{w32, to_be_bytes}
 use Rattle.std.specs.List.{list_all}
 use Rattle.std.specs.Str.Parse.{AllDigits, IsNumeral}
-use Rattle.std.proofs.lemmas.Bool.{agree_below_at, and_from, and_parts, cases_lt, le-leb, ltb-true, lt-ltb, or_cases}
+use Rattle.std.proofs.lemmas.Bool.{agree_below_at, and_from, and_parts, cases_lt, eqb-false, le-leb, ltb-true, lt-ltb, or_cases}
 use Rattle.std.proofs.lemmas.Bool.Decides.{nat_tests}
 use Rattle.std.proofs.lemmas.Fmt.{decimal_is_IsNumeral}
 use Rattle.std.proofs.lemmas.Slice.Eq.{bytes_eq-Decides}
@@ -22,6 +22,14 @@ use Rattle.command_io.specs.Digits.{hex_of_byte, hex_of_bytes, hex_of_word}
 use Rattle.command_io.specs.Lines.{console_text}
 use Rattle.merge_command.specs.Lines.{as_printed, is_byte, is_console, is_digit, is_digit_or_zero, is_fault, is_value, number_in}
 use Rattle.merge_command.proofs.Splitting.{IsWord, is_mark, weaker}
+
+-- A number equals itself.
+pub eqb_itself : (n : ℕ) → eqb n n ≡ true
+eqb_itself n = by (eqb n n) refl
+  where
+    by : (b : Bool) → eqb n n ≡ b → eqb n n ≡ true
+    by true e = e
+    by false e = absurd (eqb-false n n e refl)
 
 -- ---- decimal numbers
 
@@ -97,7 +105,7 @@ word_bytes n (suc (suc (suc (suc i)))) = omega arith
 mark_of_digit : (b : ℕ) → is_digit_or_zero b ≡ true → is_mark b ≡ true
 mark_of_digit b is = elim (cases_lt b 103) [
   | inl low ↦ elim (or_cases (not (is_digit_or_zero b)) (is_mark b) (agree_below_at (λ b. not (is_digit_or_zero b) || is_mark b) (λ _. true) 103 b refl low)) [
-    | inl no ↦ absurd (let bad : not true ≡ true = ap not (sym is) ∙ no in cc)
+    | inl none ↦ absurd (let bad : not true ≡ true = ap not (sym is) ∙ none in cc)
     | inr mark ↦ mark
   ]
   | inr high ↦ grind (arith, nat_tests)
@@ -128,7 +136,7 @@ pub console_again : (bytes : List ℕ) → is_console (console_text bytes) ≡ t
 console_again [] = refl
 console_again (b ∷ bytes) =
     let text = hex_of_bytes (b ∷ bytes) in
-    let long : length text ≡ 2 * suc (length bytes) = length-encode_with lower_digits (b ∷ bytes) in
+    let long : length text ≡ 2 * length (b ∷ bytes) = length-encode_with lower_digits (b ∷ bytes) in
     let some : nat_lt 0 (length text) ≡ true = lt-ltb 0 (length text) (omega arith) in
     let rest : length text % 2 ≡ 0 = omega arith in
     or_second (bytes_eq text (codes "-")) _

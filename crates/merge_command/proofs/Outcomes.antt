@@ -5,7 +5,7 @@ use Rattle.std.specs.Prelude.{◌||◌, ◌&&◌, bytes_eq, codes, nat_le, nat_l
 use Rattle.std.specs.Fmt.{decimal}
 use Rattle.std.specs.Int.{w32, to_be_bytes}
 use Rattle.std.specs.List.{list_all}
-use Rattle.std.proofs.lemmas.Bool.{and_from, cases_lt, eqb-refl, le-leb, lt-ltb, or_parts}
+use Rattle.std.proofs.lemmas.Bool.{and_from, cases_lt, le-leb, lt-ltb, or_parts}
 use Rattle.flat_machine.specs.declared.event.Status.{Status}
 use Rattle.flat_machine.specs.declared.event.Status.TheVariants.{Running, Halted, Faulted}
 use Rattle.flat_machine.specs.State.{number_of_fault}
@@ -13,7 +13,7 @@ use Rattle.machine_steps.specs.Machines.{MachineLists}
 use Rattle.machine_steps.specs.machine_theory.Processors.{word_at}
 use Rattle.machine_steps.specs.Standing.{HasFaulted, IsFaulted, processor_of}
 use Rattle.asm_lines.specs.Text.{parts_at}
-use Rattle.command_io.specs.Digits.{hex_of_byte, hex_of_word}
+use Rattle.command_io.specs.Digits.{hex_of_byte, hex_of_word, status_text}
 use Rattle.command_io.specs.Lines.{console_text, word_line, word_lines}
 use Rattle.command_io.specs.Tallies.{ShownBy, nothing_shown}
 use Rattle.run_reports.specs.Reports.{shared_lines}
@@ -25,10 +25,10 @@ use Rattle.merge_command.specs.declared.reading.Reading.{Reading}
 use Rattle.merge_command.specs.Lines.{is_last, line_of, outcome_in, without_pc, word_in}
 use Rattle.merge_command.specs.Pending.{PendingState}
 use Rattle.merge_command.specs.Reading.{after_line, after_words, read_after, with_last, with_outcome, with_word}
-use Rattle.merge_command.proofs.Numerals.{AreRead, byte_again, console_again, console_word, decimal_word, fault_again, fault_small, hex_word}
+use Rattle.merge_command.proofs.Numerals.{eqb_itself, AreRead, byte_again, console_again, console_word, decimal_word, fault_again, fault_small, hex_word}
 use Rattle.merge_command.proofs.Numerals.{number_again, value_again}
-use Rattle.merge_command.proofs.Reads.{Reads, reads_both, reads_line, reads_nothing}
-use Rattle.merge_command.proofs.Splitting.{AreWords, IsWord, ascii_line, first_line, joined_all, said, words_again}
+use Rattle.merge_command.proofs.LineByLine.{Reads, reads_both, reads_line, reads_nothing}
+use Rattle.merge_command.proofs.Splitting.{AreWords, IsWord, ascii_line, first_line, joined_all, said, said_ended, words_again}
 
 -- ---- what a text tells of faults
 
@@ -75,6 +75,24 @@ is_stopped Running = false
 is_stopped (Halted byte) = false
 is_stopped (Faulted f) = true
 
+-- ---- concatenations
+
+with_pc : (a n s p h r t c e : List ℕ) → a ++ n ++ s ++ (p ++ h ++ s) ++ r ++ t ++ c ++ e ≡ a ++ (n ++ (s ++ (p ++ (h ++ (s ++ (r ++ (t ++ (c ++ e))))))))
+with_pc a n s p h r t c e = simp append_assoc
+
+no_pc : (a n s r t c e : List ℕ) → a ++ n ++ s ++ [] ++ r ++ t ++ c ++ e ≡ a ++ (n ++ (s ++ (r ++ (t ++ (c ++ e)))))
+no_pc a n s r t c e = simp (append_assoc, append-nil)
+
+five_words : (a b c d e s f : List ℕ) → (a ++ s) ++ (b ++ s) ++ (c ++ s) ++ (d ++ s) ++ (e ++ f) ≡ a ++ (s ++ (b ++ (s ++ (c ++ (s ++ (d ++ (s ++ (e ++ f))))))))
+five_words a b c d e s f = simp append_assoc
+
+six_words : (a b c d e g s f : List ℕ) → (a ++ s) ++ (b ++ s) ++ (c ++ s) ++ (d ++ s) ++ (e ++ s) ++ (g ++ f)
+    ≡ a ++ (s ++ (b ++ (s ++ (c ++ (s ++ (d ++ (s ++ (e ++ (s ++ (g ++ f))))))))))
+six_words a b c d e g s f = simp append_assoc
+
+value_line : (a n s h e : List ℕ) → a ++ n ++ s ++ h ++ e ≡ a ++ (n ++ (s ++ (h ++ e)))
+value_line a n s h e = simp append_assoc
+
 -- The line of a processor is one of words, which say its number, and whether a fault has stopped it.
 record IsOutcome (n pc : ℕ) (status : Status) (shown : ShownBy) : Type 0 where
   others : List (List ℕ)
@@ -100,26 +118,28 @@ module _ (read : AreRead) (n : ℕ) (small : n < 2 ^ 32) (pc : ℕ) where
   unfolding outcome_line outcome_in
   outcome_of Running shown = record {
     others = decimal n ∷ codes "pc" ∷ hex_of_word pc ∷ codes "run" ∷ codes "console" ∷ console_text shown.console ∷ [];
-    all = (number, refl, value, refl, refl, console_word shown.console, tt);
+    all = (number, (refl, (value, (refl, (refl, (console_word shown.console, tt))))));
     last = refl;
     says = rw (value_again pc, console_again shown.console, number_again read n small) refl;
-    printed = simp append_assoc;
-    text = simp append_assoc;
+    printed = said_ended (codes "processor") (decimal n ∷ codes "pc" ∷ hex_of_word pc ∷ codes "run" ∷ codes "console" ∷ console_text shown.console ∷ []) []
+            ∙ sym (with_pc (codes "processor ") (decimal n) (codes " ") (codes "pc ") (hex_of_word pc) (status_text Running) (codes " console ") (console_text shown.console) (10 ∷ []));
+    text = five_words (codes "processor") (decimal n) (codes "run") (codes "console") (console_text shown.console) (codes " ") (10 ∷ []) ∙ sym (no_pc (codes "processor ") (decimal n) (codes " ") (status_text Running) (codes " console ") (console_text shown.console) (10 ∷ []));
     short = decimal n ∷ codes "run" ∷ codes "console" ∷ console_text shown.console ∷ [];
-    each = (number, refl, refl, console_word shown.console, tt);
-    short_is = simp append_assoc;
+    each = (number, (refl, (refl, (console_word shown.console, tt))));
+    short_is = said_ended (codes "processor") (decimal n ∷ codes "run" ∷ codes "console" ∷ console_text shown.console ∷ []) [] ∙ sym (no_pc (codes "processor ") (decimal n) (codes " ") (status_text Running) (codes " console ") (console_text shown.console) (10 ∷ []));
     tells = refl;
   }
   outcome_of (Halted b) shown = record {
     others = decimal n ∷ codes "pc" ∷ hex_of_word pc ∷ codes "halt" ∷ hex_of_byte b ∷ codes "console" ∷ console_text shown.console ∷ [];
-    all = (number, refl, value, refl, hex_word (b ∷ []), refl, console_word shown.console, tt);
+    all = (number, (refl, (value, (refl, (hex_word (b ∷ []), (refl, (console_word shown.console, tt)))))));
     last = refl;
     says = rw (value_again pc, byte_again b, console_again shown.console, number_again read n small) refl;
-    printed = simp append_assoc;
-    text = simp append_assoc;
+    printed = said_ended (codes "processor") (decimal n ∷ codes "pc" ∷ hex_of_word pc ∷ codes "halt" ∷ hex_of_byte b ∷ codes "console" ∷ console_text shown.console ∷ []) []
+            ∙ sym (with_pc (codes "processor ") (decimal n) (codes " ") (codes "pc ") (hex_of_word pc) (status_text (Halted b)) (codes " console ") (console_text shown.console) (10 ∷ []));
+    text = six_words (codes "processor") (decimal n) (codes "halt") (hex_of_byte b) (codes "console") (console_text shown.console) (codes " ") (10 ∷ []) ∙ sym (no_pc (codes "processor ") (decimal n) (codes " ") (status_text (Halted b)) (codes " console ") (console_text shown.console) (10 ∷ []));
     short = decimal n ∷ codes "halt" ∷ hex_of_byte b ∷ codes "console" ∷ console_text shown.console ∷ [];
-    each = (number, refl, hex_word (b ∷ []), refl, console_word shown.console, tt);
-    short_is = simp append_assoc;
+    each = (number, (refl, (hex_word (b ∷ []), (refl, (console_word shown.console, tt)))));
+    short_is = said_ended (codes "processor") (decimal n ∷ codes "halt" ∷ hex_of_byte b ∷ codes "console" ∷ console_text shown.console ∷ []) [] ∙ sym (no_pc (codes "processor ") (decimal n) (codes " ") (status_text (Halted b)) (codes " console ") (console_text shown.console) (10 ∷ []));
     tells = refl;
   }
   outcome_of (Faulted f) shown =
@@ -127,14 +147,15 @@ module _ (read : AreRead) (n : ℕ) (small : n < 2 ^ 32) (pc : ℕ) where
       let digits = decimal_word (number_of_fault f) (omega arith) in
       record {
         others = decimal n ∷ codes "pc" ∷ hex_of_word pc ∷ codes "fault" ∷ decimal (number_of_fault f) ∷ codes "console" ∷ console_text shown.console ∷ [];
-        all = (number, refl, value, refl, digits, refl, console_word shown.console, tt);
+        all = (number, (refl, (value, (refl, (digits, (refl, (console_word shown.console, tt)))))));
         last = refl;
         says = rw (value_again pc, fault_again read f, console_again shown.console, number_again read n small) refl;
-        printed = simp append_assoc;
-        text = simp append_assoc;
+        printed = said_ended (codes "processor") (decimal n ∷ codes "pc" ∷ hex_of_word pc ∷ codes "fault" ∷ decimal (number_of_fault f) ∷ codes "console" ∷ console_text shown.console ∷ []) []
+            ∙ sym (with_pc (codes "processor ") (decimal n) (codes " ") (codes "pc ") (hex_of_word pc) (status_text (Faulted f)) (codes " console ") (console_text shown.console) (10 ∷ []));
+        text = six_words (codes "processor") (decimal n) (codes "fault") (decimal (number_of_fault f)) (codes "console") (console_text shown.console) (codes " ") (10 ∷ []) ∙ sym (no_pc (codes "processor ") (decimal n) (codes " ") (status_text (Faulted f)) (codes " console ") (console_text shown.console) (10 ∷ []));
         short = decimal n ∷ codes "fault" ∷ decimal (number_of_fault f) ∷ codes "console" ∷ console_text shown.console ∷ [];
-        each = (number, refl, digits, refl, console_word shown.console, tt);
-        short_is = simp append_assoc;
+        each = (number, (refl, (digits, (refl, (console_word shown.console, tt)))));
+        short_is = said_ended (codes "processor") (decimal n ∷ codes "fault" ∷ decimal (number_of_fault f) ∷ codes "console" ∷ console_text shown.console ∷ []) [] ∙ sym (no_pc (codes "processor ") (decimal n) (codes " ") (status_text (Faulted f)) (codes " console ") (console_text shown.console) (10 ∷ []));
         tells = refl;
       }
 
@@ -150,7 +171,7 @@ unfolding read_after
 outcome_read r p text words n faulted cut middle says next none =
     let s = record r { last = Some p } in
     let more = record p { text = p.text ++ without_pc words; printed = p.printed ++ (text ++ 10 ∷ []); processors = p.processors + 1 } in
-    let both : ((n == p.processors) && (p.words == 0)) ≡ true = (λ i. (next i == p.processors) && (none i == 0)) ∙ ap (λ b. b && true) (eqb-refl p.processors) in
+    let both : ((n == p.processors) && (p.words == 0)) ≡ true = (λ i. (next i == p.processors) && (none i == 0)) ∙ ap (λ b. b && true) (eqb_itself p.processors) in
     let added : with_outcome p n text words ≡ Some more = rw both refl in
     ap (after_words s text) cut
     ∙ rw middle (ap (after_line s text words) says)
@@ -249,7 +270,7 @@ some_stopped m (suc n) e = by (processor_of m n).status refl (any_stopped m n) r
     by : (status : Status) → (processor_of m n).status ≡ status → (b : Bool) → any_stopped m n ≡ b →
         (any_stopped m n ≡ true → (p : ℕ) × (p < n) × IsFaulted (processor_of m p).status) → (b || is_stopped status) ≡ true →
         (p : ℕ) × (p < suc n) × IsFaulted (processor_of m p).status
-    by status is true e before h = let x = before e in (x.0, omega (arith, x.1.0), x.1.1)
+    by status is true e before h = let x = before e in (x.0, (let lt = x.1 in omega (arith, lt)), x.2)
     by (Faulted f) is false e before h = (n, omega arith, subst IsFaulted (sym is) tt)
     by Running is false e before h = absurd (cc)
     by (Halted b) is false e before h = absurd (cc)
@@ -273,8 +294,8 @@ none_stopped m (suc n) e p within h =
 -- The text has the lines of words with numbers below n, in their order.
 pub data WordLines : List ℕ → ℕ → Type 0 where
   none : WordLines [] 0
-  skipped : {text : List ℕ} {n : ℕ} → WordLines text n → WordLines text (suc n)
-  written : {text : List ℕ} {n : ℕ} (word : ℕ) → WordLines text n → WordLines (text ++ word_line n word) (suc n)
+  skipped : (text : List ℕ) (n : ℕ) → WordLines text n → WordLines text (suc n)
+  written : (text : List ℕ) (n word : ℕ) → WordLines text n → WordLines (text ++ word_line n word) (suc n)
 
 -- What is read of words leaves all as it was, but for the texts of the result and a number above those of its words.
 abbrev pub after_written : Reading → PendingState → List ℕ → ℕ → Reading
@@ -292,7 +313,7 @@ module _ (read : AreRead) (r : Reading) (p : PendingState) (some : 0 < p.process
   unfolding read_after word_in word_line
   one_written text k n word small low =
       let others = decimal n ∷ hex_of_word word ∷ [] in
-      let all : AreWords others = (decimal_word n (omega arith), hex_word (to_be_bytes w32 word), tt) in
+      let all : AreWords others = (decimal_word n (omega arith), (hex_word (to_be_bytes w32 word), tt)) in
       let words = codes "word" ∷ others in
       let l = said (codes "word") others in
       let s = after_written r p text k in
@@ -301,7 +322,8 @@ module _ (read : AreRead) (r : Reading) (p : PendingState) (some : 0 < p.process
       let says : line_of words ≡ Some (line.Word n) = rw (value_again word, number_again read n small) refl in
       let both : (nat_lt 0 p.processors && nat_le k n) ≡ true = and_from (nat_lt 0 p.processors) (nat_le k n) (lt-ltb 0 p.processors some) (le-leb k n low) in
       let added : with_word q n l ≡ Some more = rw both refl in
-      let is_line : l ++ 10 ∷ [] ≡ word_line n word = simp append_assoc in
+      let is_line : l ++ 10 ∷ [] ≡ word_line n word =
+      said_ended (codes "word") others [] ∙ sym (value_line (codes "word ") (decimal n) (codes " ") (hex_of_word word) (10 ∷ [])) in
       let texts : (p.text ++ text) ++ (l ++ 10 ∷ []) ≡ p.text ++ (text ++ word_line n word) =
       append_assoc p.text text (l ++ 10 ∷ []) ∙ ap (λ x. p.text ++ (text ++ x)) is_line in
       let printed : (p.printed ++ text) ++ (l ++ 10 ∷ []) ≡ p.printed ++ (text ++ word_line n word) =
@@ -315,12 +337,12 @@ module _ (read : AreRead) (r : Reading) (p : PendingState) (some : 0 < p.process
       (reads_line s (after_written r p (text ++ word_line n word) (n + 1)) (codes "word") others refl all is)
 
   pub words_read : (text : List ℕ) (n : ℕ) → WordLines text n → n < 2 ^ 32 → WordsAreRead r p text n
-  words_read text n none small = record { next = 0; few = omega arith; reads = reads_nothing (after_written r p [] 0) }
-  words_read text n (skipped {text} {m} before) small =
+  words_read _ _ none small = record { next = 0; few = omega arith; reads = reads_nothing (after_written r p [] 0) }
+  words_read _ _ (skipped text m before) small =
       let x = words_read text m before (omega arith) in
       let few = x.few in
       record { next = x.next; few = omega arith; reads = x.reads }
-  words_read text n (written {front} {m} word before) small =
+  words_read _ _ (written front m word before) small =
       let x = words_read front m before (omega arith) in
       record {
         next = m + 1;
@@ -334,16 +356,17 @@ one_word : (n word : ℕ) → n < 2 ^ 32 → Tells (word_line n word) false × (
 unfolding word_line
 one_word n word small =
     let others = decimal n ∷ hex_of_word word ∷ [] in
-    let all : AreWords others = (decimal_word n (omega arith), hex_word (to_be_bytes w32 word), tt) in
-    let is_line : said (codes "word") others ++ 10 ∷ [] ≡ word_line n word = simp append_assoc in (
+    let all : AreWords others = (decimal_word n (omega arith), (hex_word (to_be_bytes w32 word), tt)) in
+    let is_line : said (codes "word") others ++ 10 ∷ [] ≡ word_line n word =
+    said_ended (codes "word") others [] ∙ sym (value_line (codes "word ") (decimal n) (codes " ") (hex_of_word word) (10 ∷ [])) in (
       subst (λ l. Tells l false) is_line (tells_line (codes "word") others refl all),
       subst (λ l. list_all (λ b. nat_lt b 128) l ≡ true) is_line (ascii_line (codes "word") others refl all),
     )
 
 pub words_tell : (text : List ℕ) (n : ℕ) → WordLines text n → n < 2 ^ 32 → Tells text false × (list_all (λ b. nat_lt b 128) text ≡ true)
-words_tell text n none small = (tells_nothing, refl)
-words_tell text n (skipped {text} {m} before) small = words_tell text m before (omega arith)
-words_tell text n (written {front} {m} word before) small =
+words_tell _ _ none small = (tells_nothing, refl)
+words_tell _ _ (skipped text m before) small = words_tell text m before (omega arith)
+words_tell _ _ (written front m word before) small =
     let x = words_tell front m before (omega arith) in
     let one = one_word m word (omega arith) in (
       tells_both front (word_line m word) false false x.0 one.0,
@@ -355,15 +378,15 @@ word_or_none : (text : List ℕ) (n word : ℕ) → WordLines text n → WordLin
 word_or_none text n word before = by (eqb word 0)
   where
     by : (b : Bool) → WordLines (text ++ cond b [] (word_line n word)) (suc n)
-    by true = subst (λ l. WordLines l (suc n)) (sym (append-nil text)) (skipped before)
-    by false = written word before
+    by true = subst (λ l. WordLines l (suc n)) (sym (append-nil text)) (skipped text n before)
+    by false = written text n word before
 
 observed_or_none : (marks : List Bool) (text : List ℕ) (n word : ℕ) → WordLines text n → WordLines (text ++ observed_line marks n word) (suc n)
 observed_or_none marks text n word before = by (observes marks n)
   where
     by : (b : Bool) → WordLines (text ++ cond b (word_lines n word) []) (suc n)
     by true = word_or_none text n word before
-    by false = subst (λ l. WordLines l (suc n)) (sym (append-nil text)) (skipped before)
+    by false = subst (λ l. WordLines l (suc n)) (sym (append-nil text)) (skipped text n before)
 
 shared_words : (m : MachineLists) (n : ℕ) → WordLines (shared_lines m n) n
 shared_words m zero = none

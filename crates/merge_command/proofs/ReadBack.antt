@@ -5,7 +5,7 @@ use Rattle.std.specs.Prelude.{⊤, ◌||◌, ◌&&◌, bytes_eq, codes, drop, na
 use Rattle.std.specs.Fmt.{decimal}
 use Rattle.std.specs.List.{list_all}
 use Rattle.std.specs.Str.{is_utf8}
-use Rattle.std.proofs.lemmas.Bool.{and_from, eqb-refl, le-leb, le-ltb, lt-ltb}
+use Rattle.std.proofs.lemmas.Bool.{and_from, le-leb, le-ltb, lt-ltb}
 use Rattle.std.proofs.lemmas.List.{append-nil, length-map}
 use Rattle.flat_machine.specs.declared.config.Config.{Config}
 use Rattle.flat_machine.specs.Limits.{IsWithinLimits}
@@ -14,8 +14,8 @@ use Rattle.asm_lines.specs.Text.{parts_at}
 use Rattle.schedules.specs.declared.sweeping.SweepEnd.{SweepEnd}
 use Rattle.schedules.specs.declared.sweeping.SweepEnd.TheVariants.{Over, Budget}
 use Rattle.hunt_command.specs.declared.policy.Policy.{Policy}
-use Rattle.hunt_command.specs.Findings.{FindingState, finding_lines, findings_lines, hunt_lines, joined, numbers_text, place_of, runs_of, unfinished_line}
-use Rattle.hunt_command.specs.Hunts.{AreFound, AreResults, IsResultOf, ResultState, number_at}
+use Rattle.hunt_command.specs.Findings.{FindingState, FindingsState, finding_lines, findings_lines, hunt_lines, joined, numbers_text, place_of, runs_of, unfinished_line}
+use Rattle.hunt_command.specs.Hunts.{AreFound, AreResults, IsResultOf, ResultState, found_from, number_at, unfinished_from}
 use Rattle.hunt_command.specs.Lines.{end_line, observed_lines, outcome_lines, result_of}
 use Rattle.merge_command.specs.declared.found_text.FoundText.{FoundText}
 use Rattle.merge_command.specs.declared.line.Line.TheVariants as line
@@ -27,14 +27,14 @@ use Rattle.merge_command.specs.Reading.{◌>>=◌, ◌>=>◌, after_last, after_
 use Rattle.merge_command.specs.Reading.{found_of, found_text, is_complete, opened, pending, place_after, read_after, read_from, read_lines, unended_by}
 use Rattle.merge_command.specs.Reading.{with_finding, with_number, with_numbers, with_unfinished}
 use Rattle.merge_command.proofs.Joining.{inserted, joined_is}
-use Rattle.merge_command.proofs.Numerals.{AreRead, decimal_word, number_again}
+use Rattle.merge_command.proofs.Numerals.{AreRead, decimal_word, eqb_itself, number_again}
 use Rattle.merge_command.proofs.Outcomes.{any_stopped, has_fault, observed_words, or_assoc, or_false, outcomes_are_ascii, outcomes_read, words_read, words_tell}
 use Rattle.merge_command.proofs.OneHunt.{AreFrom}
-use Rattle.merge_command.proofs.Reads.{Reads, reads_both, reads_line}
+use Rattle.merge_command.proofs.LineByLine.{Reads, reads_both, reads_line}
 use Rattle.merge_command.proofs.Results.{AreDifferent, AreFoundIn, AreInOrder, AreNumbers, AreOthers, AreResultTexts, IsResultText, all_found, any_fault}
 use Rattle.merge_command.proofs.Results.{end_is, end_word, few_processors, few_words, greatest_is, is_unended, result_ends, result_tells, unended_found}
-use Rattle.merge_command.proofs.Results.{unended_in, unended_of, unfinished_numbers}
-use Rattle.merge_command.proofs.Splitting.{AreWords, IsWord, first_line, has_parts, joined_all, said, words_again}
+use Rattle.merge_command.proofs.Results.{some_processors, unended_in, unended_of, unfinished_numbers}
+use Rattle.merge_command.proofs.Splitting.{AreWords, IsWord, ended as ended_by, first_line, has_parts, joined_all, said, said_ended, words_again}
 use Rattle.merge_command.proofs.Utf8.{ascii_is_utf8}
 
 -- ---- a heading
@@ -46,15 +46,29 @@ abbrev heading_text : (runs first : ℕ) → SweepEnd → List ℕ
 heading_text runs first end = said (codes "runs") (heading_words runs first end)
 
 heading_are : (runs first : ℕ) (end : SweepEnd) → runs < 2 ^ 32 → first < 2 ^ 32 → AreWords (heading_words runs first end)
-heading_are runs first Over some low = (decimal_word runs (omega arith), refl, decimal_word first (omega arith), refl, tt)
-heading_are runs first Budget some low = (decimal_word runs (omega arith), refl, decimal_word first (omega arith), refl, tt)
+heading_are runs first Over some low = (decimal_word runs (omega arith), (refl, (decimal_word first (omega arith), (refl, tt))))
+heading_are runs first Budget some low = (decimal_word runs (omega arith), (refl, (decimal_word first (omega arith), (refl, tt))))
+
+five : (a n f m s p : List ℕ) → a ++ n ++ f ++ m ++ s ++ p ≡ a ++ (n ++ (f ++ (m ++ (s ++ p))))
+five a n f m s p = simp append_assoc
+
+as_words : (runs first : ℕ) (end : SweepEnd) (printed body : List ℕ) → printed ≡ end_line end ++ body →
+    codes "runs " ++ (decimal runs ++ (codes " first " ++ (decimal first ++ (codes " " ++ (end_line end ++ body)))))
+    ≡ ended_by (codes "runs") (heading_words runs first end) body →
+    finding_lines runs first printed ≡ (heading_text runs first end ++ 10 ∷ []) ++ body
+unfolding finding_lines
+as_words runs first end printed body is same =
+    ap (λ l. codes "runs " ++ decimal runs ++ codes " first " ++ decimal first ++ codes " " ++ l) is
+    ∙ five (codes "runs ") (decimal runs) (codes " first ") (decimal first) (codes " ") (end_line end ++ body)
+    ∙ same ∙ sym (said_ended (codes "runs") (heading_words runs first end) body)
+    ∙ sym (append_assoc (heading_text runs first end) (10 ∷ []) body)
 
 -- The lines of a result are its heading and the lines of its machine.
 finding_is : (runs first : ℕ) (end : SweepEnd) (printed body : List ℕ) → printed ≡ end_line end ++ body →
     finding_lines runs first printed ≡ (heading_text runs first end ++ 10 ∷ []) ++ body
 unfolding finding_lines
-finding_is runs first Over printed body is = rw is (simp append_assoc)
-finding_is runs first Budget printed body is = rw is (simp append_assoc)
+finding_is runs first Over printed body is = as_words runs first Over printed body is refl
+finding_is runs first Budget printed body is = as_words runs first Budget printed body is refl
 
 heading_says : AreRead → (runs first : ℕ) (end : SweepEnd) → runs < 2 ^ 32 → first < 2 ^ 32 →
     line_of (codes "runs" ∷ heading_words runs first end) ≡ Some (line.Heading runs first end)
@@ -206,7 +220,7 @@ module _ (read : AreRead) (c : Config) (limits : IsWithinLimits c) (start runs :
     completes =
         let n = 2 ^ x.m.config.k in
         let p = whole read c limits f x.end n words in
-        let findings = record { found = ds; noted = runs_of ds; unfinished = [] } in
+        let findings : FindingsState = record { found = ds; noted = runs_of ds; unfinished = [] } in
         let utf8 = texts_are_utf8 read c limits f x in
         let past = place_past ds f fs different in
         let is_other : not (nat_lt (place_of f.text ds) (length ds)) ≡ true = ap not (le-ltb (place_of f.text ds) (length ds) (omega (arith, past))) in
@@ -264,10 +278,10 @@ module _ (read : AreRead) (c : Config) (limits : IsWithinLimits c) (start runs :
       let s = state ds f x.end (2 ^ x.m.config.k) words in
       let middle : Reading = record (after ds f) { last = Some (pending g.runs g.first y.end); latest = place_after start g.first } in
       let sum = runs_last ds f in
-      let g_order = order.2.1 in
+      let g_order = order.3 in
       let some = g_order.0.0 in
-      let later = g_order.1.0 in
-      let there = g_order.2.0 in
+      let later = g_order.1 in
+      let there = g_order.2 in
       let heading = next_heading ds f (g ∷ fs) x words different (omega arith) g y.end (omega arith) some g_order.0.1 (omega arith) (omega arith) in
       let body = body_read read c limits g y (record (after ds f) { latest = place_after start g.first }) in
       let faults : (any_fault (ds ++ f ∷ []) || any_stopped y.m (2 ^ y.m.config.k)) ≡ (any_fault (ds ++ f ∷ []) || has_fault g.text) =
@@ -298,13 +312,13 @@ module _ (read : AreRead) (c : Config) (limits : IsWithinLimits c) (start runs :
   numbers_again found noted next old [] are = (λ i. Some (record { found = found; noted = noted; unfinished = sym (append-nil old) i }))
   numbers_again found noted next old (n ∷ ns) are =
       let place = place_after start n in
-      let findings = record { found = found; noted = noted; unfinished = old } in
+      let findings : FindingsState = record { found = found; noted = noted; unfinished = old } in
       let fits : (nat_le next place && nat_lt place noted) ≡ true =
-      and_from (nat_le next place) (nat_lt place noted) (le-leb next place are.1.0) (lt-ltb place noted are.2.0) in
+      and_from (nat_le next place) (nat_lt place noted) (le-leb next place are.1) (lt-ltb place noted are.2) in
       let one : with_number findings start next (Some n) ≡ Some (record findings { unfinished = old ++ n ∷ [] }, place + 1) = rw fits refl in
       ap (λ o. with_number findings start next o >>= λ more. with_numbers more.0 start more.1 (map decimal ns)) (number_again read n are.0)
       ∙ ap (λ o. o >>= λ more. with_numbers more.0 start more.1 (map decimal ns)) one
-      ∙ numbers_again found noted (place + 1) (old ++ n ∷ []) ns are.2.1
+      ∙ numbers_again found noted (place + 1) (old ++ n ∷ []) ns are.3
       ∙ (λ i. Some (record { found = found; noted = noted; unfinished = append_assoc old (n ∷ []) ns i }))
 
   numbers_said : (w : List ℕ) (ns : List ℕ) → w ++ numbers_text ns ≡ said w (map decimal ns)
@@ -314,7 +328,7 @@ module _ (read : AreRead) (c : Config) (limits : IsWithinLimits c) (start runs :
   numbers_are : (runs next : ℕ) (ns : List ℕ) → AreNumbers start runs next ns → AreWords (map decimal ns)
   numbers_are runs next [] are = tt
   numbers_are runs next (n ∷ ns) are =
-      let small = are.0 in (decimal_word n (omega arith), numbers_are runs (place_after start n + 1) ns are.2.1)
+      let small = are.0 in (decimal_word n (omega arith), numbers_are runs (place_after start n + 1) ns are.3)
 
   module _ (ds : List FindingState) (f : FindingState) (x : IsResultText c f.text f.printed) (words : ℕ)
       (different : AreDifferent (ds ++ f ∷ [])) (few : runs_of ds + f.runs ≤ runs) where
@@ -339,7 +353,7 @@ module _ (read : AreRead) (c : Config) (limits : IsWithinLimits c) (start runs :
         let long : length others ≡ length (n ∷ ns) = length-map (n ∷ ns) decimal in
         let fits : (nat_lt 0 (length others) && (length others == unended_of (ds ++ f ∷ []))) ≡ true =
         and_from (nat_lt 0 (length others)) (length others == unended_of (ds ++ f ∷ [])) (lt-ltb 0 (length others) (omega (arith, long)))
-        (ap (λ m. length others == m) (counted ∙ sym long) ∙ eqb-refl (length others)) in
+        (ap (λ m. length others == m) (counted ∙ sym long) ∙ eqb_itself (length others)) in
         let more : with_numbers findings start 0 others ≡ Some (record findings { unfinished = n ∷ ns }) =
         numbers_again (ds ++ f ∷ []) (runs_of (ds ++ f ∷ [])) 0 [] (n ∷ ns) numbers in
         let last : with_unfinished (after ds f) others ≡ Some t =
@@ -372,7 +386,7 @@ module _ (read : AreRead) (c : Config) (limits : IsWithinLimits c) (start runs :
       ap (λ l. read_from count s (parts_at 10 l)) (append_assoc (finding_lines g.runs g.first g.printed) (findings_lines fs) (unfinished_line us))
       ∙ step.1
       ∙ results_read (ds ++ f ∷ []) g fs us y one.more (place_after start f.first + 1) texts.1 (subst AreDifferent (sym same) different)
-      (subst (λ n. AreInOrder start (place_after start f.first + 1) n (g ∷ fs)) (sym sum) order.2.1) (omega arith)
+      (subst (λ n. AreInOrder start (place_after start f.first + 1) n (g ∷ fs)) (sym sum) order.3) (omega arith)
       (ap unended_of same ∙ counted) (subst (λ fs. AreNumbers start (runs_of fs) 0 us) (sym same) numbers) step.0
       ∙ ap (λ fs. Ok (all_said fs us)) same
 
@@ -389,7 +403,7 @@ module _ (read : AreRead) (c : Config) (limits : IsWithinLimits c) (start runs :
       let small : f.runs < 2 ^ 32 = omega arith in
       let low' = order.0.1 in
       let some = order.0.0 in
-      let at : f.first ≡ start = first_is f.first low' order.2.0 in
+      let at : f.first ≡ start = first_is f.first low' order.2 in
       let others = heading_words f.runs f.first x.end in
       let are = heading_are f.runs f.first x.end small low' in
       let l = heading_text f.runs f.first x.end in
@@ -409,7 +423,7 @@ module _ (read : AreRead) (c : Config) (limits : IsWithinLimits c) (start runs :
       ∙ ap (λ b. cond b (Some r) None) (lt-ltb 0 f.runs some) in
       let read_body = body_read read c limits f x r in
       let step = read_body.reads 1 tail in
-      let none = order.2.0 in
+      let none = order.2 in
       let place : 0 ≡ place_after start f.first = omega arith in
       let tells = sym (result_tells read c limits f.text f.printed x) in
       let is : (record r { last = Some (whole read c limits f x.end (2 ^ x.m.config.k) read_body.words); faulted = any_stopped x.m (2 ^ x.m.config.k) })
@@ -424,7 +438,7 @@ module _ (read : AreRead) (c : Config) (limits : IsWithinLimits c) (start runs :
       ∙ ap (λ o. at_line 1 o >=> λ r. read_from 1 r (parts_at 10 (body ++ tail))) begins
       ∙ step.1
       ∙ ap (λ s. read_from step.0 s (parts_at 10 tail)) is
-      ∙ results_read [] f fs us x read_body.words 0 texts.1 different order few counted numbers step.0
+      ∙ results_read [] f fs us x read_body.words 0 texts.1 different order (omega arith) counted numbers step.0
 
 -- ---- the text of a hunt
 
@@ -450,7 +464,10 @@ module _ (read : AreRead) (observed : Option (List Bool)) (c : Config) (image : 
       let total : 0 + length rs ≡ runs = omega (arith, all) in
       let kept' : AreFoundIn c start runs found = subst (λ (p : ℕ × List FindingState). AreFoundIn c start p.0 p.1) (λ i. (total i, sym are.are i)) kept in
       let counted : unended_of found ≡ length unfinished =
-      ap unended_of are.are ∙ unended_found read observed c image policy limits start low 0 [] rs each ∙ ap length (sym are.those) in
+      ap unended_of are.are
+      ∙ (let sum = unended_found read observed c image policy limits start low 0 [] rs each in
+      let same : unended_of (found_from start 0 [] rs) ≡ length (unfinished_from start 0 rs) = omega (arith, sum) in same)
+      ∙ ap length (sym are.those) in
       let numbers : AreNumbers start runs 0 unfinished =
       subst (AreNumbers start runs 0) (sym are.those) (unfinished_numbers read observed c image policy limits start low 0 runs rs (omega (arith, all)) small) in (
         any_fault found,

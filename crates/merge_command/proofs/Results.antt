@@ -88,27 +88,27 @@ AreInOrder start next sum (f ∷ fs) =
 in_order_still : (start next sum more : ℕ) (fs : List FindingState) → AreInOrder start next sum fs → sum ≤ more → AreInOrder start next more fs
 in_order_still start next sum more [] all le = tt
 in_order_still start next sum more (f ∷ fs) all le =
-    let few = all.2.0 in
-    (all.0, all.1.0, omega arith, in_order_still start (place_after start f.first + 1) (sum + f.runs) (more + f.runs) fs all.2.1 (omega arith))
+    let few = all.2 in
+    (all.0, all.1, omega arith, in_order_still start (place_after start f.first + 1) (sum + f.runs) (more + f.runs) fs all.3 (omega arith))
 
 in_order_inserted : (start next sum : ℕ) (fs : List FindingState) (g : FindingState) → AreInOrder start next sum fs → next ≤ sum → g.runs ≡ 1 →
     g.first < 2 ^ 32 → place_after start g.first ≡ sum + runs_of fs → AreInOrder start next sum (inserted fs g)
 in_order_inserted start next sum [] g all le once low at = ((omega arith, low), omega (arith, at), omega (arith, at), tt)
 in_order_inserted start next sum (f ∷ fs) g all le once low at =
-    let few = all.2.0 in
+    let few = all.2 in
     let some = all.0.0 in
     by (bytes_eq g.text f.text)
-    (in_order_inserted start (place_after start f.first + 1) (sum + f.runs) fs g all.2.1 (omega arith) once low (omega (arith, at)))
+    (in_order_inserted start (place_after start f.first + 1) (sum + f.runs) fs g all.3 (omega arith) once low (omega (arith, at)))
   where
     by : (b : Bool) → AreInOrder start (place_after start f.first + 1) (sum + f.runs) (inserted fs g) →
         AreInOrder start next sum (cond b (found_again f g.runs ∷ fs) (f ∷ inserted fs g))
     by true rest = (
       ((let some = all.0.0 in omega arith), all.0.1),
-      all.1.0,
-      all.2.0,
-      in_order_still start (place_after start f.first + 1) (sum + f.runs) (sum + (f.runs + g.runs)) fs all.2.1 (omega arith),
+      all.1,
+      all.2,
+      in_order_still start (place_after start f.first + 1) (sum + f.runs) (sum + (f.runs + g.runs)) fs all.3 (omega arith),
     )
-    by false rest = (all.0, all.1.0, all.2.0, rest)
+    by false rest = (all.0, all.1, all.2, rest)
 
 -- ---- counts
 
@@ -273,12 +273,12 @@ AreNumbers start runs next (n ∷ ns) =
 
 numbers_still : (start runs next less : ℕ) (ns : List ℕ) → AreNumbers start runs next ns → less ≤ next → AreNumbers start runs less ns
 numbers_still start runs next less [] all le = tt
-numbers_still start runs next less (n ∷ ns) all le = let low = all.1.0 in (all.0, omega arith, all.2.0, all.2.1)
+numbers_still start runs next less (n ∷ ns) all le = let low = all.1 in (all.0, omega arith, all.2, all.3)
 
 -- ---- one result of a run
 
 module _ (read : AreRead) (observed : Option (List Bool)) (c : Config) (image : ImageContents) (policy : Policy) (limits : IsWithinLimits c) where
-  one_text : (number : ℕ) (r : ResultState) → IsResultOf observed c image policy number r → IsResultText c r.text r.printed
+  abbrev one_text : (number : ℕ) (r : ResultState) → IsResultOf observed c image policy number r → IsResultText c r.text r.printed
   one_text number r is = record {
     observed = observed;
     end = r.end;
@@ -304,7 +304,7 @@ module _ (read : AreRead) (observed : Option (List Bool)) (c : Config) (image : 
 
       by : (b : Bool) → any_stopped m n ≡ b → r.status ≡ greatest_of b
       by true e = let p = some_stopped m n e in is.exit.faulted p
-      by false e = is.exit.sound (λ p. none_stopped m n e p.0 p.1.0 p.1.1)
+      by false e = is.exit.sound (λ p. none_stopped m n e p.0 p.1 p.2)
 
   -- ---- all results
 

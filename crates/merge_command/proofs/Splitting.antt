@@ -23,6 +23,16 @@ abbrev pub said : List ℕ → List (List ℕ) → List ℕ
 said w [] = w
 said w (v ∷ vs) = w ++ 32 ∷ said v vs
 
+-- words with a blank between them, a line feed, and the rest of a text
+abbrev pub ended : List ℕ → List (List ℕ) → (rest : List ℕ) → List ℕ
+ended w [] rest = w ++ 10 ∷ rest
+ended w (v ∷ vs) rest = w ++ 32 ∷ ended v vs rest
+
+-- A line of words that goes on to a line feed and a rest.
+pub said_ended : (w : List ℕ) (ws : List (List ℕ)) (rest : List ℕ) → said w ws ++ 10 ∷ rest ≡ ended w ws rest
+said_ended w [] rest = refl
+said_ended w (v ∷ vs) rest = append_assoc w (32 ∷ said v vs) (10 ∷ rest) ∙ ap (λ l. w ++ 32 ∷ l) (said_ended v vs rest)
+
 -- ---- tests of each byte
 
 -- If each byte of a text passes a test, each passes a weaker test.
@@ -41,7 +51,7 @@ mark_parts b h =
     (a.0, c.0, c.1)
 
 no_blank : (w : List ℕ) → IsWord w → list_all (λ b. not (eqb b 32)) w ≡ true
-no_blank w is = weaker is_mark _ (λ b p. (mark_parts b p).1.0) w is
+no_blank w is = weaker is_mark _ (λ b p. (mark_parts b p).1) w is
 
 -- If the blank passes a test, and each byte of a word does, each byte of a line of words does.
 said_all : (q : ℕ → Bool) → q 32 ≡ true → ((b : ℕ) → is_mark b ≡ true → q b ≡ true) → (w : List ℕ) (ws : List (List ℕ)) → IsWord w → AreWords ws →
@@ -51,7 +61,7 @@ said_all q blank each w (v ∷ vs) is all =
     joined_all q w (32 ∷ said v vs) (weaker is_mark q each w is) (and_from (q 32) _ blank (said_all q blank each v vs all.0 all.1))
 
 no_line_feed : (w : List ℕ) (ws : List (List ℕ)) → IsWord w → AreWords ws → list_all (λ b. not (eqb b 10)) (said w ws) ≡ true
-no_line_feed w ws is all = said_all (λ b. not (eqb b 10)) refl (λ b p. (mark_parts b p).1.1) w ws is all
+no_line_feed w ws is all = said_all (λ b. not (eqb b 10)) refl (λ b p. (mark_parts b p).2) w ws is all
 
 -- A line of words is ASCII.
 pub ascii_line : (w : List ℕ) (ws : List (List ℕ)) → IsWord w → AreWords ws → list_all (λ b. nat_lt b 128) (said w ws ++ 10 ∷ []) ≡ true

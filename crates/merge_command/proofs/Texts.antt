@@ -2,7 +2,7 @@
 use Rattle.std.proofs.Common.{◌≡◌, ◌∙◌, ◌==◌, ℕ, ◌+◌, ◌%◌, ◌^◌, ◌<◌, ◌≤◌, Bool, true, false, cond, List, [], ◌∷◌, ◌++◌, Option, Some, None}
 use Rattle.std.proofs.Common.{Ok, Err, refl, sym, ap, subst, arith, map}
 use Rattle.std.specs.Prelude.{◌||◌, nat_lt}
-use Rattle.std.proofs.lemmas.Bool.{eqb-refl, lt-ltb}
+use Rattle.std.proofs.lemmas.Bool.{lt-ltb}
 use Rattle.flat_machine.specs.declared.config.Config.{Config}
 use Rattle.flat_machine.specs.Limits.{IsWithinLimits}
 use Rattle.elf_image.specs.Images.{ImageContents}
@@ -14,6 +14,7 @@ use Rattle.merge_command.specs.declared.found_text.Break.TheVariants as break
 use Rattle.merge_command.specs.Laws.{AreAdjacent, Found, HuntsAreReadBack, IsTextOfOneHunt, MergingHuntsIsOneHunt, MergingTextsIsOneHunt, runs_of_all}
 use Rattle.merge_command.specs.Laws.{text_of_hunt}
 use Rattle.merge_command.specs.Merging.{AreSaidAfter, IsSaidBy, greatest_of, joined_findings, joined_texts}
+use Rattle.merge_command.proofs.Numerals.{eqb_itself}
 use Rattle.merge_command.proofs.Results.{greater_fault}
 
 module _ (read_back : HuntsAreReadBack) (one_hunt : MergingHuntsIsOneHunt) (observed : Option (List Bool)) (c : Config) (image : ImageContents)
@@ -38,7 +39,7 @@ module _ (read_back : HuntsAreReadBack) (one_hunt : MergingHuntsIsOneHunt) (obse
   }
   said_with t runs (h ∷ hs) first count small found adjacent =
       let there = number_at start runs in
-      let read = read_back observed c image policy there h.runs h.found h.unfinished h.greatest limits (omega arith) adjacent.0 (omega arith) adjacent.1.0 in
+      let read = read_back observed c image policy there h.runs h.found h.unfinished h.greatest limits (omega arith) adjacent.0 (omega arith) adjacent.1 in
       let u : FoundText = record {
         start = there;
         findings = record { found = h.found; noted = h.runs; unfinished = h.unfinished };
@@ -50,22 +51,22 @@ module _ (read_back : HuntsAreReadBack) (one_hunt : MergingHuntsIsOneHunt) (obse
         faulted = t.faulted || read.0;
       } in
       let follows : (there == (t.start + t.findings.noted) % 2 ^ 32) ≡ true =
-      (λ i. there == (first i + count i) % 2 ^ 32) ∙ eqb-refl there in
+      (λ i. there == (first i + count i) % 2 ^ 32) ∙ eqb_itself there in
       let fits : nat_lt (t.findings.noted + h.runs) 4294967296 ≡ true = lt-ltb (t.findings.noted + h.runs) 4294967296 (omega arith) in
       let joined : joined_texts t u ≡ Ok next =
       ap (λ b. cond b (cond (nat_lt (t.findings.noted + h.runs) 4294967296) (Ok next) (Err break.TooMany)) (Err break.Apart)) follows
       ∙ ap (λ b. cond b (Ok next) (Err break.TooMany)) fits in
       let both = one_hunt observed c image policy start runs h.runs t.findings.found h.found t.findings.unfinished h.unfinished (greatest_of t.faulted) h.greatest
-      found adjacent.1.0 in
+      found adjacent.1 in
       let status : greater h.greatest (greatest_of t.faulted) ≡ greatest_of (t.faulted || read.0) =
-      ap (λ n. greater n (greatest_of t.faulted)) read.1.0 ∙ greater_fault read.0 t.faulted in
+      ap (λ n. greater n (greatest_of t.faulted)) read.1 ∙ greater_fault read.0 t.faulted in
       let both' = subst (AreFound observed c image policy start (runs + h.runs) (merged t.findings.found h.found) (t.findings.unfinished ++ h.unfinished)) status both in
       let at : number_at there h.runs ≡ number_at start (runs + h.runs) = omega arith in
       let rest = said_with next (runs + h.runs) hs first (ap (λ n. n + h.runs) count) (omega arith) both'
-      (subst (λ n. AreAdjacent observed c image policy n hs) at adjacent.1.1) in
+      (subst (λ n. AreAdjacent observed c image policy n hs) at adjacent.2) in
       record {
         all = rest.all;
-        said = (u, record { text = text_of_hunt h; whole = refl; said = read.1.1 }, next, joined, rest.said);
+        said = (u, record { text = text_of_hunt h; whole = refl; said = read.2 }, next, joined, rest.said);
         found = subst (λ n. AreFound observed c image policy start n rest.all.findings.found rest.all.findings.unfinished (greatest_of rest.all.faulted))
             (let same : runs + h.runs + runs_of_all hs ≡ runs + (h.runs + runs_of_all hs) = omega arith in same) rest.found;
       }
@@ -73,17 +74,17 @@ module _ (read_back : HuntsAreReadBack) (one_hunt : MergingHuntsIsOneHunt) (obse
   texts_said : (h : Found) (hs : List Found) → runs_of_all (h ∷ hs) < 2 ^ 32 → AreAdjacent observed c image policy start (h ∷ hs) →
       IsTextOfOneHunt observed c image policy start (h ∷ hs)
   texts_said h hs small adjacent =
-      let read = read_back observed c image policy start h.runs h.found h.unfinished h.greatest limits low adjacent.0 (omega arith) adjacent.1.0 in
+      let read = read_back observed c image policy start h.runs h.found h.unfinished h.greatest limits low adjacent.0 (omega arith) adjacent.1 in
       let t : FoundText = record {
         start = start;
         findings = record { found = h.found; noted = h.runs; unfinished = h.unfinished };
         faulted = read.0;
       } in
-      let found = subst (AreFound observed c image policy start h.runs h.found h.unfinished) read.1.0 adjacent.1.0 in
-      let rest = said_with t h.runs hs refl refl small found adjacent.1.1 in
+      let found = subst (AreFound observed c image policy start h.runs h.found h.unfinished) read.1 adjacent.1 in
+      let rest = said_with t h.runs hs refl refl small found adjacent.2 in
       record {
         all = rest.all;
-        said = (t, record { text = text_of_hunt h; whole = refl; said = read.1.1 }, t, refl, rest.said);
+        said = (t, record { text = text_of_hunt h; whole = refl; said = read.2 }, t, refl, rest.said);
         found = rest.found;
       }
 

@@ -17,8 +17,8 @@ ascii_is_utf8 bs all = is_utf8-from_IsUtf8 bs (IsUtf8-from_ascii bs (ascii_at bs
 
 -- Bytes that are no UTF-8 do not pass the test.
 pub is_no_utf8 : (bs : List ℕ) → (IsUtf8 bs → ⊥) → is_utf8 bs ≡ false
-is_no_utf8 bs no = by (is_utf8 bs) refl
+is_no_utf8 bs none = by (is_utf8 bs) refl
   where
     by : (b : Bool) → is_utf8 bs ≡ b → is_utf8 bs ≡ false
-    by true e = absurd (no (IsUtf8-from_is_utf8 bs e))
+    by true e = absurd (none (IsUtf8-from_is_utf8 bs e))
     by false e = e

@@ -5,7 +5,7 @@ use Rattle.std.specs.Prelude.{⊤, ◌||◌, ◌&&◌, bytes_eq, codes, drop, na
 use Rattle.std.specs.Fmt.{decimal}
 use Rattle.std.specs.List.{join_with_byte}
 use Rattle.std.specs.Str.{is_utf8}
-use Rattle.std.proofs.lemmas.Bool.{and_parts, ltb-false, ltb-true, not-true}
+use Rattle.std.proofs.lemmas.Bool.{and_parts, eqb-true, ltb-false, ltb-true, not-true}
 use Rattle.std.proofs.lemmas.List.{length-map}
 use Rattle.std.proofs.lemmas.List.Splits.{join_with_byte-slice_split}
 use Rattle.std.proofs.lemmas.Option.{slice_get_past}
@@ -27,7 +27,7 @@ use Rattle.merge_command.specs.Reading.{◌>>=◌, ◌>=>◌, after_last, after_
 use Rattle.merge_command.specs.Reading.{ended, finding_of, found_of, found_text, is_complete, opened, pending, place_after, read_after, read_from, read_lines, with_finding}
 use Rattle.merge_command.specs.Reading.{with_last, with_number, with_numbers, with_outcome, with_unfinished, with_word}
 use Rattle.merge_command.proofs.Results.{end_is, end_word}
-use Rattle.merge_command.proofs.Splitting.{said}
+use Rattle.merge_command.proofs.Splitting.{ended as ended_by, said, said_ended}
 
 -- ---- what a step that may fail has done
 
@@ -79,9 +79,9 @@ end_is_word word end e = by (bytes_eq word (codes "over")) (bytes_eq word (codes
 
 no_heading : {A : Type 0} (f : A → Line) (b : Bool) (o : Option A) (n s : ℕ) (end : SweepEnd) → ((x : A) → f x ≡ line.Heading n s end → ⊥) →
     cond b (option_map f o) None ≡ Some (line.Heading n s end) → ⊥
-no_heading f b o n s end no e =
+no_heading f b o n s end other e =
     let a = if_some b (option_map f o) (line.Heading n s end) e in
-    let c = map_some f o (line.Heading n s end) a.1 in no c.0 c.1.1
+    let c = map_some f o (line.Heading n s end) a.1 in other c.0 c.2
 
 -- The words of a heading are these.
 heading_words : (words : List (List ℕ)) (n s : ℕ) (end : SweepEnd) → line_of words ≡ Some (line.Heading n s end) →
@@ -96,17 +96,17 @@ heading_words (a ∷ b ∷ c ∷ d ∷ f ∷ []) n s end e =
     let x = if_some (bytes_eq a (codes "runs") && bytes_eq c (codes "first")) _ (line.Heading n s end) e in
     let names = and_parts (bytes_eq a (codes "runs")) (bytes_eq c (codes "first")) x.0 in
     let y = then_some _ (number_in b) (line.Heading n s end) x.1 in
-    let z = then_some _ (number_in d) (line.Heading n s end) y.1.1 in
-    let w = map_some _ (end_in f) (line.Heading n s end) z.1.1 in
-    let same : line.Heading y.0 z.0 w.0 ≡ line.Heading n s end = w.1.1 in
+    let z = then_some _ (number_in d) (line.Heading n s end) y.2 in
+    let w = map_some _ (end_in f) (line.Heading n s end) z.2 in
+    let same : line.Heading y.0 z.0 w.0 ≡ line.Heading n s end = w.2 in
     let one : y.0 ≡ n = cc in
     let two : z.0 ≡ s = cc in
     let three : w.0 ≡ end = cc in
     let first = same_bytes a (codes "runs") names.0 in
-    let second = number_is b y.0 y.1.0 ∙ ap decimal one in
+    let second = number_is b y.0 y.1 ∙ ap decimal one in
     let third = same_bytes c (codes "first") names.1 in
-    let fourth = number_is d z.0 z.1.0 ∙ ap decimal two in
-    let fifth = end_is_word f w.0 w.1.0 ∙ ap end_word three in
+    let fourth = number_is d z.0 z.1 ∙ ap decimal two in
+    let fifth = end_is_word f w.0 w.1 ∙ ap end_word three in
     λ i. first i ∷ second i ∷ third i ∷ fourth i ∷ fifth i ∷ []
 heading_words (a ∷ b ∷ c ∷ d ∷ f ∷ g ∷ []) n s end e = absurd (cc)
 heading_words (a ∷ b ∷ c ∷ d ∷ f ∷ g ∷ h ∷ []) n s end e = absurd (no_heading _ _ _ n s end (λ x h. cc) e)
@@ -121,6 +121,9 @@ join_said w (v ∷ vs) = ap (λ l. w ++ 32 ∷ l) (join_said v vs)
 line_is : (text : List ℕ) (w : List ℕ) (ws : List (List ℕ)) → parts_at 32 text ≡ w ∷ ws → text ≡ said w ws
 line_is text w ws e = sym (join_with_byte-slice_split 32 text) ∙ ap (join_with_byte 32) e ∙ join_said w ws
 
+five : (a n f m s p : List ℕ) → a ++ n ++ f ++ m ++ s ++ p ≡ a ++ (n ++ (f ++ (m ++ (s ++ p))))
+five a n f m s p = simp append_assoc
+
 heading_line : (text : List ℕ) (n s : ℕ) (end : SweepEnd) → line_of (parts_at 32 text) ≡ Some (line.Heading n s end) →
     text ++ 10 ∷ [] ≡ finding_lines n s (end_line end)
 unfolding finding_lines
@@ -128,10 +131,18 @@ heading_line text n s end e =
     ap (λ l. l ++ 10 ∷ []) (line_is text (codes "runs") (decimal n ∷ codes "first" ∷ decimal s ∷ end_word end ∷ []) (heading_words (parts_at 32 text) n s end e))
     ∙ by end
   where
+    as_words : (end : SweepEnd) → ended_by (codes "runs") (decimal n ∷ codes "first" ∷ decimal s ∷ end_word end ∷ []) []
+        ≡ codes "runs " ++ (decimal n ++ (codes " first " ++ (decimal s ++ (codes " " ++ end_line end)))) →
+        said (codes "runs") (decimal n ∷ codes "first" ∷ decimal s ∷ end_word end ∷ []) ++ 10 ∷ []
+        ≡ codes "runs " ++ decimal n ++ codes " first " ++ decimal s ++ codes " " ++ end_line end
+    as_words end same =
+        said_ended (codes "runs") (decimal n ∷ codes "first" ∷ decimal s ∷ end_word end ∷ []) []
+        ∙ same ∙ sym (five (codes "runs ") (decimal n) (codes " first ") (decimal s) (codes " ") (end_line end))
+
     by : (end : SweepEnd) → said (codes "runs") (decimal n ∷ codes "first" ∷ decimal s ∷ end_word end ∷ []) ++ 10 ∷ []
         ≡ codes "runs " ++ decimal n ++ codes " first " ++ decimal s ++ codes " " ++ end_line end
-    by Over = simp append_assoc
-    by Budget = simp append_assoc
+    by Over = as_words Over refl
+    by Budget = as_words Budget refl
 
 -- ---- what has been read
 
@@ -147,6 +158,10 @@ written r = findings_lines r.findings.found ++ last_lines r.last ++ unfinished_l
 abbrev IsOpen : (last : Option PendingState) → (unfinished : List ℕ) → Type 0
 IsOpen None us = ⊤
 IsOpen (Some p) us = us ≡ []
+
+with_none : (o : Option PendingState) (us : List ℕ) → us ≡ [] → IsOpen o us
+with_none None us e = tt
+with_none (Some p) us e = e
 
 record IsWritten (r : Reading) (text : List ℕ) : Type 0 where
   lines : text ≡ written r
@@ -170,14 +185,14 @@ record IsCompleted (r : Reading) (p : PendingState) (s : Reading) : Type 0 where
 completed_is : (r : Reading) (p : PendingState) (s : Reading) → completed_by r p ≡ Some s → IsCompleted r p s
 completed_is r p s e =
     let a = bind_some (with_finding r.findings p) _ s e in
-    let b = if_some (is_complete r.findings p) _ a.0 a.1.0 in
+    let b = if_some (is_complete r.findings p) _ a.0 a.1 in
     let c = and_parts (nat_lt 0 p.processors) _ b.0 in
     let d = and_parts (is_utf8 p.text) _ c.1 in
     let f = and_parts (is_utf8 p.printed) _ d.1 in
     let g = and_parts (not (nat_lt (place_of p.text r.findings.found) (length r.findings.found))) _ f.1 in
     let past = ltb-false (place_of p.text r.findings.found) (length r.findings.found) (not-true _ g.0) in
     let findings = sym (same_some _ a.0 b.1) in
-    let whole = sym (same_some _ s a.1.1) in
+    let whole = sym (same_some _ s a.2) in
     record {
       found = ap (λ (x : Reading). findings_lines x.findings.found) whole ∙ ap (λ (x : FindingsState). findings_lines x.found) findings
           ∙ ap findings_lines (joined_last r.findings.found (finding_of p) past) ∙ lines_last r.findings.found (finding_of p);
@@ -188,7 +203,8 @@ completed_is r p s e =
 -- Lines that are added to a result come after those before them.
 finding_more : (runs first : ℕ) (printed more : List ℕ) → finding_lines runs first (printed ++ more) ≡ finding_lines runs first printed ++ more
 unfolding finding_lines
-finding_more runs first printed more = simp append_assoc
+finding_more runs first printed more =
+    sym (append_assoc (codes "runs " ++ decimal runs ++ codes " first " ++ decimal first ++ codes " ") printed more)
 
 -- ---- one line
 
@@ -200,8 +216,8 @@ module _ (r s : Reading) (text l : List ℕ) where
   heading_written n f end says (Some p) is e =
       let a = bind_some (completed_by (record r { last = Some p }) p) (λ x. opened x n f end) s e in
       let t = a.0 in
-      let done = completed_is (record r { last = Some p }) p t a.1.0 in
-      let b = if_some (nat_lt 0 n && (nat_lt t.latest (place_after t.start f) && nat_le (place_after t.start f) t.findings.noted)) _ s a.1.1 in
+      let done = completed_is (record r { last = Some p }) p t a.1 in
+      let b = if_some (nat_lt 0 n && (nat_lt t.latest (place_after t.start f) && nat_le (place_after t.start f) t.findings.noted)) _ s a.2 in
       let next = sym (same_some _ s b.1) in
       let none : t.findings.unfinished ≡ [] = done.unfinished ∙ is.open_result in
       let front = findings_lines r.findings.found in
@@ -212,7 +228,7 @@ module _ (r s : Reading) (text l : List ℕ) where
             ∙ after_nothing front lines head
             ∙ (λ i. sym done.found i ++ head ++ unfinished_line (sym none i))
             ∙ sym (ap written next);
-        open_result = ap (λ (x : Reading). x.findings.unfinished) next ∙ none;
+        open_result = with_none s.last s.findings.unfinished (ap (λ (x : Reading). x.findings.unfinished) next ∙ none);
       }
     where
       after_nothing : (front lines head : List ℕ) → front ++ lines ++ [] ++ head ≡ (front ++ lines) ++ head ++ []
@@ -289,8 +305,8 @@ numbers_added f start next [] g e =
     }
 numbers_added f start next (word ∷ words) g e =
     let a = bind_some (with_number f start next (number_in word)) (λ more. with_numbers more.0 start more.1 words) g e in
-    let rest = numbers_added a.0.0 start a.0.1 words g a.1.1 in
-    by (number_in word) refl a.0 a.1.0 rest
+    let rest = numbers_added a.0.0 start a.0.1 words g a.2 in
+    by (number_in word) refl a.0 a.1 rest
   where
     by : (o : Option ℕ) → number_in word ≡ o → (more : FindingsState × ℕ) → with_number f start next o ≡ Some more → AreAdded more.0 words g → AreAdded f (word ∷ words) g
     by None is more e rest = absurd (cc)
@@ -320,11 +336,11 @@ module _ (r s : Reading) (text l : List ℕ) where
   last_written words cut (Some p) is e =
       let a = bind_some (completed_by (record r { last = Some p }) p) (λ x. with_unfinished x words) s e in
       let t = a.0 in
-      let done = completed_is (record r { last = Some p }) p t a.1.0 in
-      let b = if_some (nat_lt 0 (length words) && (length words == t.unended)) _ s a.1.1 in
+      let done = completed_is (record r { last = Some p }) p t a.1 in
+      let b = if_some (nat_lt 0 (length words) && (length words == t.unended)) _ s a.2 in
       let c = bind_some (with_numbers t.findings t.start 0 words) _ s b.1 in
-      let added = numbers_added t.findings t.start 0 words c.0 c.1.0 in
-      let next = sym (same_some _ s c.1.1) in
+      let added = numbers_added t.findings t.start 0 words c.0 c.1 in
+      let next = sym (same_some _ s c.2) in
       let ns = added.numbers in
       let long : length ns ≡ length words = sym (length-map ns decimal) ∙ sym (ap length added.are) in
       let some = ltb-true 0 (length words) (and_parts (nat_lt 0 (length words)) (length words == t.unended) b.0).0 in
@@ -389,15 +405,15 @@ end_written r text t None is e =
     no_result front end = simp append-nil
 end_written r text t (Some p) is e =
     let a = bind_some (completed_by (record r { last = Some p }) p) (λ x. cond (x.unended == 0) (Some (found_text x)) None) t e in
-    let done = completed_is (record r { last = Some p }) p a.0 a.1.0 in
-    let b = if_some (a.0.unended == 0) (Some (found_text a.0)) t a.1.1 in
+    let done = completed_is (record r { last = Some p }) p a.0 a.1 in
+    let b = if_some (a.0.unended == 0) (Some (found_text a.0)) t a.2 in
     let same = same_some _ t b.1 in
     is.lines ∙ (λ i. sym done.found i ++ unfinished_line (sym done.unfinished i))
     ∙ ap (λ (x : FoundText). hunt_lines x.findings.found x.findings.unfinished) same
 
 empty_is : (text : List ℕ) → (length text == 0) ≡ true → text ≡ []
 empty_is [] e = refl
-empty_is (b ∷ bs) e = absurd (cc)
+empty_is (b ∷ bs) e = absurd (let none = eqb-true (length (b ∷ bs)) 0 e in omega (arith, none))
 
 rest_written : (count : ℕ) (r : Reading) (text : List ℕ) (lines : List (List ℕ)) (t : FoundText) → IsWritten r text → read_from count r lines ≡ Ok t →
     text ++ join_with_byte 10 lines ≡ hunt_lines t.findings.found t.findings.unfinished
@@ -410,10 +426,10 @@ rest_written count r text (part ∷ []) t is e = by (length part == 0) refl e
     by false some e = absurd (cc)
 rest_written count r text (l ∷ next ∷ lines) t is e =
     let a = then_ok (at_line (count + 1) (read_after r l)) (λ x. read_from (count + 1) x (next ∷ lines)) t e in
-    let more = line_written r a.0 text l is (of_line (count + 1) (read_after r l) a.0 a.1.0) in
+    let more = line_written r a.0 text l is (of_line (count + 1) (read_after r l) a.0 a.1) in
     let rest = join_with_byte 10 (next ∷ lines) in
     sym (append_assoc text (l ++ 10 ∷ []) rest ∙ ap (λ x. text ++ x) (append_assoc l (10 ∷ []) rest))
-    ∙ rest_written (count + 1) a.0 (text ++ (l ++ 10 ∷ [])) (next ∷ lines) t more a.1.1
+    ∙ rest_written (count + 1) a.0 (text ++ (l ++ 10 ∷ [])) (next ∷ lines) t more a.2
 
 -- The heading of the first result.
 first_written : (r : Reading) (l : List ℕ) → begun l ≡ Some r → IsWritten r (l ++ 10 ∷ [])
@@ -440,8 +456,8 @@ text_written text t e = sym (join_with_byte-slice_split 10 text) ∙ by (parts_a
     by : (lines : List (List ℕ)) → read_lines lines ≡ Ok t → join_with_byte 10 lines ≡ hunt_lines t.findings.found t.findings.unfinished
     by [] e = absurd (cc)
     by (l ∷ []) e =
-        let a = then_ok (at_line 1 (begun l)) (λ x. read_from 1 x []) t e in absurd (let bad : Err 1 ≡ Ok t = a.1.1 in cc)
+        let a = then_ok (at_line 1 (begun l)) (λ x. read_from 1 x []) t e in absurd (let bad : Err 1 ≡ Ok t = a.2 in cc)
     by (l ∷ next ∷ lines) e =
         let a = then_ok (at_line 1 (begun l)) (λ x. read_from 1 x (next ∷ lines)) t e in
         sym (append_assoc l (10 ∷ []) (join_with_byte 10 (next ∷ lines)))
-        ∙ rest_written 1 a.0 (l ++ 10 ∷ []) (next ∷ lines) t (first_written a.0 l (of_line 1 (begun l) a.0 a.1.0)) a.1.1
+        ∙ rest_written 1 a.0 (l ++ 10 ∷ []) (next ∷ lines) t (first_written a.0 l (of_line 1 (begun l) a.0 a.1)) a.2

@@ -9,7 +9,7 @@ use Rattle.schedules.specs.declared.sweeping.SweepEnd.TheVariants.{Over, Budget}
 use Rattle.hunt_command.specs.Findings.{FindingState, FindingsState, joined, place_of}
 use Rattle.hunt_command.specs.Lines.{end_line}
 use Rattle.merge_command.specs.declared.line.Line.{Line}
-use Rattle.merge_command.specs.declared.line.Line.TheVariants as line
+use Rattle.merge_command.specs.declared.line.Line.TheVariants as of_line
 use Rattle.merge_command.specs.declared.reading.Reading.{Reading}
 use Rattle.merge_command.specs.declared.found_text.FoundText.{FoundText}
 use Rattle.merge_command.specs.Pending.{PendingState}
@@ -148,9 +148,9 @@ after_last r words = completed r r.last >>= λ r. with_unfinished r words
 -- what has been read after a line
 abbrev pub after_line : Reading → (line : List ℕ) → (words : List (List ℕ)) → Option Line → Option Reading
 after_line r line words None = None
-after_line r line words (Some (line.Heading runs first end)) = completed r r.last >>= λ r. opened r runs first end
-after_line r line words (Some (line.Outcome number faulted)) = after_outcome r r.last number faulted line words
-after_line r line words (Some (line.Word number)) = after_word r r.last number line
+after_line r line words (Some (of_line.Heading runs first end)) = completed r r.last >>= λ r. opened r runs first end
+after_line r line words (Some (of_line.Outcome number faulted)) = after_outcome r r.last number faulted line words
+after_line r line words (Some (of_line.Word number)) = after_word r r.last number line
 
 abbrev pub after_words : Reading → (line : List ℕ) → (words : List (List ℕ)) → Option Reading
 after_words r line words =
@@ -164,7 +164,7 @@ read_after r line = after_words r line (parts_at 32 line)
 
 -- what has been read after the heading of the first result
 abbrev pub begun_by : Option Line → Option Reading
-begun_by (Some (line.Heading runs first end)) =
+begun_by (Some (of_line.Heading runs first end)) =
     if nat_lt 0 runs
     then Some (record {
       start = first;

@@ -100,7 +100,7 @@ fn add_finding(findings: &mut Findings, pending: Pending) -> Result<(), LineErro
 fn add_number(findings: &mut Findings, start: u32, next: u64, word: &[u8]) -> Result<u64, LineError>
     ensures added { IfOk result (λ place. with_number findings.old start next (number_in word.now)
         ≡ Some (findings.new, place)) }
-    ensures same { findings.new.noted ≡ findings.old.noted }
+    ensures same { OnOk result (findings.new.noted ≡ findings.old.noted) }
     ensures refused { IfErr result (IsNothing (with_number findings.old start next (number_in word.now))) }
 {
     let Some(number) = number_in(word) else {
@@ -118,7 +118,7 @@ fn add_number(findings: &mut Findings, start: u32, next: u64, word: &[u8]) -> Re
 fn add_numbers(findings: &mut Findings, start: u32, words: &[&[u8]]) -> Result<(), LineError>
     ensures added { OnOk result (with_numbers findings.old start 0 (map (λ word. word.now) words.now)
         ≡ Some findings.new) }
-    ensures same { findings.new.noted ≡ findings.old.noted }
+    ensures same { OnOk result (findings.new.noted ≡ findings.old.noted) }
     ensures refused { IfErr result
         (IsNothing (with_numbers findings.old start 0 (map (λ word. word.now) words.now))) }
 {
@@ -301,7 +301,8 @@ impl Reading {
     /// Reads the numbers of the unfinished runs.
     fn read_numbers(&mut self, words: &[&[u8]]) -> Result<(), LineError>
         ensures read { OnOk result (with_unfinished self.old (map (λ word. word.now) words.now) ≡ Some self.new) }
-        ensures same { (self.new.unended ≡ self.old.unended) × (self.new.findings.noted ≡ self.old.findings.noted) }
+        ensures same { OnOk result ((self.new.unended ≡ self.old.unended)
+            × (self.new.findings.noted ≡ self.old.findings.noted)) }
         ensures refused { IfErr result (IsNothing (with_unfinished self.old (map (λ word. word.now) words.now))) }
     {
         if words.is_empty() || words.len() != self.unended as usize {
