@@ -9,3 +9,4 @@ pub mod Results
 pub mod ReadBack
 pub mod Texts
 pub mod Written
+pub mod Files

@@ -1,6 +1,7 @@
 //! `ultra merge`: from the bytes of hunts' texts to those of one text.
 
-ghost use Rattle.std.specs.Prelude.{◌≡◌, ◌⊎◌, ◌<◌, ℕ, List, None, Option, Some, true, false, IfErr, IfOk, OnErr, OnOk};
+ghost use Rattle.std.specs.Prelude.{◌≡◌, ◌⊎◌, ◌<◌, ℕ, List, None, Option, Some, true, false, IfErr, IfOk, IsErrAnd, OnErr};
+ghost use Rattle.std.specs.Prelude.{OnOk};
 ghost use Rattle.std.specs.Prelude.{length, slice_get};
 ghost use Rattle.std.specs.Io.KnownBytes.{Appends};
 ghost use Rattle.link.specs.Transfer.{AppendsPart};
@@ -83,7 +84,7 @@ fn execute<T: HuntTexts, W: LinkWrite>(
     ensures fault { IfErr result (λ refused.
         MergeFails expect_one (T.known texts.now) (W.contents out.old) (W.contents out.new) refused.place
         refused.refusal) }
-    ensures failed { W.has_failed out.new ≡ true → IfErr result (λ refused. refused.refusal ≡ Refusal.Unprinted) }
+    ensures failed { W.has_failed out.new ≡ true → IsErrAnd result (λ refused. refused.refusal ≡ Refusal.Unprinted) }
     ensures silent { OnErr result (W.has_failed out.new ≡ false → out.new ≡ out.old) }
 {
     let all = merged(alloc, texts)?;
@@ -160,7 +161,7 @@ fn join_text<T: HuntTexts>(
 fn print_text<W: LinkWrite>(alloc: Global, all: &FoundText, out: &mut W) -> Result<(), Refused>
     requires works { W.has_failed out.old ≡ false }
     ensures printed { OnOk result (Appends (W.contents out.old) (W.contents out.new) (text_of all.now)) }
-    ensures failed { W.has_failed out.new ≡ true → IfErr result (λ refused. refused.refusal ≡ Refusal.Unprinted) }
+    ensures failed { W.has_failed out.new ≡ true → IsErrAnd result (λ refused. refused.refusal ≡ Refusal.Unprinted) }
     ensures fault { IfErr result (λ refused. (refused.place ≡ None)
         × (((refused.refusal ≡ Refusal.Memory) × (out.new ≡ out.old))
         ⊎ ((refused.refusal ≡ Refusal.Unprinted) × (W.has_failed out.new ≡ true)
