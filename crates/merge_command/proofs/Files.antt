@@ -13,8 +13,7 @@ pub said_more : (before : Option FoundText) (files : List (Option (List ℕ))) (
     slice_get files i ≡ Some known → AreSaidAfter before (take i files) all → IsJoined all known next → AreSaidAfter before (take (i + 1) files) next
 said_more before [] i known all next there said joined = absurd (let bad : None ≡ Some known = there in cc)
 said_more before (f ∷ files) zero known all next there said joined =
-    let same : f ≡ known = cc in
-    (
+    let same : f ≡ known = cc in (
       joined.u,
       subst (λ k. IsSaidBy k joined.u) (sym same) joined.said,
       joined.next,

@@ -1,7 +1,6 @@
 -- Lines that are read one after another.
 use Rattle.std.proofs.Common.{◌≡◌, ◌∙◌, ◌==◌, ℕ, ◌+◌, List, [], ◌∷◌, ◌++◌, Some, refl, sym, ap, append_assoc}
 use Rattle.asm_lines.specs.Text.{parts_at}
-use Rattle.merge_command.specs.declared.found_text.FoundText.{FoundText}
 use Rattle.merge_command.specs.declared.reading.Reading.{Reading}
 use Rattle.merge_command.specs.Reading.{◌>=>◌, at_line, read_after, read_from}
 use Rattle.merge_command.proofs.Splitting.{AreWords, IsWord, first_line, has_parts, said}

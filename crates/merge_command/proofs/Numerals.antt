@@ -6,7 +6,7 @@ use Rattle.std.specs.Char.{digit_value}
 use Rattle.std.specs.Fmt.{decimal}
 use Rattle.std.specs.Int.{w32, to_be_bytes}
 use Rattle.std.specs.List.{list_all}
-use Rattle.std.specs.Str.Parse.{AllDigits, IsNumeral}
+use Rattle.std.specs.Str.Parse.{AllDigits}
 use Rattle.std.proofs.lemmas.Bool.{agree_below_at, and_from, and_parts, cases_lt, eqb-false, le-leb, ltb-true, lt-ltb, or_cases}
 use Rattle.std.proofs.lemmas.Bool.Decides.{nat_tests}
 use Rattle.std.proofs.lemmas.Fmt.{decimal_is_IsNumeral}
@@ -20,7 +20,7 @@ use Rattle.asm_lines.specs.Alike.{IsNumeralOf}
 use Rattle.asm_lines.specs.Number.{natural_within, number_of, number_within}
 use Rattle.command_io.specs.Digits.{hex_of_byte, hex_of_bytes, hex_of_word}
 use Rattle.command_io.specs.Lines.{console_text}
-use Rattle.merge_command.specs.Lines.{as_printed, is_byte, is_console, is_digit, is_digit_or_zero, is_fault, is_value, number_in}
+use Rattle.merge_command.specs.Lines.{is_byte, is_console, is_digit, is_digit_or_zero, is_fault, is_value, number_in}
 use Rattle.merge_command.proofs.Splitting.{IsWord, is_mark, weaker}
 
 -- A number equals itself.

@@ -11,7 +11,7 @@ use Rattle.flat_machine.specs.declared.event.Status.TheVariants.{Running, Halted
 use Rattle.flat_machine.specs.State.{number_of_fault}
 use Rattle.machine_steps.specs.Machines.{MachineLists}
 use Rattle.machine_steps.specs.machine_theory.Processors.{word_at}
-use Rattle.machine_steps.specs.Standing.{HasFaulted, IsFaulted, processor_of}
+use Rattle.machine_steps.specs.Standing.{IsFaulted, processor_of}
 use Rattle.asm_lines.specs.Text.{parts_at}
 use Rattle.command_io.specs.Digits.{hex_of_byte, hex_of_word, status_text}
 use Rattle.command_io.specs.Lines.{console_text, word_line, word_lines}
@@ -122,7 +122,7 @@ module _ (read : AreRead) (n : ℕ) (small : n < 2 ^ 32) (pc : ℕ) where
     last = refl;
     says = rw (value_again pc, console_again shown.console, number_again read n small) refl;
     printed = said_ended (codes "processor") (decimal n ∷ codes "pc" ∷ hex_of_word pc ∷ codes "run" ∷ codes "console" ∷ console_text shown.console ∷ []) []
-            ∙ sym (with_pc (codes "processor ") (decimal n) (codes " ") (codes "pc ") (hex_of_word pc) (status_text Running) (codes " console ") (console_text shown.console) (10 ∷ []));
+        ∙ sym (with_pc (codes "processor ") (decimal n) (codes " ") (codes "pc ") (hex_of_word pc) (status_text Running) (codes " console ") (console_text shown.console) (10 ∷ []));
     text = five_words (codes "processor") (decimal n) (codes "run") (codes "console") (console_text shown.console) (codes " ") (10 ∷ []) ∙ sym (no_pc (codes "processor ") (decimal n) (codes " ") (status_text Running) (codes " console ") (console_text shown.console) (10 ∷ []));
     short = decimal n ∷ codes "run" ∷ codes "console" ∷ console_text shown.console ∷ [];
     each = (number, (refl, (refl, (console_word shown.console, tt))));
@@ -135,7 +135,7 @@ module _ (read : AreRead) (n : ℕ) (small : n < 2 ^ 32) (pc : ℕ) where
     last = refl;
     says = rw (value_again pc, byte_again b, console_again shown.console, number_again read n small) refl;
     printed = said_ended (codes "processor") (decimal n ∷ codes "pc" ∷ hex_of_word pc ∷ codes "halt" ∷ hex_of_byte b ∷ codes "console" ∷ console_text shown.console ∷ []) []
-            ∙ sym (with_pc (codes "processor ") (decimal n) (codes " ") (codes "pc ") (hex_of_word pc) (status_text (Halted b)) (codes " console ") (console_text shown.console) (10 ∷ []));
+        ∙ sym (with_pc (codes "processor ") (decimal n) (codes " ") (codes "pc ") (hex_of_word pc) (status_text (Halted b)) (codes " console ") (console_text shown.console) (10 ∷ []));
     text = six_words (codes "processor") (decimal n) (codes "halt") (hex_of_byte b) (codes "console") (console_text shown.console) (codes " ") (10 ∷ []) ∙ sym (no_pc (codes "processor ") (decimal n) (codes " ") (status_text (Halted b)) (codes " console ") (console_text shown.console) (10 ∷ []));
     short = decimal n ∷ codes "halt" ∷ hex_of_byte b ∷ codes "console" ∷ console_text shown.console ∷ [];
     each = (number, (refl, (hex_word (b ∷ []), (refl, (console_word shown.console, tt)))));

@@ -1,7 +1,7 @@
 -- The text of a hunt is read back.
-use Rattle.std.proofs.Common.{◌≡◌, ◌∙◌, ◌==◌, ℕ, zero, suc, ◌+◌, ◌^◌, ◌<◌, ◌≤◌, Bool, true, false, cond, not, List, [], ◌∷◌, ◌++◌, Option, Some, None}
-use Rattle.std.proofs.Common.{Ok, refl, sym, ap, subst, arith, length, map, append_assoc, length-append}
-use Rattle.std.specs.Prelude.{⊤, ◌||◌, ◌&&◌, bytes_eq, codes, drop, nat_le, nat_lt}
+use Rattle.std.proofs.Common.{◌≡◌, ◌∙◌, ◌==◌, ℕ, suc, ◌+◌, ◌^◌, ◌<◌, ◌≤◌, Bool, true, false, cond, not, List, [], ◌∷◌, ◌++◌, Option, Some, None}
+use Rattle.std.proofs.Common.{Ok, refl, sym, ap, subst, arith, length, map, append_assoc}
+use Rattle.std.specs.Prelude.{◌||◌, ◌&&◌, bytes_eq, codes, nat_le, nat_lt}
 use Rattle.std.specs.Fmt.{decimal}
 use Rattle.std.specs.List.{list_all}
 use Rattle.std.specs.Str.{is_utf8}
@@ -20,10 +20,10 @@ use Rattle.hunt_command.specs.Lines.{end_line, observed_lines, outcome_lines, re
 use Rattle.merge_command.specs.declared.found_text.FoundText.{FoundText}
 use Rattle.merge_command.specs.declared.line.Line.TheVariants as line
 use Rattle.merge_command.specs.declared.reading.Reading.{Reading}
-use Rattle.merge_command.specs.Lines.{heading_in, is_last, line_of, number_in}
+use Rattle.merge_command.specs.Lines.{heading_in, line_of}
 use Rattle.merge_command.specs.Merging.{greatest_of}
 use Rattle.merge_command.specs.Pending.{PendingState}
-use Rattle.merge_command.specs.Reading.{◌>>=◌, ◌>=>◌, after_last, after_line, after_words, at_line, begun, begun_by, completed_by, ended, finding_of}
+use Rattle.merge_command.specs.Reading.{◌>>=◌, ◌>=>◌, after_last, after_line, after_words, at_line, begun, begun_by, completed_by, finding_of}
 use Rattle.merge_command.specs.Reading.{found_of, found_text, is_complete, opened, pending, place_after, read_after, read_from, read_lines, unended_by}
 use Rattle.merge_command.specs.Reading.{with_finding, with_number, with_numbers, with_unfinished}
 use Rattle.merge_command.proofs.Joining.{inserted, joined_is}
@@ -32,9 +32,9 @@ use Rattle.merge_command.proofs.Outcomes.{any_stopped, has_fault, observed_words
 use Rattle.merge_command.proofs.OneHunt.{AreFrom}
 use Rattle.merge_command.proofs.LineByLine.{Reads, reads_both, reads_line}
 use Rattle.merge_command.proofs.Results.{AreDifferent, AreFoundIn, AreInOrder, AreNumbers, AreOthers, AreResultTexts, IsResultText, all_found, any_fault}
-use Rattle.merge_command.proofs.Results.{end_is, end_word, few_processors, few_words, greatest_is, is_unended, result_ends, result_tells, unended_found}
+use Rattle.merge_command.proofs.Results.{end_word, few_processors, few_words, greatest_is, result_ends, result_tells, unended_found}
 use Rattle.merge_command.proofs.Results.{some_processors, unended_in, unended_of, unfinished_numbers}
-use Rattle.merge_command.proofs.Splitting.{AreWords, IsWord, ended as ended_by, first_line, has_parts, joined_all, said, said_ended, words_again}
+use Rattle.merge_command.proofs.Splitting.{AreWords, ended as ended_by, first_line, joined_all, said, said_ended, words_again}
 use Rattle.merge_command.proofs.Utf8.{ascii_is_utf8}
 
 -- ---- a heading

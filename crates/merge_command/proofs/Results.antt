@@ -1,7 +1,7 @@
 -- What a hunt finds: different results, in the order of their first runs, each with its count.
-use Rattle.std.proofs.Common.{◌≡◌, ◌∙◌, ◌==◌, ℕ, zero, suc, ◌+◌, ◌-◌, ◌%◌, ◌^◌, ◌<◌, ◌≤◌, Bool, true, false, cond, List, [], ◌∷◌, ◌++◌, Option, Some}
-use Rattle.std.proofs.Common.{refl, sym, ap, subst, arith, length, append_assoc}
-use Rattle.std.specs.Prelude.{⊤, ◌||◌, bytes_eq, codes, slice_get, slice_index}
+use Rattle.std.proofs.Common.{◌≡◌, ◌∙◌, ◌==◌, ℕ, zero, suc, ◌+◌, ◌^◌, ◌<◌, ◌≤◌, Bool, true, false, cond, List, [], ◌∷◌, ◌++◌, Option}
+use Rattle.std.proofs.Common.{refl, sym, ap, subst, arith, length}
+use Rattle.std.specs.Prelude.{⊤, ◌||◌, bytes_eq, codes, slice_index}
 use Rattle.std.proofs.lemmas.Slice.Eq.{bytes_eq-Decides}
 use Rattle.std.proofs.lemmas.List.{append-nil}
 use Rattle.flat_machine.specs.declared.config.Config.{Config}
@@ -12,8 +12,8 @@ use Rattle.schedules.specs.declared.sweeping.SweepEnd.{SweepEnd}
 use Rattle.schedules.specs.declared.sweeping.SweepEnd.TheVariants.{Over, Budget}
 use Rattle.command_io.specs.Tallies.{ShownBy}
 use Rattle.hunt_command.specs.declared.policy.Policy.{Policy}
-use Rattle.hunt_command.specs.Findings.{FindingState, found_again, found_once, if_unfinished, joined, noted, runs_of}
-use Rattle.hunt_command.specs.Hunts.{AreFound, IsResultOf, ResultState, found_from, greater, greatest_from, number_at, unfinished_from}
+use Rattle.hunt_command.specs.Findings.{FindingState, found_again, found_once, if_unfinished, joined, runs_of}
+use Rattle.hunt_command.specs.Hunts.{IsResultOf, ResultState, found_from, greater, greatest_from, number_at, unfinished_from}
 use Rattle.hunt_command.specs.Lines.{end_line, observed_lines, outcome_lines, result_of}
 use Rattle.merge_command.specs.Merging.{greatest_of}
 use Rattle.merge_command.specs.Reading.{place_after, unended_by}

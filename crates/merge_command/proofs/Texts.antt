@@ -1,6 +1,6 @@
 -- The texts of hunts of adjacent runs say what one hunt finds.
-use Rattle.std.proofs.Common.{◌≡◌, ◌∙◌, ◌==◌, ℕ, ◌+◌, ◌%◌, ◌^◌, ◌<◌, ◌≤◌, Bool, true, false, cond, List, [], ◌∷◌, ◌++◌, Option, Some, None}
-use Rattle.std.proofs.Common.{Ok, Err, refl, sym, ap, subst, arith, map}
+use Rattle.std.proofs.Common.{◌≡◌, ◌∙◌, ◌==◌, ℕ, ◌+◌, ◌%◌, ◌^◌, ◌<◌, Bool, true, cond, List, [], ◌∷◌, ◌++◌, Option, Some}
+use Rattle.std.proofs.Common.{Ok, Err, refl, ap, subst, arith, map}
 use Rattle.std.specs.Prelude.{◌||◌, nat_lt}
 use Rattle.std.proofs.lemmas.Bool.{lt-ltb}
 use Rattle.flat_machine.specs.declared.config.Config.{Config}
@@ -13,7 +13,7 @@ use Rattle.merge_command.specs.declared.found_text.FoundText.{FoundText}
 use Rattle.merge_command.specs.declared.found_text.Break.TheVariants as break
 use Rattle.merge_command.specs.Laws.{AreAdjacent, Found, HuntsAreReadBack, IsTextOfOneHunt, MergingHuntsIsOneHunt, MergingTextsIsOneHunt, runs_of_all}
 use Rattle.merge_command.specs.Laws.{text_of_hunt}
-use Rattle.merge_command.specs.Merging.{AreSaidAfter, IsSaidBy, greatest_of, joined_findings, joined_texts}
+use Rattle.merge_command.specs.Merging.{AreSaidAfter, greatest_of, joined_findings, joined_texts}
 use Rattle.merge_command.proofs.Numerals.{eqb_itself}
 use Rattle.merge_command.proofs.Results.{greater_fault}
 

@@ -1,7 +1,7 @@
 -- A text that is read is the text of what it says.
-use Rattle.std.proofs.Common.{◌≡◌, ◌∙◌, ◌==◌, ℕ, suc, ◌+◌, ◌<◌, ◌≤◌, Bool, true, false, cond, not, List, [], ◌∷◌, ◌++◌, Option, Some, None, Result, Ok}
+use Rattle.std.proofs.Common.{◌≡◌, ◌∙◌, ◌==◌, ℕ, ◌+◌, ◌<◌, ◌≤◌, Bool, true, false, cond, not, List, [], ◌∷◌, ◌++◌, Option, Some, None, Result, Ok}
 use Rattle.std.proofs.Common.{Err, refl, sym, ap, subst, arith, length, map, append_assoc, append-nil}
-use Rattle.std.specs.Prelude.{⊤, ◌||◌, ◌&&◌, bytes_eq, codes, drop, nat_le, nat_lt, option_and_then, option_map, slice_get}
+use Rattle.std.specs.Prelude.{⊤, ◌||◌, ◌&&◌, bytes_eq, codes, drop, nat_le, nat_lt, option_and_then, option_map}
 use Rattle.std.specs.Fmt.{decimal}
 use Rattle.std.specs.List.{join_with_byte}
 use Rattle.std.specs.Str.{is_utf8}
@@ -24,9 +24,9 @@ use Rattle.merge_command.specs.declared.reading.Reading.{Reading}
 use Rattle.merge_command.specs.Lines.{as_printed, end_in, heading_in, is_last, line_of, number_in, outcome_in, word_in}
 use Rattle.merge_command.specs.Pending.{PendingState}
 use Rattle.merge_command.specs.Reading.{◌>>=◌, ◌>=>◌, after_last, after_line, after_outcome, after_word, at_line, begun, begun_by, completed, completed_by}
-use Rattle.merge_command.specs.Reading.{ended, finding_of, found_of, found_text, is_complete, opened, pending, place_after, read_after, read_from, read_lines, with_finding}
+use Rattle.merge_command.specs.Reading.{ended, finding_of, found_of, found_text, is_complete, opened, place_after, read_after, read_from, read_lines, with_finding}
 use Rattle.merge_command.specs.Reading.{with_last, with_number, with_numbers, with_outcome, with_unfinished, with_word}
-use Rattle.merge_command.proofs.Results.{end_is, end_word}
+use Rattle.merge_command.proofs.Results.{end_word}
 use Rattle.merge_command.proofs.Splitting.{ended as ended_by, said, said_ended}
 
 -- ---- what a step that may fail has done

@@ -1,4 +1,4 @@
-use Rattle.std.proofs.Common.{refl, sym, subst, take, arith}
+use Rattle.std.proofs.Common.{refl, subst, take, arith}
 use Rattle.std.specs.Prelude.{None}
 use Rattle.std.proofs.lemmas.List.{take_all}
 use Rattle.merge_command.specs.Merging.{AreSaid}
