@@ -39,7 +39,7 @@ fish_offers() {
 offered() {
     local files='a.elf a.s b.trace'
     cat <<WORDS
-ultra |asm check debug dis explain explore help hunt order page picture replay run stats steps story study trace words
+ultra |asm check debug dis explain explore help hunt merge order page picture replay run stats steps story study trace words
 ultra ex|explain explore
 ultra help h|help hunt
 ultra words |$files
@@ -61,6 +61,8 @@ ultra explain X|X1 X2 X3 X4 X5 X6 X7
 ultra explain me|memory memory-map
 ultra explain link |
 ultra --quick hunt a|a.elf a.s
+ultra merge a.s b|b.trace
+ultra merge a.s --e|--expect-one
 WORDS
 }
 

@@ -132,6 +132,20 @@ fails_a_search() {
 }
 check 'explore, study and hunt report any call that fails, and keep the bytes written before it: I9, X5 or link, status 3' fails_a_search
 
+# Two texts of one run each. Both are read to their ends before the text of both is printed.
+fails_a_merge() {
+    local size
+    ./ultra hunt --k 0 --runs 1 "$room/ebreak.elf" >"$room/one"
+    ./ultra hunt --k 0 --runs 2 "$room/ebreak.elf" >"$room/ample"
+    size=$(stat -c %s "$room/one")
+    sed 's/first 1/first 2/' "$room/one" >"$room/two"
+    fails_each_call "$((size + 1))r:link $(stat -c %s "$room/one")w:link" "$room/one" merge "$room/one" || return 1
+    make_library fail_link || return 1
+    how=interrupted fail_call $((size + 2)) merge "$room/one" "$room/two"
+    [ "$ended" -eq 3 ] && diff <(printf 'ultra: link\n  %s: %s\n' "$room/two" "${whys[interrupted]}") "$room/err" && diff /dev/null "$room/out"
+}
+check 'merge reports any call that fails, and keeps the bytes written before it: link, status 3' fails_a_merge
+
 # Sends `lines` to the debugger, each after the reply to the previous one, and leaves the replies in $room/replies. The
 # link may break.
 has_replies() (

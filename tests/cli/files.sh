@@ -56,11 +56,12 @@ check 'rt fmt would change no file' is_laid_out
 # nothing; but it sees one file at a time, and so does not know which variables another sets or uses.
 tests_are_sound_shell() {
     local file wrong=0
-    for file in ultra test packaging/install.sh packaging/share/bash-completion/completions/ultra tests/page/install tests/cli/run tests/cli/*.sh; do
+    for file in ultra test packaging/install.sh packaging/share/bash-completion/completions/ultra tests/page/install tests/cluster/install tests/cluster/slurm examples/cluster/{deal,job,merged,with_parallel,with_slurm,hunt.sbatch,merge.sbatch} tests/cli/run tests/cli/*.sh; do
         bash -n "$file" || wrong=1
     done
     grep -hoE '^[a-z_0-9]+\(\)' tests/cli/*.sh | sort | uniq -d | grep . && wrong=1
-    ! command -v shellcheck >/dev/null || shellcheck -S warning -e SC1091,SC2034,SC2154 packaging/install.sh tests/page/install tests/cli/run tests/cli/*.sh || wrong=1
+    ! command -v shellcheck >/dev/null || shellcheck -S warning -e SC1091,SC2034,SC2154 packaging/install.sh tests/page/install tests/cluster/install tests/cluster/slurm examples/cluster/{deal,job,merged,with_parallel,with_slurm,hunt.sbatch,merge.sbatch} \
+        tests/cli/run tests/cli/*.sh || wrong=1
     return "$wrong"
 }
 check 'the shell files of the tests are sound' tests_are_sound_shell

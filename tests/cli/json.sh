@@ -80,6 +80,8 @@ refuses_two_forms() {
     done <<'WORDS'
 run --symbols none
 hunt --symbols none
+merge --symbols none
+merge --decimal
 explore --symbols none
 replay --symbols none none
 order --symbols none none

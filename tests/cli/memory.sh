@@ -117,6 +117,16 @@ refuses_memory_of_a_hunt() {
 }
 check 'a hunt without memory for one request reports memory, status 4, or prints its results' refuses_memory_of_a_hunt
 
+# Two texts of hunts, with the same result and another, and one with a wrong line.
+refuses_memory_of_a_merge() {
+    ./ultra asm examples/explore/lost_adds.s "$room/lost.elf" && ./ultra hunt --k 1 --runs 20 "$room/lost.elf" >"$room/one" &&
+        ./ultra hunt --k 1 --start 21 --runs 10 "$room/lost.elf" >"$room/two" && ./ultra hunt --k 1 --runs 30 "$room/lost.elf" >"$room/both" || return 1
+    refuses_each_request 0 "$room/both" /dev/null merge "$room/one" "$room/two" || return 1
+    sed '2s/$/ /' "$room/two" >"$room/wrong" && printf 'ultra: M1 line 2\n  %s\n' "$room/wrong" >"$room/told" &&
+        refuses_each_request 2 /dev/null "$room/told" merge "$room/one" "$room/wrong"
+}
+check 'a merge without memory for one request reports memory, status 4, or prints its results, or a wrong line' refuses_memory_of_a_merge
+
 # Here, too, the number of a request differs from run to run. A run that lacks memory on its thread is taken again after
 # the others of its batch, so most hunts print their results.
 refuses_memory_of_a_hunt_on_threads() {

@@ -20,6 +20,8 @@ MADE = "Made by tests/tools/completions.py --write: do not edit."
 DATE = "2026-11-28"
 # A range with at most this number of values is completed.
 FEW = 64
+# More files than a command is given.
+MANY = 65536
 
 # ---- constants of the sources
 
@@ -124,7 +126,7 @@ class Argument:
         self.help = fields["help"]
         self.low, self.high = fields.get("low"), fields.get("high")
         self.value = fields.get("value", "NUMBER" if self.low is not None else None)
-        self.is_option = self.kind not in ("Path", "Words")
+        self.is_option = self.kind not in ("Path", "Paths", "Words")
 
     def values(self):
         """The values of a short range."""
@@ -134,7 +136,7 @@ class Argument:
 
     def takes_file(self):
         """Whether its value is a path: that of every text but a list of shared words."""
-        return self.kind == "Path" or self.kind == "Text" and self.value != "LIST"
+        return self.kind in ("Path", "Paths") or self.kind == "Text" and self.value != "LIST"
 
 
 class Command:
@@ -198,7 +200,7 @@ def bash():
     for command in commands():
         options = " ".join(f"--{option.name}" for option in command.options() if option.kind != "Flag")
         flags = " ".join(f"--{option.name}" for option in command.options() if option.kind == "Flag")
-        places = " ".join("topic" if place.kind == "Words" else "file" for place in command.places())
+        places = " ".join({"Words": "topic", "Paths": "files"}.get(place.kind, "file") for place in command.places())
         cases.append(f"        {command.name}) options='{options}' flags='{flags}' places=({places}) ;;")
         for option in command.options():
             if option.takes_file():
@@ -213,7 +215,7 @@ def bash():
 # Completes the word $2: by files or by topics of `ultra explain`, or by a choice of words.
 _ultra_complete() {{
     case $1 in
-        file)
+        file | files)
             # Bash gives the word as it is typed, and quotes what is offered.
             local begun=${{2//\\\\/}}
             compopt -o filenames 2>/dev/null
@@ -289,8 +291,8 @@ _ultra() {{
     done
     if [ -z "$only" ] && [[ $word = -* ]]; then
         _ultra_complete "$kind" "$word"
-    elif [ "$filled" -lt "${{#places[@]}}" ]; then
-        _ultra_complete "${{places[filled]}}" "$word"
+    elif [ "$filled" -lt "${{#places[@]}}" ] || [ "${{places[-1]}}" = files ]; then
+        _ultra_complete "${{places[filled]-files}}" "$word"
     elif [ -z "$only" ]; then
         _ultra_complete "$kind" "$word"
     fi
@@ -328,7 +330,8 @@ def zsh():
                 spec += f"[{in_brackets(option.help)}]"
             specs.append(quoted(spec))
         for at, place in enumerate(command.places(), 1):
-            specs.append(quoted(f"{at}:{place.name}:" + ("_ultra_topics" if place.kind == "Words" else "_files")))
+            which = "*" if place.kind == "Paths" else at
+            specs.append(quoted(f"{which}:{place.name}:" + ("_ultra_topics" if place.kind == "Words" else "_files")))
         lines = " \\\n                ".join(specs)
         cases.append(f"        {command.name})\n            _arguments \\\n                {lines}\n            ;;")
     return f"""#compdef ultra
@@ -394,8 +397,9 @@ def fish():
             lines.append(f"{when} -l {option.name}{how} -d {quote(option.help)}")
         lines.append(f"{when} -l help -d 'Print help'")
         valued = "".join(f" --{option.name}" for option in command.options() if option.kind != "Flag")
-        due = f"complete -c ultra -n '__ultra_wants_more {command.name} {len(command.places())}{valued}'"
-        if command.places()[0].kind == "Path":
+        wanted = MANY if command.places()[-1].kind == "Paths" else len(command.places())
+        due = f"complete -c ultra -n '__ultra_wants_more {command.name} {wanted}{valued}'"
+        if command.places()[0].kind in ("Path", "Paths"):
             lines.append(f"{due} -F")
         else:
             for name, meaning in topic_names():
@@ -488,7 +492,8 @@ def item(label, text):
 
 def synopsis(command):
     options = ["[\\fIOPTION\\fR]..."] if command.options() else []
-    places = [f"\\fI{place.name}\\fR" if place.kind == "Path" else f"[\\fI{place.name}\\fR]..." for place in command.places()]
+    forms = {"Path": "\\fI{}\\fR", "Paths": "\\fI{}\\fR...", "Words": "[\\fI{}\\fR]..."}
+    places = [forms[place.kind].format(place.name) for place in command.places()]
     return f"\\fBultra {command.name}\\fR " + " ".join(options + places)
 
 

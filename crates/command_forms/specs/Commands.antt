@@ -119,6 +119,13 @@ path id = record (new_rule id) { required = true }
 abbrev pub words : Text → Rule
 words id = record (new_rule id) { range = Some (record { start_inclusive = 0; end_inclusive = 4 }) }
 
+-- files, of which at least one is required
+abbrev pub paths : Text → Rule
+paths id = record (new_rule id) {
+  required = true;
+  range = Some (record { start_inclusive = 1; end_inclusive = 65536 });
+}
+
 -- `--NAME TEXT`
 abbrev pub option : Text → Rule
 option name = record (new_rule name) { long = Some name; value_names = 1 }
@@ -199,6 +206,10 @@ hunt_command = command (codes "hunt")
     ∷ (sizes
     ++ (number steps.bounds ∷ number runs.bounds ∷ number start.bounds ∷ number jobs ∷ number depth ∷ [])))
 
+unfoldable pub merge_command : App
+merge_command = command (codes "merge")
+    (paths (codes "FOUND") ∷ flag (codes "expect-one") ∷ symbols ∷ decimal ∷ json ∷ [])
+
 unfoldable pub explore_command : App
 explore_command = command (codes "explore")
     (file ∷ option (codes "trace") ∷ option (codes "page") ∷ option (codes "graph") ∷ option (codes "observe")
@@ -262,6 +273,7 @@ ultra_command = with_subcommands (
     ∷ dis_command.top
     ∷ run_command.top
     ∷ hunt_command.top
+    ∷ merge_command.top
     ∷ explore_command.top
     ∷ replay_command.top
     ∷ order_command.top

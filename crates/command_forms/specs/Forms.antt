@@ -1,7 +1,7 @@
 -- The commands of the code as the parser of the command line sees them, without their help.
 use Rattle.std.specs.Prelude.{ℕ, List, [], ◌∷◌}
 use Rattle.clap.specs.Words.{App, Rule, Text, new_app, with_rule, with_subcommand}
-use Rattle.command_forms.specs.Commands.{Bounds, Ranged, flag, number, option, path, words}
+use Rattle.command_forms.specs.Commands.{Bounds, Ranged, flag, number, option, path, paths, words}
 use Rattle.command_forms.specs.declared.forms.Argument.{Argument}
 use Rattle.command_forms.specs.declared.forms.Argument.TheVariants as argument
 use Rattle.command_forms.specs.declared.forms.CommandForm.{CommandForm}
@@ -23,6 +23,7 @@ bounded o = bounds_as o.name.now o.low o.high
 
 abbrev pub rule_of_argument : Argument → Rule
 rule_of_argument (argument.Path id help) = path id.now
+rule_of_argument (argument.Paths id help) = paths id.now
 rule_of_argument (argument.Words id help) = words id.now
 rule_of_argument (argument.Text name value help) = option name.now
 rule_of_argument (argument.Flag name help) = flag name.now

@@ -15,6 +15,12 @@ pub(crate) fn arg_of<'a>(alloc: Global, argument: Argument) -> Arg<'a>
 {
     match argument {
         Argument::Path { id, help } => Arg::new(alloc, id).required(true).help(help),
+        Argument::Paths { id, help } => {
+            Arg::new(alloc, id)
+                .required(true)
+                .num_args(1..=65_536)
+                .help(help)
+        }
         Argument::Words { id, help } => Arg::new(alloc, id).num_args(..=4).help(help),
         Argument::Text { name, value, help } => Arg::new(alloc, name)
             .long(name)

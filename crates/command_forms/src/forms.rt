@@ -3,16 +3,17 @@
 ghost use Rattle.std.specs.Prelude.{◌≡◌};
 ghost use Rattle.command_forms.specs.Forms.{app_of_form, with_forms};
 ghost use Rattle.command_forms.specs.Commands.{asm_command, check_command, debug_command, dis_command};
-ghost use Rattle.command_forms.specs.Commands.{explain_command, explore_command, hunt_command, order_command};
+ghost use Rattle.command_forms.specs.Commands.{explain_command, explore_command, hunt_command, merge_command};
+ghost use Rattle.command_forms.specs.Commands.{order_command};
 ghost use Rattle.command_forms.specs.Commands.{page_command, picture_command, program, replay_command, run_command};
 ghost use Rattle.command_forms.specs.Commands.{stats_command};
 ghost use Rattle.command_forms.specs.Commands.{steps_command, story_command, study_command, trace_command};
 ghost use Rattle.command_forms.specs.Commands.{ultra_command, words_command};
 
 use crate::help::{
-    ASM_ENDS, CHECK_ENDS, DEBUG_ENDS, DIS_ENDS, EXPLAIN_ENDS, EXPLORE_ENDS, HUNT_ENDS, ORDER_ENDS,
-    PAGE_ENDS, PICTURE_ENDS, REPLAY_ENDS, RUN_ENDS, STATS_ENDS, STEPS_ENDS, STORY_ENDS, STUDY_ENDS,
-    TRACE_ENDS, WORDS_ENDS,
+    ASM_ENDS, CHECK_ENDS, DEBUG_ENDS, DIS_ENDS, EXPLAIN_ENDS, EXPLORE_ENDS, HUNT_ENDS, MERGE_ENDS,
+    ORDER_ENDS, PAGE_ENDS, PICTURE_ENDS, REPLAY_ENDS, RUN_ENDS, STATS_ENDS, STEPS_ENDS, STORY_ENDS,
+    STUDY_ENDS, TRACE_ENDS, WORDS_ENDS,
 };
 use crate::ranges::{
     BUDGET, COMBINATIONS, ChoiceOption, DEPTH, FIRST_LINE, FIRST_START, FIRST_STEP, JOBS,
@@ -37,6 +38,11 @@ pub(crate) struct CommandForm {
 pub(crate) enum Argument {
     /// A file, which is required.
     Path {
+        id: &'static str,
+        help: &'static str,
+    },
+    /// Files, of which at least one is required.
+    Paths {
         id: &'static str,
         help: &'static str,
     },
@@ -262,6 +268,25 @@ const HUNT: CommandForm = CommandForm {
         Argument::Choice(DEPTH),
     ],
     ends: HUNT_ENDS,
+};
+
+const MERGE: CommandForm = CommandForm {
+    name: "merge",
+    about: "Merge what hunts of adjacent runs printed into what one hunt of all runs prints",
+    arguments: &[
+        Argument::Paths {
+            id: "FOUND",
+            help: "What `ultra hunt` printed, in the order of the runs; `-` for standard input, for one of them",
+        },
+        Argument::Flag {
+            name: "expect-one",
+            help: "Expect all runs to come to one result; if they do not, the exit status says so",
+        },
+        SYMBOLS,
+        DECIMAL,
+        JSON,
+    ],
+    ends: MERGE_ENDS,
 };
 
 const EXPLORE: CommandForm = CommandForm {
@@ -607,6 +632,13 @@ fn hunt() -> CommandForm
     HUNT
 }
 
+#[tactic(auto, unfolding(crate::specs::Commands::merge_command))]
+fn merge() -> CommandForm
+    ensures { app_of_form result ≡ merge_command }
+{
+    MERGE
+}
+
 #[tactic(auto, unfolding(crate::specs::Commands::explore_command))]
 fn explore() -> CommandForm
     ensures { app_of_form result ≡ explore_command }
@@ -693,7 +725,7 @@ fn explain() -> CommandForm
 
 /// All commands, in the order in which the help lists them.
 #[tactic(auto, unfolding(crate::specs::Commands::ultra_command))]
-pub(crate) fn commands() -> [CommandForm; 18]
+pub(crate) fn commands() -> [CommandForm; 19]
     ensures { with_forms result program ≡ ultra_command }
 {
     [
@@ -703,6 +735,7 @@ pub(crate) fn commands() -> [CommandForm; 18]
         dis(),
         run(),
         hunt(),
+        merge(),
         explore(),
         replay(),
         order(),

@@ -82,6 +82,25 @@ reported with --unfinished, `L2` more than 4194304 steps on threads, `L4` a core
 Exit status: 0 done, 1 a fault stopped a processor, 2 a refused image or command line, 3 a file or
 standard output failed, 4 out of memory, no room for the steps, no thread, or the budget is used up.";
 
+/// What `merge` takes and prints, and its exit statuses.
+pub(crate) const MERGE_ENDS: &str = "\
+Each FOUND is what `ultra hunt` printed for some runs, as `ultra hunt --start 1 --runs 500 FILE` and
+`ultra hunt --start 501 --runs 500 FILE`; the second begins with the run after those of the first. What is
+printed is what `ultra hunt --start 1 --runs 1000 FILE` prints, and so is the exit status. FILE, sizes and
+options have to be the same for all; nothing in the texts tells.
+
+A FOUND is plain text, printed without --json, --symbols and --decimal, which may be given here. It has at
+most 64 MiB.
+
+An error is reported on standard error, with the name of the FOUND at fault, and then nothing is printed:
+`ultra: M1 line N` line N is the first that no hunt could have printed there, `M2` its runs do not begin
+with the one after those of the FOUND before it, `M3` there are 4294967296 runs or more, `M4` it has more
+than 64 MiB; `link` a file cannot be read or standard output cannot be written, `memory`.
+
+Exit status: 0 done, 1 a fault stopped a processor in some run, 2 a refused FOUND or command line, 3 a
+file or standard output failed, 4 out of memory, 5 some run is unfinished, 6 with --expect-one more than
+one result.";
+
 /// How `replay` goes, what it prints and reports, and its exit statuses.
 pub(crate) const REPLAY_ENDS: &str = "\
 The machine has the k, c, b and r of TRACE, and takes its steps in their order. Then the messages still

@@ -7,6 +7,7 @@ mod exchanges;
 mod fairness;
 mod hunting;
 mod labels;
+mod merging;
 mod order;
 mod partial;
 mod properties;

@@ -31,6 +31,22 @@ impl<F: Read, I: Read> Read for Source<F, I> {
     }
 }
 
+/// A file that is open to be read, or whose reads fail with the error of its opening.
+#[derive(Drop)]
+pub enum Opened<F> {
+    Open(F),
+    Closed(io::Error),
+}
+
+impl<F: Read> Read for Opened<F> {
+    fn read(&mut self, buf: &mut [u8]) -> io::Result<usize> {
+        match self {
+            Opened::Open(file) => file.read(buf),
+            Opened::Closed(error) => Err(*error),
+        }
+    }
+}
+
 /// Opens the source at a path.
 fn source_at<R: Files + Input>(rt: &R, path: &str) -> io::Result<Source<R::File, R::Reader>> {
     if path == STANDARD {
@@ -53,6 +69,19 @@ pub fn open<'a, 'r, R: Files + Input>(
         Ok(device) => Ok(Explained { device, reason }),
         Err(error) => Err(FileRefusal::Closed(path, error)),
     }
+}
+
+/// Opens a file to read it. If it cannot be opened, each read fails. A read that fails leaves its error in `reason`.
+pub fn open_or_fail<'r, R: Files + Input>(
+    rt: &R,
+    path: &str,
+    reason: &'r Reason,
+) -> Explained<'r, Opened<Source<R::File, R::Reader>>> {
+    let device = match source_at(rt, path) {
+        Ok(source) => Opened::Open(source),
+        Err(error) => Opened::Closed(error),
+    };
+    Explained { device, reason }
 }
 
 /// Opens the image of a trace's run. If it cannot be opened, the error is left in `reason`, and the command reports it

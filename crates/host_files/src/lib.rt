@@ -13,8 +13,8 @@ mod refusal;
 
 pub use explained::{Explained, Reason};
 pub use files::{
-    STANDARD, Source, are_one_file, create, look_for_folder, look_for_page, open, open_beside,
-    open_beside_trace, open_image, read_once, trace_to, writer_to,
+    Opened, STANDARD, Source, are_one_file, create, look_for_folder, look_for_page, open,
+    open_beside, open_beside_trace, open_image, open_or_fail, read_once, trace_to, writer_to,
 };
 pub use place::{Place, report_place, text_or_place};
 pub use refusal::{FileRefusal, refuse};

@@ -1,29 +1,27 @@
--- A result is noted: its place, and that no result is counted more often than results were noted.
+-- A result is noted: its place, and in how many runs it was found.
 use Rattle.std.proofs.Common.{◌≡◌, ℕ, zero, suc, ◌+◌, ◌≤◌, Bool, true, false, cond, not, List, [], ◌∷◌, ◌++◌, Option, Some, None}
-use Rattle.std.proofs.Common.{String, Global, string_bytes, length, take, refl, sym, ap, subst, ◌∙◌, arith, append_assoc}
-use Rattle.std.specs.Prelude.{All, bytes_eq, is_some, nat_lt, position, slice_get, slice_set}
+use Rattle.std.proofs.Common.{String, Global, string_bytes, length, take, refl, sym, ap, ◌∙◌, arith, append_assoc}
+use Rattle.std.specs.Prelude.{bytes_eq, is_some, nat_lt, position, slice_get, slice_set}
 use Rattle.std.specs.List.{position_or_len}
 use Rattle.std.specs.Map.{keys_of}
 use Rattle.std.specs.Option.{option_map}
 use Rattle.indexmap.specs.Layout.{set_value_at}
-use Rattle.std.proofs.lemmas.Bool.{ltb-false}
+use Rattle.std.proofs.lemmas.Bool.{le-ltb, lt-ltb, ltb-false, ltb-true}
 use Rattle.std.proofs.lemmas.List.{append-nil, length-map, map-append, take_all, take_more}
 use Rattle.std.proofs.lemmas.Map.Entries.{length-keys_of}
-use Rattle.std.proofs.lemmas.List.Elements.{All-append, All-cons, All-nil, All-set}
 use Rattle.std.proofs.lemmas.Option.{get_or_from_slice_get, slice_get-map, slice_get_past, slice_get_within}
 use Rattle.hunt_command.specs.declared.findings.Counted.{Counted}
-use Rattle.hunt_command.specs.Findings.{FindingState, finding_lines, findings_lines, firsts, found_in, noted, noted_at, once_more, place_of}
+use Rattle.hunt_command.specs.Findings.{FindingState, finding_lines, findings_lines, firsts, found_again, found_in, joined, joined_at, merged}
+use Rattle.hunt_command.specs.Findings.{place_of, runs_of}
 
 -- ---- a place that is found, or not
 
-pub noted_there : (fs : List FindingState) (text printed : List ℕ) (number : ℕ) (f : FindingState) → slice_get fs (place_of text fs) ≡ Some f →
-    noted fs text printed number ≡ slice_set fs (place_of text fs) (once_more f)
-noted_there fs text printed number f there = ap (λ o. noted_at fs (place_of text fs) o text printed number) there
+pub joined_there : (fs : List FindingState) (g f : FindingState) → slice_get fs (place_of g.text fs) ≡ Some f →
+    joined fs g ≡ slice_set fs (place_of g.text fs) (found_again f g.runs)
+joined_there fs g f there = ap (λ o. joined_at fs (place_of g.text fs) o g) there
 
-pub noted_new : (fs : List FindingState) (text printed : List ℕ) (number : ℕ) → length fs ≤ place_of text fs →
-    noted fs text printed number ≡ fs ++ (record { text = text; printed = printed; runs = 1; first = number }) ∷ []
-noted_new fs text printed number past =
-    ap (λ o. noted_at fs (place_of text fs) o text printed number) (slice_get_past fs (place_of text fs) past)
+pub joined_new : (fs : List FindingState) (g : FindingState) → length fs ≤ place_of g.text fs → joined fs g ≡ fs ++ g ∷ []
+joined_new fs g past = ap (λ o. joined_at fs (place_of g.text fs) o g) (slice_get_past fs (place_of g.text fs) past)
 
 -- ---- the entries of a map
 
@@ -87,23 +85,41 @@ module _ {K V : Type 0} (text : K → List ℕ) (printed : V → List ℕ) (runs
             let one : position_or_len is (keys_of es) ≡ i = cc in sym (place_in t is same es) ∙ one
         by false e = let bad : None ≡ Some i = by_test (Some i) at false e in absurd (cc)
 
-    -- If the map appends a new key, the results are those after a run with its text.
-    pub noted_absent : (es' : List (K × V)) (k : K) (v : V) → text k ≡ t → runs v ≡ 1 → position is (keys_of es) ≡ None →
-        es' ≡ es ++ (k, v) ∷ [] → Found es' ≡ noted (Found es) t (printed v) (first v)
-    noted_absent es' k v named once none more =
+    -- If the map appends a new key, its result is joined to the results.
+    pub joined_absent : (es' : List (K × V)) (k : K) (v : V) → text k ≡ t → position is (keys_of es) ≡ None → es' ≡ es ++ (k, v) ∷ [] →
+        Found es' ≡ joined (Found es) (record { text = t; printed = printed v; runs = runs v; first = first v })
+    joined_absent es' k v named none more =
         ap Found more ∙ new_in es k v
-        ∙ (λ j. Found es ++ (record { text = named j; printed = printed v; runs = once j; first = first v }) ∷ [])
-        ∙ sym (noted_new (Found es) t (printed v) (first v) (absent_in none))
+        ∙ (λ j. Found es ++ (record { text = named j; printed = printed v; runs = runs v; first = first v }) ∷ [])
+        ∙ sym (joined_new (Found es) (record { text = t; printed = printed v; runs = runs v; first = first v }) (absent_in none))
 
-    -- If the map counts an existing key once more, the results are those after a run with its text.
-    pub noted_present : (es' : List (K × V)) (i : ℕ) (k : K) (v w : V) (shown : List ℕ) (number : ℕ) → position is (keys_of es) ≡ Some i →
-        slice_get es i ≡ Some (k, v) → One k w ≡ once_more (One k v) → es' ≡ set_value_at es i w →
-        Found es' ≡ noted (Found es) t shown number
-    noted_present es' i k v w shown number at there more now =
+    -- If the map counts an existing key for more runs, its result in these runs is joined to the results.
+    pub joined_present : (es' : List (K × V)) (i : ℕ) (k : K) (v w : V) (shown : List ℕ) (count number : ℕ) → position is (keys_of es) ≡ Some i →
+        slice_get es i ≡ Some (k, v) → One k w ≡ found_again (One k v) count → es' ≡ set_value_at es i w →
+        Found es' ≡ joined (Found es) (record { text = t; printed = shown; runs = count; first = number })
+    joined_present es' i k v w shown count number at there more now =
         let place = present_in i at in
         ap Found now ∙ set_in es i k v w there ∙ ap (slice_set (Found es) i) more
-        ∙ ap (λ p. slice_set (Found es) p (once_more (One k v))) (sym place)
-        ∙ sym (noted_there (Found es) t shown number (One k v) (ap (slice_get (Found es)) place ∙ entry_in es i k v there))
+        ∙ ap (λ p. slice_set (Found es) p (found_again (One k v) count)) (sym place)
+        ∙ sym (joined_there (Found es) (record { text = t; printed = shown; runs = count; first = number }) (One k v)
+        (ap (slice_get (Found es)) place ∙ entry_in es i k v there))
+
+    -- If the map finds the key, a result has the text.
+    pub has_in : (i : ℕ) → position is (keys_of es) ≡ Some i → true ≡ nat_lt (place_of t (Found es)) (length (Found es))
+    has_in i at = by (nat_lt (position_or_len is (keys_of es)) (length (keys_of es))) refl
+      where
+        by : (b : Bool) → nat_lt (position_or_len is (keys_of es)) (length (keys_of es)) ≡ b → true ≡ nat_lt (place_of t (Found es)) (length (Found es))
+        by true e =
+            let within = ltb-true (position_or_len is (keys_of es)) (length (keys_of es)) e in
+            let keys = length-keys_of es in
+            let found = length-map es (λ (e : K × V). One e.0 e.1) in
+            let place = place_in t is same es in
+            sym (lt-ltb (place_of t (Found es)) (length (Found es)) (omega (arith, within, keys, found, place)))
+        by false e = let bad : None ≡ Some i = by_test (Some i) at false e in absurd (cc)
+
+    -- If the map does not find the key, none has.
+    pub lacks_in : position is (keys_of es) ≡ None → false ≡ nat_lt (place_of t (Found es)) (length (Found es))
+    lacks_in none = sym (le-ltb (place_of t (Found es)) (length (Found es)) (absent_in none))
 
 -- ---- the entries of the results
 
@@ -149,30 +165,56 @@ lines_step fs i f there =
 pub lines_whole : (fs : List FindingState) (i : ℕ) → length fs ≤ i → findings_lines (take i fs) ≡ findings_lines fs
 lines_whole fs i past = ap findings_lines (take_all i fs past)
 
--- ---- one more result
+-- ---- how many runs had a result
 
-abbrev pub NoneOver : ℕ → List FindingState → Type 0
-NoneOver n fs = All (λ (f : FindingState). f.runs ≤ n) fs
+-- A result that comes last is counted with the others.
+pub runs_more : (fs : List FindingState) (g : FindingState) → runs_of (fs ++ g ∷ []) ≡ runs_of fs + g.runs
+runs_more [] g = omega arith
+runs_more (f ∷ fs) g = let rest = runs_more fs g in omega (arith, rest)
 
-few_more : (fs : List FindingState) (n : ℕ) → NoneOver n fs → NoneOver (n + 1) fs
-few_more fs n few i d inside = (let here = few i d inside in omega (arith, here))
+-- If the result at a place is counted for more runs, so are all.
+pub runs_again : (fs : List FindingState) (i : ℕ) (f : FindingState) (more : ℕ) → slice_get fs i ≡ Some f →
+    runs_of (slice_set fs i (found_again f more)) ≡ runs_of fs + more
+runs_again [] i f more there = absurd (cc)
+runs_again (x ∷ fs) zero f more there =
+    let same : x ≡ f = cc in
+    let runs = ap (λ (g : FindingState). g.runs) same in omega (arith, runs)
+runs_again (x ∷ fs) (suc i) f more there = let rest = runs_again fs i f more there in omega (arith, rest)
 
--- If no result was counted more than n times, the one at this place was not.
-pub few_here : (fs : List FindingState) (n i : ℕ) (f : FindingState) → slice_get fs i ≡ Some f → NoneOver n fs → f.runs ≤ n
-few_here fs n i f there few =
-    subst (λ (g : FindingState). g.runs ≤ n) (get_or_from_slice_get fs i f f there) (few i f (slice_get_within fs i f there))
+-- No result is counted for more runs than all together.
+pub runs_here : (fs : List FindingState) (i : ℕ) (f : FindingState) → slice_get fs i ≡ Some f → f.runs ≤ runs_of fs
+runs_here [] i f there = absurd (cc)
+runs_here (x ∷ fs) zero f there =
+    let same : x ≡ f = cc in
+    let runs = ap (λ (g : FindingState). g.runs) same in omega (arith, runs)
+runs_here (x ∷ fs) (suc i) f there = let rest = runs_here fs i f there in omega (arith, rest)
 
--- If no result was counted more than n times, and one is counted once more, none was counted more than n + 1 times.
-pub few_there : (fs : List FindingState) (n i : ℕ) (f : FindingState) → slice_get fs i ≡ Some f → NoneOver n fs →
-    NoneOver (n + 1) (slice_set fs i (once_more f))
-few_there fs n i f there few =
-    All-set (λ (f : FindingState). f.runs ≤ n + 1) fs i (once_more f) (let here = few_here fs n i f there few in omega (arith, here))
-    (few_more fs n few)
+-- ---- results of later runs
 
--- If no result was counted more than n times, and a new one is counted once, none was counted more than n + 1 times.
-pub few_new : (fs : List FindingState) (n number : ℕ) (text printed : List ℕ) → NoneOver n fs →
-    NoneOver (n + 1) (fs ++ (record { text = text; printed = printed; runs = 1; first = number }) ∷ [])
-few_new fs n number text printed few =
-    let P = λ (f : FindingState). f.runs ≤ n + 1 in
-    All-append P fs ((record { text = text; printed = printed; runs = 1; first = number }) ∷ []) (few_more fs n few)
-    (All-cons P (record { text = text; printed = printed; runs = 1; first = number }) [] (omega arith) (All-nil P))
+-- The results after the first i + 1 of these are those after the first i, to which the next is joined.
+pub merged_step : (fs gs : List FindingState) (i : ℕ) (g : FindingState) → slice_get gs i ≡ Some g →
+    merged fs (take (i + 1) gs) ≡ joined (merged fs (take i gs)) g
+merged_step fs [] i g there = absurd (cc)
+merged_step fs (x ∷ gs) zero g there = (let same : x ≡ g = cc in ap (joined fs) same)
+merged_step fs (x ∷ gs) (suc i) g there =
+    let next : suc i + 1 ≡ suc (i + 1) = omega arith in
+    ap (λ n. merged fs (take n (x ∷ gs))) next ∙ merged_step (joined fs x) gs i g there
+
+-- The same for the number of their runs.
+pub runs_step : (gs : List FindingState) (i : ℕ) (g : FindingState) → slice_get gs i ≡ Some g →
+    runs_of (take (i + 1) gs) ≡ runs_of (take i gs) + g.runs
+runs_step [] i g there = absurd (cc)
+runs_step (x ∷ gs) zero g there =
+    let same : x ≡ g = cc in
+    let runs = ap (λ (f : FindingState). f.runs) same in omega (arith, runs)
+runs_step (x ∷ gs) (suc i) g there =
+    let next : suc i + 1 ≡ suc (i + 1) = omega arith in
+    let rest = runs_step gs i g there in
+    ap (λ n. runs_of (take n (x ∷ gs))) next ∙ (let sum : x.runs + runs_of (take (i + 1) gs) ≡ x.runs + runs_of (take i gs) + g.runs = omega (arith, rest) in sum)
+
+-- The first of some results have no more runs than all.
+pub runs_within : (gs : List FindingState) (i : ℕ) → runs_of (take i gs) ≤ runs_of gs
+runs_within [] zero = omega arith
+runs_within [] (suc i) = omega arith
+runs_within (x ∷ gs) zero = omega arith
+runs_within (x ∷ gs) (suc i) = let rest = runs_within gs i in omega (arith, rest)

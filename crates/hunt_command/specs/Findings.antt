@@ -1,5 +1,5 @@
 -- The different results of runs, how many runs had each, and which runs are unfinished.
-use Rattle.std.specs.Prelude.{ℕ, ◌+◌, ◌≤◌, All, List, [], ◌∷◌, ◌++◌, Option, Some, None, bytes_eq, codes, map}
+use Rattle.std.specs.Prelude.{◌≡◌, ℕ, ◌+◌, List, [], ◌∷◌, ◌++◌, Option, Some, None, bytes_eq, codes, map}
 use Rattle.std.specs.Prelude.{slice_get, slice_set}
 use Rattle.std.specs.List.{position_or_len}
 use Rattle.std.specs.Fmt.{decimal}
@@ -31,30 +31,45 @@ found_in text printed runs first entries =
 abbrev pub firsts : List FindingState → List ℕ
 firsts fs = map (λ (f : FindingState). f.first) fs
 
--- No result was noted more often than all results together.
-abbrev pub AreFew : FindingsState → Type 0
-AreFew f = All (λ (one : FindingState). one.runs ≤ f.noted) f.found
+-- how many runs had one of these results
+abbrev pub runs_of : List FindingState → ℕ
+runs_of [] = 0
+runs_of (f ∷ fs) = f.runs + runs_of fs
+
+-- Each noted result is counted.
+abbrev pub AreCounted : FindingsState → Type 0
+AreCounted f = runs_of f.found ≡ f.noted
 
 -- the place of a text, or the number of results if no result has it
 abbrev pub place_of : (text : List ℕ) → List FindingState → ℕ
 place_of text fs = position_or_len (λ (f : FindingState). bytes_eq text f.text) fs
 
--- the result after one more run with it
-abbrev pub once_more : FindingState → FindingState
-once_more f = record f { runs = f.runs + 1 }
+-- the result after this many more runs with it
+abbrev pub found_again : FindingState → (runs : ℕ) → FindingState
+found_again f runs = record f { runs = f.runs + runs }
 
--- the results after a run with this text: the result at the place is counted once more, or, if there is none, a new one
--- is appended
-abbrev pub noted_at : List FindingState → (place : ℕ) → Option FindingState → (text printed : List ℕ) → (number : ℕ) →
-    List FindingState
-noted_at fs place (Some f) text printed number = slice_set fs place (once_more f)
-noted_at fs place None text printed number =
-    fs ++ (record { text = text; printed = printed; runs = 1; first = number }) ∷ []
+-- the results after this one was found in later runs: the result at the place is counted for these runs, too, or, if
+-- there is none, the new one is appended
+abbrev pub joined_at : List FindingState → (place : ℕ) → Option FindingState → FindingState → List FindingState
+joined_at fs place (Some f) g = slice_set fs place (found_again f g.runs)
+joined_at fs place None g = fs ++ g ∷ []
+
+-- the results after this one was found in later runs
+abbrev pub joined : List FindingState → FindingState → List FindingState
+joined fs g = joined_at fs (place_of g.text fs) (slice_get fs (place_of g.text fs)) g
+
+-- the results after these were found in later runs
+abbrev pub merged : List FindingState → (later : List FindingState) → List FindingState
+merged fs [] = fs
+merged fs (g ∷ gs) = merged (joined fs g) gs
+
+-- a result of one run
+abbrev pub found_once : (text printed : List ℕ) → (number : ℕ) → FindingState
+found_once text printed number = record { text = text; printed = printed; runs = 1; first = number }
 
 -- the results after the run with this number had this text, and would be printed in this way
 abbrev pub noted : List FindingState → (text printed : List ℕ) → (number : ℕ) → List FindingState
-noted fs text printed number =
-    noted_at fs (place_of text fs) (slice_get fs (place_of text fs)) text printed number
+noted fs text printed number = joined fs (found_once text printed number)
 
 -- `runs N first S`, and the result as it is printed
 unfoldable pub finding_lines : (runs first : ℕ) → (printed : List ℕ) → List ℕ

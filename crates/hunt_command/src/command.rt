@@ -188,7 +188,7 @@ fn hunt_image<P: Threads + Sync, T: Traces, G: HuntObserver, W: LinkWrite>(
 }
 
 /// Whether one result is expected, and more than one was found.
-fn is_unexpected(expect_one: bool, findings: &Findings) -> bool
+pub fn is_unexpected(expect_one: bool, findings: &Findings) -> bool
     ensures { result ≡ is_unexpected expect_one findings.now.found }
 {
     expect_one && 1 < findings.count()
@@ -196,7 +196,7 @@ fn is_unexpected(expect_one: bool, findings: &Findings) -> bool
 
 /// The exit status of a hunt, given the greatest exit status of a machine, the numbers of the unfinished runs, and
 /// whether the results are not as expected.
-fn hunt_status(greatest: u8, unfinished: &[u32], unexpected: bool) -> u8
+pub fn hunt_status(greatest: u8, unfinished: &[u32], unexpected: bool) -> u8
     ensures status { result ≡ hunt_status greatest unfinished.now unexpected }
     ensures results { IsOfResults result }
 {

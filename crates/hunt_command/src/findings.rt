@@ -1,13 +1,13 @@
 //! The different results of runs, how many runs had each, and which runs are unfinished.
 
-ghost use Rattle.std.specs.Prelude.{◌≡◌, ◌+◌, ◌++◌, ◌<◌, ◌^◌, [], Some, IfOk, OnOk, codes, length, slice_get};
+ghost use Rattle.std.specs.Prelude.{◌≡◌, ◌+◌, ◌++◌, ◌<◌, ◌^◌, [], Some, IfOk, OnOk, codes, length, nat_lt, slice_get};
 ghost use Rattle.std.specs.Prelude.{String, string_bytes};
 ghost use Rattle.std.specs.Global.{Global as Allocator};
 ghost use Rattle.std.specs.Fmt.{decimal};
 ghost use Rattle.indexmap.specs.Layout.{set_value_at};
 ghost use Rattle.hunt_command.specs.declared.findings.Counted.{Counted as CountedValue};
-ghost use Rattle.hunt_command.specs.Findings.{finding_lines, findings_lines, firsts, hunt_lines, if_unfinished};
-ghost use Rattle.hunt_command.specs.Findings.{noted, numbers_text, unfinished_line};
+ghost use Rattle.hunt_command.specs.Findings.{finding_lines, findings_lines, firsts, hunt_lines, if_unfinished, joined};
+ghost use Rattle.hunt_command.specs.Findings.{merged, noted, numbers_text, place_of, unfinished_line};
 
 use indexmap::IndexMap;
 use schedules::SweepEnd;
@@ -35,7 +35,7 @@ pub struct Findings {
 
 impl Model for Findings {
     ghost use Rattle.std.specs.Prelude.{string_bytes};
-    ghost use Rattle.hunt_command.specs.Findings.{AreFew, FindingsState, found_in};
+    ghost use Rattle.hunt_command.specs.Findings.{AreCounted, FindingsState, found_in};
 
     ghost Value = { FindingsState };
 
@@ -46,7 +46,7 @@ impl Model for Findings {
       unfinished = f.unfinished.items;
     } };
 
-    ghost invariant = { λ f. AreFew (record {
+    ghost invariant = { λ f. AreCounted (record {
       found = found_in (λ text. string_bytes text) (λ counted. string_bytes counted.printed) (λ counted. counted.runs)
           (λ counted. counted.first) f.found.entries;
       noted = f.noted;
@@ -84,6 +84,66 @@ impl Findings {
         }
     }
 
+    /// How many results were noted.
+    pub fn noted(&self) -> u32
+        ensures { result ≡ self.now.noted }
+    {
+        self.noted
+    }
+
+    /// Whether a result has this text.
+    pub fn has(&self, text: &String) -> bool
+        ensures { result ≡ nat_lt (place_of (string_bytes text.now) self.now.found) (length self.now.found) }
+    {
+        match self.found.get_index_of(text) {
+            Some(_) => true,
+            None => false,
+        }
+    }
+
+    /// Notes that this many later runs had the result with this text. If it is new, it is printed as `printed`, and
+    /// `first` is the number of the first of them.
+    ///
+    /// # Errors
+    ///
+    /// [`AllocError`] if there is no memory for it.
+    pub fn join(
+        &mut self,
+        text: String,
+        printed: String,
+        runs: u32,
+        first: u32,
+    ) -> Result<(), AllocError>
+        requires { self.old.noted + runs < 2 ^ 32 }
+        ensures { OnOk result (self.new ≡ record self.old {
+          found = joined self.old.found (record {
+            text = string_bytes text;
+            printed = string_bytes printed;
+            runs = runs;
+            first = first;
+          });
+          noted = self.old.noted + runs;
+        }) }
+    {
+        let Some(place) = self.found.get_index_of(&text) else {
+            let counted = Counted {
+                runs,
+                first,
+                printed,
+            };
+            self.found.insert(text, counted)?;
+            self.noted += runs;
+            return Ok(());
+        };
+        let Some((_, before)) = self.found.get_index(place) else {
+            unreachable!()
+        };
+        let all = before.runs + runs;
+        put_at(&mut self.found, place, all);
+        self.noted += runs;
+        Ok(())
+    }
+
     /// Notes the result of the run with this number, which has this text. If it is new, it is printed as `printed`.
     ///
     /// # Errors
@@ -96,22 +156,65 @@ impl Findings {
           noted = self.old.noted + 1;
         }) }
     {
-        self.noted += 1;
-        let Some(place) = self.found.get_index_of(&text) else {
-            let counted = Counted {
-                runs: 1,
-                first: number,
-                printed,
-            };
-            self.found.insert(text, counted)?;
-            return Ok(());
-        };
-        let Some((_, before)) = self.found.get_index(place) else {
-            unreachable!()
-        };
-        let runs = before.runs + 1;
-        put_at(&mut self.found, place, runs);
+        self.join(text, printed, 1, number)
+    }
+
+    /// Notes the results of later runs, and which of these runs are unfinished.
+    ///
+    /// # Errors
+    ///
+    /// [`AllocError`] if there is no memory for them.
+    pub fn merge(&mut self, later: &Findings) -> Result<(), AllocError>
+        requires { self.old.noted + later.now.noted < 2 ^ 32 }
+        ensures { OnOk result (self.new ≡ record {
+          found = merged self.old.found later.now.found;
+          noted = self.old.noted + later.now.noted;
+          unfinished = self.old.unfinished ++ later.now.unfinished;
+        }) }
+    {
+        self.join_each(later)?;
+        for number in later.unfinished().iter() {
+            self.note_end(SweepEnd::Budget, *number)?;
+        }
         Ok(())
+    }
+
+    /// Notes the results of later runs.
+    fn join_each(&mut self, later: &Findings) -> Result<(), AllocError>
+        requires { self.old.noted + later.now.noted < 2 ^ 32 }
+        ensures { OnOk result (self.new ≡ record self.old {
+          found = merged self.old.found later.now.found;
+          noted = self.old.noted + later.now.noted;
+        }) }
+    {
+        for place in 0..later.count() {
+            let Some((text, counted)) = later.found.get_index(place) else {
+                unreachable!()
+            };
+            self.join_counted(text, counted)?;
+        }
+        Ok(())
+    }
+
+    /// Notes a result of later runs.
+    fn join_counted(&mut self, text: &String, counted: &Counted) -> Result<(), AllocError>
+        requires { self.old.noted + counted.now.runs < 2 ^ 32 }
+        ensures { OnOk result (self.new ≡ record self.old {
+          found = joined self.old.found (record {
+            text = string_bytes text.now;
+            printed = string_bytes counted.now.printed;
+            runs = counted.now.runs;
+            first = counted.now.first;
+          });
+          noted = self.old.noted + counted.now.runs;
+        }) }
+    {
+        self.join(
+            text.clone()?,
+            counted.printed.clone()?,
+            counted.runs,
+            counted.first,
+        )
     }
 
     /// The numbers of the unfinished runs, in the order in which they were noted.

@@ -26,7 +26,7 @@ mod running;
 mod runs;
 mod saving;
 
-pub use command::{Hunt, UNEXPECTED, UNFINISHED, hunt_command};
+pub use command::{Hunt, UNEXPECTED, UNFINISHED, hunt_command, hunt_status, is_unexpected};
 pub use findings::{Findings, findings_text};
 pub use lines::result_text;
 pub use observer::{HuntObserver, HuntProgress, NoHuntProgress};

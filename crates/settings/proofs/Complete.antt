@@ -12,14 +12,14 @@ use Rattle.clap.specs.Simple.{App, Shape, argument_words, built, built_leaf, ent
 use Rattle.clap.specs.Takes.{is_given}
 use Rattle.clap.specs.Walk.{Row, Text, answers_to, finished, nothing_held, rows_after, settled, walk, walk_from}
 use Rattle.command_forms.specs.Commands.{Bounds, asm_command, budget, check_command, combinations, debug_command}
-use Rattle.command_forms.specs.Commands.{dis_command, explain_command, explore_command, hunt_command, order_command}
+use Rattle.command_forms.specs.Commands.{dis_command, explain_command, explore_command, hunt_command, merge_command, order_command}
 use Rattle.command_forms.specs.Commands.{port, processor, queue, records, page_command, picture_command, replay_command}
 use Rattle.command_forms.specs.Commands.{run_command, runs}
 use Rattle.command_forms.specs.Commands.{shared_word, shared_words, stages, start, states, stats_command, step, steps}
 use Rattle.command_forms.specs.Commands.{depth, first_line, first_step, jobs, last_line, steps_command, story_command, study_command, sweep_steps}
 use Rattle.command_forms.specs.Commands.{seconds, step_count, trace_command, ultra_command, witness, words_command}
 use Rattle.command_forms.proofs.Lemmas.{commands}
-use Rattle.settings.specs.Given.{HasAsm, HasDebug, HasDis, HasExplore, HasHunt, HasLines, HasPage, HasPath, HasPicture}
+use Rattle.settings.specs.Given.{HasAsm, HasDebug, HasDis, HasExplore, HasHunt, HasLines, HasMerge, HasPage, HasPath, HasPicture}
 use Rattle.settings.specs.Given.{HasReplay, HasRun, HasSizes, HasStudy, IsComplete, IsOneOf, IsWhole, command_names}
 use Rattle.settings.proofs.NoHelp.{IsNoHelp, StopsAtNoHelp, walk_stops}
 use Rattle.settings.proofs.Numbers.{is_apart_or_number, number_there}
@@ -70,6 +70,7 @@ Has name rows =
     (Where (bytes_eq name (codes "dis")) (HasDis rows)
     (Where (bytes_eq name (codes "run")) (HasRun rows)
     (Where (bytes_eq name (codes "hunt")) (HasHunt rows)
+    (Where (bytes_eq name (codes "merge")) (HasMerge rows)
     (Where (bytes_eq name (codes "explore")) (HasExplore rows)
     (Where (bytes_eq name (codes "replay")) (HasReplay rows)
     (Where (bytes_eq name (codes "order")) (HasLines rows)
@@ -81,7 +82,7 @@ Has name rows =
     (Where (bytes_eq name (codes "trace")) (HasPath (codes "TRACE") rows)
     (Where (bytes_eq name (codes "steps")) (HasAsm rows)
     (Where (bytes_eq name (codes "debug")) (HasDebug rows)
-    ⊤))))))))))))))))
+    ⊤)))))))))))))))))
 
 is_one_of : (name : Text) (names : List Text) → list_any (λ x. bytes_eq name x) names ≡ true → IsOneOf name names
 is_one_of name [] e = absurd (true≢false (sym e))
@@ -101,6 +102,7 @@ whole name rows known has = record {
   dis = λ is. subst (λ n. Has n rows) is has;
   run = λ is. subst (λ n. Has n rows) is has;
   hunt = λ is. subst (λ n. Has n rows) is has;
+  merge = λ is. subst (λ n. Has n rows) is has;
   explore = λ is. subst (λ n. Has n rows) is has;
   replay = λ is. subst (λ n. Has n rows) is has;
   order = λ is. subst (λ n. Has n rows) is has;
@@ -289,6 +291,11 @@ hunt_provided words e = whole (codes "hunt") _ refl (
   number_there (built_leaf hunt_command.top) depth words refl e,
 )
 
+merge_provided : IsProvided (built_leaf merge_command.top)
+unfolding commands
+merge_provided words e = whole (codes "merge") _ refl
+    (required_there (built_leaf merge_command.top) (codes "FOUND") words refl (λ rows. required (is_given (codes "FOUND") rows)) e)
+
 -- ---- the subcommand that words name
 
 -- All subcommands of a list that answer to a name have everything that they require.
@@ -327,19 +334,20 @@ enters : (stop : Option (Text × List Text)) → StopsAtNoHelp stop → entered_
 unfolding built_ultra commands
 enters None unhelped e has = absurd (true≢false (sym has))
 enters (Some p) unhelped e has =
-    let provided : AreProvidedFrom p.0 18 = ((λ is. absurd (helped (bytes_eq (codes "help") p.0) (no_help p.0 unhelped) is)), tt) in
-    let provided : AreProvidedFrom p.0 17 = ((λ is. explain_provided), provided) in
-    let provided : AreProvidedFrom p.0 16 = ((λ is. debug_provided), provided) in
-    let provided : AreProvidedFrom p.0 15 = ((λ is. steps_provided), provided) in
-    let provided : AreProvidedFrom p.0 14 = ((λ is. trace_provided), provided) in
-    let provided : AreProvidedFrom p.0 13 = ((λ is. study_provided), provided) in
-    let provided : AreProvidedFrom p.0 12 = ((λ is. page_provided), provided) in
-    let provided : AreProvidedFrom p.0 11 = ((λ is. picture_provided), provided) in
-    let provided : AreProvidedFrom p.0 10 = ((λ is. stats_provided), provided) in
-    let provided : AreProvidedFrom p.0 9 = ((λ is. story_provided), provided) in
-    let provided : AreProvidedFrom p.0 8 = ((λ is. order_provided), provided) in
-    let provided : AreProvidedFrom p.0 7 = ((λ is. replay_provided), provided) in
-    let provided : AreProvidedFrom p.0 6 = ((λ is. explore_provided), provided) in
+    let provided : AreProvidedFrom p.0 19 = ((λ is. absurd (helped (bytes_eq (codes "help") p.0) (no_help p.0 unhelped) is)), tt) in
+    let provided : AreProvidedFrom p.0 18 = ((λ is. explain_provided), provided) in
+    let provided : AreProvidedFrom p.0 17 = ((λ is. debug_provided), provided) in
+    let provided : AreProvidedFrom p.0 16 = ((λ is. steps_provided), provided) in
+    let provided : AreProvidedFrom p.0 15 = ((λ is. trace_provided), provided) in
+    let provided : AreProvidedFrom p.0 14 = ((λ is. study_provided), provided) in
+    let provided : AreProvidedFrom p.0 13 = ((λ is. page_provided), provided) in
+    let provided : AreProvidedFrom p.0 12 = ((λ is. picture_provided), provided) in
+    let provided : AreProvidedFrom p.0 11 = ((λ is. stats_provided), provided) in
+    let provided : AreProvidedFrom p.0 10 = ((λ is. story_provided), provided) in
+    let provided : AreProvidedFrom p.0 9 = ((λ is. order_provided), provided) in
+    let provided : AreProvidedFrom p.0 8 = ((λ is. replay_provided), provided) in
+    let provided : AreProvidedFrom p.0 7 = ((λ is. explore_provided), provided) in
+    let provided : AreProvidedFrom p.0 6 = ((λ is. merge_provided), provided) in
     let provided : AreProvidedFrom p.0 5 = ((λ is. hunt_provided), provided) in
     let provided : AreProvidedFrom p.0 4 = ((λ is. run_provided), provided) in
     let provided : AreProvidedFrom p.0 3 = ((λ is. dis_provided), provided) in

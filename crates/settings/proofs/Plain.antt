@@ -1,6 +1,6 @@
 -- The command lines without options.
 use Rattle.std.proofs.Common.{◌≡◌, ◌∙◌, ◌==◌, ◌↔◌, Bool, true, false, true≢false, refl, sym, ap, subst, inl, inr, arith}
-use Rattle.std.proofs.Common.{List, [], ◌∷◌, map, Option, None, Some, Result, Ok, Err, IfOk, MatchResult, codes}
+use Rattle.std.proofs.Common.{◌<◌, length, List, [], ◌∷◌, map, Option, None, Some, Result, Ok, Err, IfOk, MatchResult, codes}
 use Rattle.std.proofs.Common.{option_map}
 use Rattle.std.specs.Borrow.{Bor}
 use Rattle.std.specs.Str.{bytes_eq}
@@ -436,6 +436,55 @@ explain_are others words named other said = apart (name_of other) (codes "explai
 explain_given : (others words : List Text) → HasOthers (codes "explain") others words → GivePlain words
 explain_given others words named = give _ words (codes "explain") (explain_rows others) (explain_met others words named) (explain_are others words named)
 
+-- ---- `merge FOUND..`
+
+merge_rows : Text → List Text → List Row
+merge_rows file others =
+    record { id = codes "FOUND"; values = file ∷ others; count = None; source = Some CommandLine; reading = AsWritten }
+    ∷ unset_flags (codes "expect-one" ∷ codes "decimal" ∷ codes "json" ∷ [])
+
+merge_met : (file : Text) (others words : List Text) → HasOthers (codes "merge") (file ∷ others) words → Meets words (codes "merge") (merge_rows file others)
+unfolding row unset_flags merge_rows clap_on_literals commands
+merge_met a [] words named =
+    let h : IsNoOption a = named.2 0 a (omega arith) in
+    rw (named.1, no_hyphens a h, no_hyphen a h, no_hyphen a h) (refl, refl)
+merge_met a (b ∷ []) words named =
+    let h : IsNoOption a = named.2 0 a (omega arith) in
+    let k : IsNoOption b = named.2 1 a (omega arith) in
+    rw (named.1, no_hyphens a h, no_hyphen a h, no_hyphen a h, no_hyphens b k, no_hyphen b k, no_hyphen b k) (refl, refl)
+merge_met a (b ∷ c ∷ []) words named =
+    let h : IsNoOption a = named.2 0 a (omega arith) in
+    let k : IsNoOption b = named.2 1 a (omega arith) in
+    let l : IsNoOption c = named.2 2 a (omega arith) in
+    rw (named.1, no_hyphens a h, no_hyphen a h, no_hyphen a h) (rw (no_hyphens b k, no_hyphen b k, no_hyphen b k)
+    (rw (no_hyphens c l, no_hyphen c l, no_hyphen c l) (refl, refl)))
+merge_met a (b ∷ c ∷ d ∷ []) words named =
+    let h : IsNoOption a = named.2 0 a (omega arith) in
+    let k : IsNoOption b = named.2 1 a (omega arith) in
+    let l : IsNoOption c = named.2 2 a (omega arith) in
+    let m : IsNoOption d = named.2 3 a (omega arith) in
+    rw (named.1, no_hyphens a h, no_hyphen a h, no_hyphen a h) (rw (no_hyphens b k, no_hyphen b k, no_hyphen b k)
+    (rw (no_hyphens c l, no_hyphen c l, no_hyphen c l) (rw (no_hyphens d m, no_hyphen d m, no_hyphen d m) (refl, refl))))
+merge_met a (b ∷ c ∷ d ∷ e ∷ others) words named = absurd (omega (arith, named.3))
+
+merge_are : (file : Text) (others words : List Text) → HasOthers (codes "merge") (file ∷ others) words → (s : Settings)
+    → (name_of s ≡ codes "merge") × Gives (merge_rows file others) s → IsPlain s words
+unfolding row unset_flags merge_rows
+merge_are file others words named (asked.Merge m) said =
+    let them : file ∷ others ≡ texts_of m.files.items = sym said.1.0 in (
+      subst (λ them. HasOthers (codes "merge") them words) them named,
+      subst (λ (them : List Text). 0 < length them) them (omega arith),
+      unset m.expect_one said.1.1.0,
+      as_it_is m.style said.1.2,
+    )
+merge_are file others words named other said = apart (name_of other) (codes "merge") refl said.0
+
+-- `merge` gives the files after it, of which there are at most four.
+merge_given : (files words : List Text) → HasOthers (codes "merge") files words → 0 < length files → GivePlain words
+merge_given [] words named some = absurd (omega arith)
+merge_given (file ∷ others) words named some =
+    give _ words (codes "merge") (merge_rows file others) (merge_met file others words named) (merge_are file others words named)
+
 -- ---- all commands
 
 -- Words that say some settings plainly give settings that they say plainly.
@@ -446,6 +495,7 @@ plain_given (asked.Asm a) words said = files_given OfAsm a.file.now a.out.now wo
 plain_given (asked.Dis d) words said = file_given OfDis d.file.now words said.0
 plain_given (asked.Run r) words said = file_given OfRun r.file.now words said.0
 plain_given (asked.Hunt h) words said = file_given OfHunt h.file.now words said.0
+plain_given (asked.Merge m) words said = merge_given (texts_of m.files.items) words said.0 said.1
 plain_given (asked.Explore x) words said = file_given OfExplore x.file.now words said.0
 plain_given (asked.Replay r) words said = files_given OfReplay r.replay.trace.now r.replay.file.now words said.0.0
 plain_given (asked.Order o) words said = files_given OfOrder o.lines.replay.trace.now o.lines.replay.file.now words said.0.0

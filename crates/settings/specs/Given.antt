@@ -58,12 +58,15 @@ HasHunt rows =
     HasPath (codes "FILE") rows × HasSizes rows × HasNumber steps.bounds rows × HasNumber runs.bounds rows
     × HasNumber start.bounds rows × HasNumber jobs rows × HasNumber depth rows
 
+abbrev pub HasMerge : List Row → Type 0
+HasMerge rows = HasPath (codes "FOUND") rows
+
 -- the program's subcommands
 abbrev pub command_names : List Text
 command_names =
-    codes "words" ∷ codes "check" ∷ codes "asm" ∷ codes "dis" ∷ codes "run" ∷ codes "hunt" ∷ codes "explore"
-    ∷ codes "replay" ∷ codes "order" ∷ codes "story" ∷ codes "stats" ∷ codes "picture" ∷ codes "page" ∷ codes "study"
-    ∷ codes "trace" ∷ codes "steps" ∷ codes "debug" ∷ codes "explain" ∷ []
+    codes "words" ∷ codes "check" ∷ codes "asm" ∷ codes "dis" ∷ codes "run" ∷ codes "hunt" ∷ codes "merge"
+    ∷ codes "explore" ∷ codes "replay" ∷ codes "order" ∷ codes "story" ∷ codes "stats" ∷ codes "picture" ∷ codes "page"
+    ∷ codes "study" ∷ codes "trace" ∷ codes "steps" ∷ codes "debug" ∷ codes "explain" ∷ []
 
 abbrev pub IsOneOf : Text → List Text → Type 0
 IsOneOf name [] = ⊥
@@ -78,6 +81,7 @@ pub record IsWhole (name : Text) (rows : List Row) : Type 0 where
   pub dis : name ≡ codes "dis" → HasDis rows
   pub run : name ≡ codes "run" → HasRun rows
   pub hunt : name ≡ codes "hunt" → HasHunt rows
+  pub merge : name ≡ codes "merge" → HasMerge rows
   pub explore : name ≡ codes "explore" → HasExplore rows
   pub replay : name ≡ codes "replay" → HasReplay rows
   pub order : name ≡ codes "order" → HasLines rows

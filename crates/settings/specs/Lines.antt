@@ -13,6 +13,7 @@ use Rattle.settings.specs.declared.choice.Asm.{Asm}
 use Rattle.settings.specs.declared.choice.Dis.{Dis}
 use Rattle.settings.specs.declared.choice.Run.{Run}
 use Rattle.settings.specs.declared.choice.Hunt.{Hunt}
+use Rattle.settings.specs.declared.choice.Merge.{Merge}
 use Rattle.settings.specs.declared.choice.Explore.{Explore}
 use Rattle.settings.specs.declared.choice.Replay.{Replay}
 use Rattle.settings.specs.declared.choice.Report.{Report}
@@ -98,6 +99,10 @@ GivesHunt rows h = IsPath (codes "FILE") rows h.file.now
     × IsNumber steps rows h.budget × IsNumber runs rows h.runs × IsNumber start rows h.start
     × IsChoice jobs rows h.jobs × IsChoice depth rows h.depth
 
+abbrev pub GivesMerge : List Row → Merge → Type 0
+GivesMerge rows m = (texts_of m.files.items ≡ unwrap_or (all_of (codes "FOUND") rows) [])
+    × IsFlag (codes "expect-one") rows m.expect_one × GivesStyle rows m.style
+
 abbrev pub GivesExplore : List Row → Explore → Type 0
 GivesExplore rows x = IsPath (codes "FILE") rows x.file.now
     × IsOption (codes "trace") rows x.trace × IsOption (codes "page") rows x.page
@@ -166,6 +171,7 @@ name_of (asked.Asm a) = codes "asm"
 name_of (asked.Dis d) = codes "dis"
 name_of (asked.Run r) = codes "run"
 name_of (asked.Hunt h) = codes "hunt"
+name_of (asked.Merge m) = codes "merge"
 name_of (asked.Explore x) = codes "explore"
 name_of (asked.Replay r) = codes "replay"
 name_of (asked.Order o) = codes "order"
@@ -187,6 +193,7 @@ Gives rows (asked.Asm a) = GivesAsm rows a
 Gives rows (asked.Dis d) = GivesDis rows d
 Gives rows (asked.Run r) = GivesRun rows r
 Gives rows (asked.Hunt h) = GivesHunt rows h
+Gives rows (asked.Merge m) = GivesMerge rows m
 Gives rows (asked.Explore x) = GivesExplore rows x
 Gives rows (asked.Replay r) = GivesReport rows r
 Gives rows (asked.Order o) = GivesOrder rows o

@@ -1,5 +1,5 @@
 -- Command lines without options, word by word.
-use Rattle.std.specs.Prelude.{◌≡◌, ◌≢◌, ◌≤◌, false, List, [], ◌∷◌, codes, length, map, None, slice_get, IfSome}
+use Rattle.std.specs.Prelude.{◌≡◌, ◌≢◌, ◌≤◌, ◌<◌, false, List, [], ◌∷◌, codes, length, map, None, slice_get, IfSome}
 use Rattle.std.specs.List.{All}
 use Rattle.std.specs.Borrow.{Bor}
 use Rattle.clap.specs.Words.{Text}
@@ -48,8 +48,8 @@ IsAsItIs y = (y.symbols ≡ None) × (y.decimal ≡ false) × (y.json ≡ false)
 abbrev pub TakesAll : Lines → Type 0
 TakesAll l = (l.processor ≡ None) × (l.word ≡ None) × (l.from ≡ None) × (l.to ≡ None) × IsAsItIs l.style
 
--- The words are just the command of these settings with its files, or `explain` with at most four words. So no flag is
--- set, no trace is written, no names are printed, no choice is made, and each number is its default.
+-- The words are just the command of these settings with its files, or `explain` or `merge` with at most four words. So no
+-- flag is set, no trace is written, no names are printed, no choice is made, and each number is its default.
 abbrev pub IsPlain : Settings → List Text → Type 0
 IsPlain (asked.Words w) words = HasFile (codes "words") w.file.now words
 IsPlain (asked.Check c) words = HasFile (codes "check") c.file.now words × (c.course ≡ false) × (c.json ≡ false)
@@ -64,6 +64,8 @@ IsPlain (asked.Hunt h) words = HasFile (codes "hunt") h.file.now words
     × (h.trace ≡ None) × (h.page ≡ None) × (h.observe ≡ None) × (h.schedule ≡ None) × (h.overwrite ≡ false)
     × (h.expect_one ≡ false) × (h.quiet ≡ false) × IsAsItIs h.style × AreUsual h.sizes × (h.budget ≡ 100000)
     × (h.runs ≡ 1000) × (h.start ≡ 1) × (h.jobs ≡ None) × (h.depth ≡ None)
+IsPlain (asked.Merge m) words = HasOthers (codes "merge") (texts_of m.files.items) words
+    × (0 < length (texts_of m.files.items)) × (m.expect_one ≡ false) × IsAsItIs m.style
 IsPlain (asked.Explore x) words = HasFile (codes "explore") x.file.now words
     × (x.trace ≡ None) × (x.page ≡ None) × (x.observe ≡ None) × (x.against ≡ None) × (x.each ≡ false)
     × (x.fair ≡ false) × (x.every ≡ false) × (x.quiet ≡ false)

@@ -32,8 +32,8 @@ pub fn settings<'a>(alloc: Global, words: &'a [&'a str]) -> Result<Settings<'a>,
     // memory. A request for help or the version is a fault, too.
     ensures kinds { FailsBy (fault_of ultra_command (texts_of words.entry.now)) result }
 
-    // If the words are just a command with its files, or `explain` with at most four words, the settings say just that,
-    // with every option as if it were not given. The only possible error is out of memory.
+    // If the words are just a command with its files, or `explain` or `merge` with at most four words, the settings say
+    // just that, with every option as if it were not given. The only possible error is out of memory.
     ensures plain { (s : Settings) → IsPlain s (texts_of words.entry.now) →
         MatchResult result (λ given. IsPlain given (texts_of words.entry.now))
         (λ e. kind_of e ≡ ErrorKind.OutOfMemory) }

@@ -13,6 +13,7 @@ pub enum Settings<'a> {
     Dis(Dis<'a>),
     Run(Run<'a>),
     Hunt(Hunt<'a>),
+    Merge(Merge<'a>),
     Explore(Explore<'a>),
     Replay(Report<'a>),
     Order(Order<'a>),
@@ -380,4 +381,15 @@ pub struct Hunt<'a> {
     pub jobs: Option<u8>,
     /// The depth of the bugs that a hunt by priorities looks for, from 1 to 16, if given.
     pub depth: Option<u8>,
+}
+
+/// `merge FOUND..`.
+#[derive(Debug, PartialEq, Eq, Drop)]
+pub struct Merge<'a> {
+    /// What hunts printed, in the order of their runs.
+    pub files: Vec<&'a str>,
+    /// Whether all runs are expected to come to one result.
+    pub expect_one: bool,
+    /// How lines are printed.
+    pub style: LineStyle<'a>,
 }

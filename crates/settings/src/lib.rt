@@ -7,6 +7,6 @@ mod reads;
 
 pub use asked::{settings, status_of};
 pub use choice::{
-    Asm, Check, Counts, Dis, Explain, Explore, Hunt, LineStyle, Lines, Order, Page, Picture,
+    Asm, Check, Counts, Dis, Explain, Explore, Hunt, LineStyle, Lines, Merge, Order, Page, Picture,
     Replay, Report, Run, Schedule, Session, Settings, Sizes, Story, Study, Trace, Words,
 };

@@ -2,8 +2,8 @@
 ghost use Rattle.std.specs.Prelude.{◌≡◌, ◌≤◌, ◌<◌, ◌^◌, codes, unwrap_or, [], IfOk};
 ghost use Rattle.clap.specs.Words.{all_of, found_of, rows_of, subcommand_rows_of};
 ghost use Rattle.settings.specs.Lines.{AreSizes, GivesAsm, GivesCheck, GivesCounts, GivesDis, GivesExplain};
-ghost use Rattle.settings.specs.Lines.{GivesExplore, GivesHunt, GivesLines, GivesOrder, GivesPage, GivesPicture};
-ghost use Rattle.settings.specs.Lines.{GivesReplay};
+ghost use Rattle.settings.specs.Lines.{GivesExplore, GivesHunt, GivesLines, GivesMerge, GivesOrder, GivesPage};
+ghost use Rattle.settings.specs.Lines.{GivesPicture, GivesReplay};
 ghost use Rattle.settings.specs.Lines.{GivesReport, GivesRun, GivesSchedule, GivesSession, GivesStory, GivesStudy};
 ghost use Rattle.settings.specs.Lines.{GivesStyle, GivesTrace, GivesWords, IsChoice, IsChosen, IsFlag, IsNumber};
 ghost use Rattle.settings.specs.Lines.{IsOption, IsPath};
@@ -14,7 +14,7 @@ ghost use Rattle.settings.specs.Given.{IsComplete};
 ghost use Rattle.command_forms.specs.Forms.{bounded, bounds_as, ranged, ranged_as};
 
 use crate::choice::{
-    Asm, Check, Counts, Dis, Explain, Explore, Hunt, LineStyle, Lines, Order, Page, Picture,
+    Asm, Check, Counts, Dis, Explain, Explore, Hunt, LineStyle, Lines, Merge, Order, Page, Picture,
     Replay, Report, Run, Schedule, Session, Settings, Sizes, Story, Study, Trace, Words,
 };
 use clap::ArgMatches;
@@ -441,7 +441,17 @@ fn hunt<'a>(matches: &ArgMatches<'a>) -> Hunt<'a>
     }
 }
 
-/// The settings of the subcommand in the matches. The words that `explain` is given take memory.
+fn merge<'a>(alloc: Global, matches: &ArgMatches<'a>) -> Result<Merge<'a>, AllocError>
+    ensures { IfOk result (GivesMerge (rows_of (found_of matches.now))) }
+{
+    Ok(Merge {
+        files: words_of(alloc, matches, "FOUND")?,
+        expect_one: flag(matches, "expect-one"),
+        style: style(matches),
+    })
+}
+
+/// The settings of the subcommand in the matches. The words that `explain` and `merge` are given take memory.
 pub(crate) fn subcommand_settings<'a>(
     alloc: Global,
     matches: &ArgMatches<'a>,
@@ -457,6 +467,7 @@ pub(crate) fn subcommand_settings<'a>(
         "dis" => Ok(Settings::Dis(dis(inner))),
         "run" => Ok(Settings::Run(run(inner))),
         "hunt" => Ok(Settings::Hunt(hunt(inner))),
+        "merge" => Ok(Settings::Merge(merge(alloc, inner)?)),
         "explore" => Ok(Settings::Explore(explore(inner))),
         "replay" => Ok(Settings::Replay(report(inner))),
         "order" => Ok(Settings::Order(order(inner))),

@@ -9,6 +9,7 @@ mod debug;
 mod explain;
 mod explore;
 mod hunt;
+mod merge;
 mod order;
 mod page;
 mod picture;
@@ -79,7 +80,7 @@ const REFUSED: &str = "\
 $ ultra
 MissingSubcommand
 error: 'ultra' requires a subcommand but one was not provided
-  [subcommands: words, check, asm, dis, run, hunt, explore, replay, order, story, stats, picture, page, study, trace, steps, debug, explain, help]
+  [subcommands: words, check, asm, dis, run, hunt, merge, explore, replay, order, story, stats, picture, page, study, trace, steps, debug, explain, help]
 
 Usage: ultra <COMMAND>
 $ ultra frob
@@ -128,7 +129,7 @@ DisplayVersion
 ultra 0.1.0
 ";
 
-static CASES: [&str; 26] = [
+static CASES: [&str; 29] = [
     TAKEN,
     REFUSED,
     run::TAKEN,
@@ -147,6 +148,9 @@ static CASES: [&str; 26] = [
     explore::HELP,
     hunt::TAKEN,
     hunt::HELP,
+    merge::TAKEN,
+    merge::REFUSED,
+    merge::HELP,
     check::TAKEN,
     check::HELP,
     picture::TAKEN,

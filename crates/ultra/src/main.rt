@@ -39,7 +39,7 @@ use machine_picture::Svg;
 use page_command::{Legend, Window};
 use processor_threads::{Gate, Open};
 use run_command::{Progress, run_command, threaded_run_command, unlogged_run_command};
-use search_files::{asks_for_property, explore_file, hunt_file, study_file};
+use search_files::{asks_for_property, explore_file, hunt_file, merge_files, study_file};
 use settings::{
     Counts, Lines, Replay, Run, Schedule, Session, Settings, settings, status_of,
 };
@@ -299,6 +299,7 @@ fn execute<
             let page = page(WHOLE, Legend::of_symbols(names.as_ref()));
             Ok(hunt_file(rt, hunt, page, terminal, reason, out, err)?)
         }
+        Settings::Merge(merge) => Ok(merge_files(rt, merge, reason, out, err)?),
         Settings::Explore(explore) => {
             let page = page(WHOLE, Legend::of_symbols(names.as_ref()));
             let graph = page_of_graph(names.as_ref());

@@ -87,6 +87,7 @@ fn style_of(settings: &Settings<'_>) -> Option<Style> {
     let (shapes, lines) = match settings {
         Settings::Run(run) => (shapes::report(), &run.style),
         Settings::Hunt(hunt) => (shapes::hunt(), &hunt.style),
+        Settings::Merge(merge) => (shapes::hunt(), &merge.style),
         Settings::Explore(explore) if explore.every => (shapes::sizes(), &explore.style),
         Settings::Explore(explore) => (shapes::results(), &explore.style),
         Settings::Replay(report) => (shapes::report(), &report.style),

@@ -48,6 +48,7 @@ fn symbols_of<'a>(settings: &Settings<'a>) -> Option<&'a str> {
         Settings::Dis(dis) => dis.symbols,
         Settings::Run(run) => run.style.symbols,
         Settings::Hunt(hunt) => hunt.style.symbols,
+        Settings::Merge(merge) => merge.style.symbols,
         Settings::Explore(explore) => explore.style.symbols,
         Settings::Replay(report) => report.style.symbols,
         Settings::Order(order) => order.lines.style.symbols,
@@ -88,6 +89,7 @@ fn has_two_formats(settings: &Settings<'_>) -> bool {
     match settings {
         Settings::Run(run) => is_twofold(&run.style),
         Settings::Hunt(hunt) => is_twofold(&hunt.style),
+        Settings::Merge(merge) => is_twofold(&merge.style),
         Settings::Explore(explore) => is_twofold(&explore.style),
         Settings::Replay(report) => is_twofold(&report.style),
         Settings::Order(order) => {
@@ -118,6 +120,7 @@ fn reads_standard_input(settings: &Settings<'_>) -> bool {
         Settings::Dis(dis) => dis.file == STANDARD,
         Settings::Run(run) => run.file == STANDARD,
         Settings::Hunt(hunt) => hunt.file == STANDARD,
+        Settings::Merge(merge) => merge.files.iter().any(|path| *path == STANDARD),
         Settings::Explore(explore) => { explore.file == STANDARD || is_standard(explore.against) }
         Settings::Replay(report) => {
             report.replay.trace == STANDARD || report.replay.file == STANDARD

@@ -28,7 +28,7 @@ fn run(alloc: Global, words: &[&str]) -> Ran {
 
 /// The names in the order of the list: the codes and ends of commands and libraries, the faults of a processor, the
 /// errors of the debugger, and the pages.
-static NAMES: [&str; 55] = [
+static NAMES: [&str; 59] = [
     "V1",
     "A1",
     "A2",
@@ -42,6 +42,10 @@ static NAMES: [&str; 55] = [
     "S3",
     "S4",
     "S5",
+    "M1",
+    "M2",
+    "M3",
+    "M4",
     "I1",
     "I2",
     "I3",

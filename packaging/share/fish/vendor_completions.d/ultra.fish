@@ -45,6 +45,7 @@ complete -c ultra -n __ultra_wants_command -a asm -d 'Assemble a text to an imag
 complete -c ultra -n __ultra_wants_command -a dis -d 'Print the code of an image, a line for each word up to the last that is not zero'
 complete -c ultra -n __ultra_wants_command -a run -d 'Run an image on a machine of up to 64 processors and print its report'
 complete -c ultra -n __ultra_wants_command -a hunt -d 'Run an image many times by random schedules, and print each different result once'
+complete -c ultra -n __ultra_wants_command -a merge -d 'Merge what hunts of adjacent runs printed into what one hunt of all runs prints'
 complete -c ultra -n __ultra_wants_command -a explore -d 'Print every final result that a program can have on 1 to 64 processors, over all schedules'
 complete -c ultra -n __ultra_wants_command -a replay -d 'Take the steps of a trace on a machine that opens on an image, and print its report'
 complete -c ultra -n __ultra_wants_command -a order -d 'Print the serial order of whole instructions that explains the run of a trace'
@@ -121,6 +122,13 @@ complete -c ultra -n '__ultra_has_command hunt' -l jobs -x -a '1 2 3 4 5 6 7 8 9
 complete -c ultra -n '__ultra_has_command hunt' -l depth -x -a '1 2 3 4 5 6 7 8 9 10 11 12 13 14 15 16' -d 'Depth of the bugs that --schedule pct looks for, 1 to 16: one more than the changes of priority [default: 12]'
 complete -c ultra -n '__ultra_has_command hunt' -l help -d 'Print help'
 complete -c ultra -n '__ultra_wants_more hunt 1 --trace --page --observe --schedule --symbols --k --c --b --r --words --budget --runs --start --jobs --depth' -F
+
+complete -c ultra -n '__ultra_has_command merge' -l expect-one -d 'Expect all runs to come to one result; if they do not, the exit status says so'
+complete -c ultra -n '__ultra_has_command merge' -l symbols -r -F -d 'Print names beside addresses and words, from the symbol table of an ELF file or from what `nm` prints; not with --json'
+complete -c ultra -n '__ultra_has_command merge' -l decimal -d 'Print values in decimal, in two\'s complement; not with --json'
+complete -c ultra -n '__ultra_has_command merge' -l json -d 'Print each line as a JSON object'
+complete -c ultra -n '__ultra_has_command merge' -l help -d 'Print help'
+complete -c ultra -n '__ultra_wants_more merge 65536 --symbols' -F
 
 complete -c ultra -n '__ultra_has_command explore' -l trace -r -F -d 'Where to write the steps to the result of --witness, those of a lasso, or those that break a property, for `ultra replay`; opened then'
 complete -c ultra -n '__ultra_has_command explore' -l page -r -F -d 'Where to write a page for a browser that plays the same steps, as `ultra page` makes it'
@@ -247,6 +255,10 @@ complete -c ultra -n '__ultra_wants_more explain 1' -a S2 -d 'a line of a text o
 complete -c ultra -n '__ultra_wants_more explain 1' -a S3 -d 'a number of a step is out of its range'
 complete -c ultra -n '__ultra_wants_more explain 1' -a S4 -d 'a text has more than 4,194,304 steps'
 complete -c ultra -n '__ultra_wants_more explain 1' -a S5 -d 'a text of steps has more than 256 MiB'
+complete -c ultra -n '__ultra_wants_more explain 1' -a M1 -d 'a text for `merge` is not what a hunt printed'
+complete -c ultra -n '__ultra_wants_more explain 1' -a M2 -d 'the runs of a text for `merge` do not begin with the one after those of the text before it'
+complete -c ultra -n '__ultra_wants_more explain 1' -a M3 -d 'texts for `merge` have 4,294,967,296 runs or more'
+complete -c ultra -n '__ultra_wants_more explain 1' -a M4 -d 'a text for `merge` has more than 64 MiB'
 complete -c ultra -n '__ultra_wants_more explain 1' -a I1 -d 'an image ends before its header or its table of segments does'
 complete -c ultra -n '__ultra_wants_more explain 1' -a I2 -d 'an image is no ELF32 executable for RISC-V'
 complete -c ultra -n '__ultra_wants_more explain 1' -a I3 -d 'the header of an image asks for something that this machine does not have'
@@ -296,6 +308,7 @@ complete -c ultra -n '__ultra_wants_more help 1' -a asm -d 'Assemble a text to a
 complete -c ultra -n '__ultra_wants_more help 1' -a dis -d 'Print the code of an image, a line for each word up to the last that is not zero'
 complete -c ultra -n '__ultra_wants_more help 1' -a run -d 'Run an image on a machine of up to 64 processors and print its report'
 complete -c ultra -n '__ultra_wants_more help 1' -a hunt -d 'Run an image many times by random schedules, and print each different result once'
+complete -c ultra -n '__ultra_wants_more help 1' -a merge -d 'Merge what hunts of adjacent runs printed into what one hunt of all runs prints'
 complete -c ultra -n '__ultra_wants_more help 1' -a explore -d 'Print every final result that a program can have on 1 to 64 processors, over all schedules'
 complete -c ultra -n '__ultra_wants_more help 1' -a replay -d 'Take the steps of a trace on a machine that opens on an image, and print its report'
 complete -c ultra -n '__ultra_wants_more help 1' -a order -d 'Print the serial order of whole instructions that explains the run of a trace'

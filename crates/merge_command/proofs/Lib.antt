@@ -1,0 +1,12 @@
+pub mod Joining
+pub mod OneHunt
+pub mod Splitting
+pub mod Numerals
+pub mod LineByLine
+pub mod Utf8
+pub mod Outcomes
+pub mod Results
+pub mod ReadBack
+pub mod Texts
+pub mod Written
+pub mod Files
