@@ -10,6 +10,7 @@ mod output;
 mod page;
 mod refusal;
 mod reports;
+mod shrinking;
 mod standard_streams;
 mod symbols;
 
@@ -19,6 +20,7 @@ use crate::output::{Output, format_of};
 use crate::page::page;
 use crate::refusal::Refusal;
 use crate::reports::{Reports, place_of};
+use crate::shrinking::shrink_file;
 use crate::standard_streams::StandardStreams;
 use crate::symbols::symbol_bytes;
 use asm_commands::{check_command, course_check_command, dis_command};
@@ -336,6 +338,7 @@ fn execute<
             Ok(text_command(alloc, &mut trace, out, err))
         }
         Settings::Steps(schedule) => write_steps(rt, schedule, reason, out, err),
+        Settings::Shrink(shrink) => shrink_file(rt, shrink, reason, out, err),
         Settings::Debug(session) => debug_file(rt, session, reason, out, err),
         Settings::Explain(explain) => {
             let topics = all_topics();

@@ -17,6 +17,10 @@ impl<E: Write> Write for Reports<'_, E> {
         if let Some(code) = buf.strip_prefix(b"ultra: ".as_slice()) {
             self.letter = code.first().copied();
         }
+        // A second line names the file already.
+        if buf.starts_with(b"  ") {
+            self.letter = None;
+        }
         self.err.write(buf)
     }
 
@@ -54,6 +58,7 @@ pub(crate) fn place_of<'a>(settings: &Settings<'a>, letter: u8) -> Option<Place<
         (_, Settings::Stats(counts)) => place_of_replay(&counts.replay, letter),
         (_, Settings::Picture(asked)) => place_of_replay(&asked.replay, letter),
         (_, Settings::Page(asked)) => place_of_replay(&asked.replay, letter),
+        (_, Settings::Shrink(shrink)) => place_of_replay(&shrink.replay, letter),
         _ => None,
     }
 }

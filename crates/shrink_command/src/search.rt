@@ -1,0 +1,210 @@
+//! The search for a run that leaves the same, with fewer changes and references.
+//!
+//! It begins with the references of the serial order, and changes their list: it leaves out parts, first large ones and
+//! then smaller ones (delta debugging); it sorts parts by processors; and it moves a block of references of one
+//! processor to the next such block. It keeps a list if its run leaves the same and is shorter. What is left out is
+//! mostly the spinning of processors that wait.
+
+use crate::counting::changes_in;
+use crate::lists::{Block, By, blocks_of, count_of, moved, sorted, without};
+use crate::observer::{NoLimit, ShrinkObserver};
+use crate::summary::Summary;
+use crate::taking::{Goal, MORE_INSTRUCTIONS, Run, Watch, run_of};
+use elf_image::Image;
+use flat_machine::Config;
+use machine_log::Logged;
+use std::alloc::{AllocError, Global};
+
+/// How often the search goes through all sizes of parts.
+const MOST_ROUNDS: usize = 1_000;
+
+/// The number of sizes of parts: 1, 2, 4 and so on, up to the half of the longest run.
+const SIZES: u32 = 22;
+
+/// The log of a run that leaves the same, by whole instructions: the shortest that was found before the observer ended
+/// the search. None if even the run in the order of the references does not leave the same.
+///
+/// # Errors
+///
+/// [`AllocError`] if there is no memory.
+pub(crate) fn shorter_run<G: ShrinkObserver>(
+    alloc: Global,
+    image: &Image,
+    config: Config,
+    summary: &Summary,
+    observer: &mut G,
+) -> Result<Option<Logged>, AllocError> {
+    let goal = Goal {
+        alloc,
+        image,
+        config,
+        left: &summary.left,
+        most: summary.entries.saturating_add(MORE_INSTRUCTIONS),
+    };
+    // The first run is not cut off, so that there is one.
+    let mut patient = NoLimit;
+    let mut watch = Watch::new(&mut patient);
+    let Some(best) = run_of(goal, summary.references.as_slice(), &mut watch)? else {
+        return Ok(None);
+    };
+    let changes = changes_in(best.references.as_slice());
+    let mut search = Search {
+        goal,
+        best,
+        changes,
+        watch: Watch::new(observer),
+    };
+    search.shorten()?;
+    Ok(Some(search.best.log))
+}
+
+/// A search, and the best run so far.
+#[derive(Drop)]
+struct Search<'a, G> {
+    goal: Goal<'a>,
+    best: Run,
+    /// The changes of the best run.
+    changes: usize,
+    watch: Watch<'a, G>,
+}
+
+impl<G: ShrinkObserver> Search<'_, G> {
+    /// Shortens the best run until nothing helps or the observer ends the search.
+    fn shorten(&mut self) -> Result<(), AllocError> {
+        for _round in 0..MOST_ROUNDS {
+            let before = (self.changes, self.best.references.len());
+            self.try_all_sizes()?;
+            self.join_blocks()?;
+            if self.watch.is_over() || before == (self.changes, self.best.references.len()) {
+                return Ok(());
+            }
+        }
+        Ok(())
+    }
+
+    /// Tries a list. Returns whether its run leaves the same and is shorter; then it is the best run.
+    fn try_list(&mut self, list: &[u8]) -> Result<bool, AllocError> {
+        let Some(run) = run_of(self.goal, list, &mut self.watch)? else {
+            return Ok(false);
+        };
+        let changes = changes_in(run.references.as_slice());
+        let (references, before) = (run.references.len(), self.best.references.len());
+        let is_shorter = changes <= self.changes
+            && references <= before
+            && (changes < self.changes || references < before);
+        if is_shorter {
+            self.best = run;
+            self.changes = changes;
+        }
+        Ok(is_shorter)
+    }
+
+    /// Tries to leave out and to sort parts of every size, large ones first.
+    fn try_all_sizes(&mut self) -> Result<(), AllocError> {
+        for shift in 0..SIZES {
+            let size = 1_usize << (SIZES - 1 - shift);
+            self.leave_out(size)?;
+            self.sort_parts(size)?;
+        }
+        Ok(())
+    }
+
+    /// Tries to leave out each part of this many references: of one after another, and of those of each processor.
+    fn leave_out(&mut self, size: usize) -> Result<(), AllocError> {
+        if size > 1 {
+            self.leave_out_of(None, size)?;
+        }
+        for p in 0..self.goal.config.processors() {
+            self.leave_out_of(Some(p), size)?;
+        }
+        Ok(())
+    }
+
+    /// Tries to leave out each part of this many references of a processor, or of all.
+    fn leave_out_of(&mut self, who: Option<u8>, size: usize) -> Result<(), AllocError> {
+        let mut first: usize = 0;
+        for _try in 0..self.best.references.len() {
+            let list = self.best.references.as_slice();
+            if self.watch.is_over() || count_of(list, who) < first.saturating_add(size) {
+                return Ok(());
+            }
+            let list = without(self.goal.alloc, list, who, first, size)?;
+            if !self.try_list(list.as_slice())? {
+                first = first.saturating_add(size);
+            }
+        }
+        Ok(())
+    }
+
+    /// Tries to sort each part of one block more than this by processors.
+    fn sort_parts(&mut self, size: usize) -> Result<(), AllocError> {
+        let step = size.max(2) / 2;
+        let mut first: usize = 0;
+        for _try in 0..self.best.references.len() {
+            let blocks = blocks_of(self.goal.alloc, self.best.references.as_slice())?;
+            let last = first.saturating_add(size).min(blocks.len().saturating_sub(1));
+            let (Some(one), Some(other)) = (blocks.get(first), blocks.get(last)) else {
+                return Ok(());
+            };
+            if self.watch.is_over() || blocks.len() / 2 < size / 2 {
+                return Ok(());
+            }
+            if !self.try_sorted(one.start, other.end)? {
+                first = first.saturating_add(step);
+            }
+        }
+        Ok(())
+    }
+
+    /// Tries to sort the part from one place up to another, in either order.
+    fn try_sorted(&mut self, start: usize, end: usize) -> Result<bool, AllocError> {
+        for by in [By::First, By::Last] {
+            let list = self.best.references.as_slice();
+            let list = sorted(self.goal.alloc, list, start, end, by)?;
+            if changes_in(list.as_slice()) < self.changes && self.try_list(list.as_slice())? {
+                return Ok(true);
+            }
+        }
+        Ok(false)
+    }
+
+    /// Tries to join each block with the next one of its processor.
+    fn join_blocks(&mut self) -> Result<(), AllocError> {
+        let mut place: usize = 0;
+        for _try in 0..self.best.references.len() {
+            let blocks = blocks_of(self.goal.alloc, self.best.references.as_slice())?;
+            let Some(block) = blocks.get(place) else {
+                return Ok(());
+            };
+            if self.watch.is_over() {
+                return Ok(());
+            }
+            let next = next_of(blocks.as_slice(), place, block.processor);
+            if !self.try_joined(*block, next)? {
+                place = place.saturating_add(1);
+            }
+        }
+        Ok(())
+    }
+
+    /// Tries to join a block with a later one of its processor, at the place of either.
+    fn try_joined(&mut self, block: Block, next: Option<Block>) -> Result<bool, AllocError> {
+        let Some(next) = next else {
+            return Ok(false);
+        };
+        let list = self.best.references.as_slice();
+        let left = moved(self.goal.alloc, list, next, block.end)?;
+        let right = moved(self.goal.alloc, list, block, next.start)?;
+        Ok(self.try_list(left.as_slice())? || self.try_list(right.as_slice())?)
+    }
+}
+
+/// The next block of this processor after a place.
+fn next_of(blocks: &[Block], place: usize, processor: u8) -> Option<Block> {
+    for (other, block) in blocks.iter().enumerate() {
+        if place < other && block.processor == processor {
+            return Some(*block);
+        }
+    }
+    None
+}
