@@ -12,6 +12,7 @@
 
 mod command;
 mod counting;
+mod few_blocks;
 mod lists;
 mod observer;
 mod search;

@@ -3,9 +3,11 @@
 //! It begins with the references of the serial order, and changes their list: it leaves out parts, first large ones and
 //! then smaller ones (delta debugging); it sorts parts by processors; and it moves a block of references of one
 //! processor to the next such block. It keeps a list if its run leaves the same and is shorter. What is left out is
-//! mostly the spinning of processors that wait.
+//! mostly the spinning of processors that wait. When this does not help any more, it tries all lists of fewer blocks, the
+//! fewest first, up to a number of lists.
 
 use crate::counting::changes_in;
+use crate::few_blocks::FewBlocks;
 use crate::lists::{Block, By, blocks_of, count_of, moved, sorted, without};
 use crate::observer::{NoLimit, ShrinkObserver};
 use crate::summary::Summary;
@@ -17,6 +19,9 @@ use std::alloc::{AllocError, Global};
 
 /// How often the search goes through all sizes of parts.
 const MOST_ROUNDS: usize = 1_000;
+
+/// How many lists of fewer blocks are tried in a round, and how many blocks are gone through for one.
+const MOST_LISTS: usize = 20_000;
 
 /// The number of sizes of parts: 1, 2, 4 and so on, up to the half of the longest run.
 const SIZES: u32 = 22;
@@ -75,6 +80,9 @@ impl<G: ShrinkObserver> Search<'_, G> {
             let before = (self.changes, self.best.references.len());
             self.try_all_sizes()?;
             self.join_blocks()?;
+            if before == (self.changes, self.best.references.len()) {
+                self.try_fewer_blocks()?;
+            }
             if self.watch.is_over() || before == (self.changes, self.best.references.len()) {
                 return Ok(());
             }
@@ -182,6 +190,32 @@ impl<G: ShrinkObserver> Search<'_, G> {
             let next = next_of(blocks.as_slice(), place, block.processor);
             if !self.try_joined(*block, next)? {
                 place = place.saturating_add(1);
+            }
+        }
+        Ok(())
+    }
+
+    /// Tries all lists of fewer blocks, the fewest first, up to a number of lists.
+    fn try_fewer_blocks(&mut self) -> Result<(), AllocError> {
+        let processors = self.goal.config.processors();
+        let mut wanted: usize = 1;
+        let list = self.best.references.as_slice();
+        let mut lists = FewBlocks::new(self.goal.alloc, processors, list, wanted)?;
+        for _try in 0..MOST_LISTS {
+            if self.watch.is_over() || self.changes < wanted {
+                return Ok(());
+            }
+            match lists.next_list(self.goal.alloc, MOST_LISTS)? {
+                Some(list) => {
+                    if self.try_list(list.as_slice())? {
+                        return Ok(());
+                    }
+                }
+                None => {
+                    wanted = wanted.saturating_add(1);
+                    let list = self.best.references.as_slice();
+                    lists = FewBlocks::new(self.goal.alloc, processors, list, wanted)?;
+                }
             }
         }
         Ok(())
