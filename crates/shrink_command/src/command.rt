@@ -72,15 +72,7 @@ pub fn shrink_command<
     ensures silent { 2 ≤ result → W.has_failed out.new ≡ false → out.new ≡ out.old }
     ensures quiet { result ≤ 1 → err.new ≡ err.old }
 {
-    let outcome = execute(
-        alloc,
-        trace,
-        file,
-        shared_words,
-        shrunk,
-        observer,
-        out,
-    );
+    let outcome = execute(alloc, trace, file, shared_words, shrunk, observer, out);
     report_outcome(outcome, err)
 }
 
@@ -155,15 +147,7 @@ fn shrink_trace<R: LinkRead, O: LinkWrite, G: ShrinkObserver, W: LinkWrite>(
     };
     let config = trace.config(shared_words);
     let image = image_of(alloc, file, &config)?;
-    shrink_steps(
-        alloc,
-        &image,
-        config,
-        trace.steps(),
-        shrunk,
-        observer,
-        out,
-    )
+    shrink_steps(alloc, &image, config, trace.steps(), shrunk, observer, out)
 }
 
 /// Writes and prints what the steps of a trace are shrunk to.

@@ -70,7 +70,10 @@ impl FewBlocks {
     /// Adds a block.
     fn add(&mut self, part: Part) -> Result<(), AllocError> {
         self.parts.push(part)?;
-        self.set_left(part.processor, self.left_of(part.processor).saturating_sub(part.count));
+        self.set_left(
+            part.processor,
+            self.left_of(part.processor).saturating_sub(part.count),
+        );
         Ok(())
     }
 
@@ -137,7 +140,9 @@ impl FewBlocks {
         }
         let left = self.left_of(processor);
         let others = self.others_left(processor);
-        let after = self.wanted.saturating_sub(self.parts.len().saturating_add(1));
+        let after = self
+            .wanted
+            .saturating_sub(self.parts.len().saturating_add(1));
         if least < left && others < after {
             return Some(least);
         }

@@ -80,12 +80,7 @@ pub(crate) fn without(
 }
 
 /// Appends the part of a list from one place up to another.
-fn push_part(
-    out: &mut Vec<u8>,
-    list: &[u8],
-    start: usize,
-    end: usize,
-) -> Result<(), AllocError> {
+fn push_part(out: &mut Vec<u8>, list: &[u8], start: usize, end: usize) -> Result<(), AllocError> {
     if start <= end && end <= list.len() {
         out.extend_from_slice(&list[start..end])?;
     }

@@ -83,7 +83,7 @@ impl<G: ShrinkObserver> Search<'_, G> {
             if before == (self.changes, self.best.references.len()) {
                 self.try_fewer_blocks()?;
             }
-            if self.watch.is_over() || before == (self.changes, self.best.references.len()) {
+            if before == (self.changes, self.best.references.len()) || !self.watch.goes_on() {
                 return Ok(());
             }
         }
@@ -112,7 +112,9 @@ impl<G: ShrinkObserver> Search<'_, G> {
         for shift in 0..SIZES {
             let size = 1_usize << (SIZES - 1 - shift);
             self.leave_out(size)?;
-            self.sort_parts(size)?;
+            if size > 1 {
+                self.sort_parts(size)?;
+            }
         }
         Ok(())
     }
@@ -133,7 +135,7 @@ impl<G: ShrinkObserver> Search<'_, G> {
         let mut first: usize = 0;
         for _try in 0..self.best.references.len() {
             let list = self.best.references.as_slice();
-            if self.watch.is_over() || count_of(list, who) < first.saturating_add(size) {
+            if count_of(list, who) < first.saturating_add(size) || !self.watch.goes_on() {
                 return Ok(());
             }
             let list = without(self.goal.alloc, list, who, first, size)?;
@@ -144,28 +146,35 @@ impl<G: ShrinkObserver> Search<'_, G> {
         Ok(())
     }
 
+    /// The blocks of the best list.
+    fn blocks(&self) -> Result<Vec<Block>, AllocError> {
+        blocks_of(self.goal.alloc, self.best.references.as_slice())
+    }
+
     /// Tries to sort each part of one block more than this by processors.
     fn sort_parts(&mut self, size: usize) -> Result<(), AllocError> {
-        let step = size.max(2) / 2;
+        let step = size / 2;
         let mut first: usize = 0;
+        let mut blocks = self.blocks()?;
         for _try in 0..self.best.references.len() {
-            let blocks = blocks_of(self.goal.alloc, self.best.references.as_slice())?;
-            let last = first.saturating_add(size).min(blocks.len().saturating_sub(1));
-            let (Some(one), Some(other)) = (blocks.get(first), blocks.get(last)) else {
-                return Ok(());
-            };
-            if self.watch.is_over() || blocks.len() / 2 < size / 2 {
+            if blocks.len() <= size / 2 || blocks.len() <= first || !self.watch.goes_on() {
                 return Ok(());
             }
-            if !self.try_sorted(one.start, other.end)? {
+            let part = part_to_sort(blocks.as_slice(), first, size);
+            if self.try_sorted(part)? {
+                blocks = self.blocks()?;
+            } else {
                 first = first.saturating_add(step);
             }
         }
         Ok(())
     }
 
-    /// Tries to sort the part from one place up to another, in either order.
-    fn try_sorted(&mut self, start: usize, end: usize) -> Result<bool, AllocError> {
+    /// Tries to sort a part, in either order.
+    fn try_sorted(&mut self, part: Option<(usize, usize)>) -> Result<bool, AllocError> {
+        let Some((start, end)) = part else {
+            return Ok(false);
+        };
         for by in [By::First, By::Last] {
             let list = self.best.references.as_slice();
             let list = sorted(self.goal.alloc, list, start, end, by)?;
@@ -179,16 +188,18 @@ impl<G: ShrinkObserver> Search<'_, G> {
     /// Tries to join each block with the next one of its processor.
     fn join_blocks(&mut self) -> Result<(), AllocError> {
         let mut place: usize = 0;
+        let mut blocks = self.blocks()?;
         for _try in 0..self.best.references.len() {
-            let blocks = blocks_of(self.goal.alloc, self.best.references.as_slice())?;
             let Some(block) = blocks.get(place) else {
                 return Ok(());
             };
-            if self.watch.is_over() {
+            if !self.watch.goes_on() {
                 return Ok(());
             }
             let next = next_of(blocks.as_slice(), place, block.processor);
-            if !self.try_joined(*block, next)? {
+            if self.try_joined(*block, next)? {
+                blocks = self.blocks()?;
+            } else {
                 place = place.saturating_add(1);
             }
         }
@@ -202,7 +213,7 @@ impl<G: ShrinkObserver> Search<'_, G> {
         let list = self.best.references.as_slice();
         let mut lists = FewBlocks::new(self.goal.alloc, processors, list, wanted)?;
         for _try in 0..MOST_LISTS {
-            if self.watch.is_over() || self.changes < wanted {
+            if self.changes < wanted || !self.watch.goes_on() {
                 return Ok(());
             }
             match lists.next_list(self.goal.alloc, MOST_LISTS)? {
@@ -230,6 +241,30 @@ impl<G: ShrinkObserver> Search<'_, G> {
         let left = moved(self.goal.alloc, list, next, block.end)?;
         let right = moved(self.goal.alloc, list, block, next.start)?;
         Ok(self.try_list(left.as_slice())? || self.try_list(right.as_slice())?)
+    }
+}
+
+/// Where the part of one block more than this begins and ends, from a block on, if a processor has two blocks in it.
+fn part_to_sort(blocks: &[Block], first: usize, size: usize) -> Option<(usize, usize)> {
+    let start = blocks.get(first)?.start;
+    let mut end = start;
+    let mut seen = [false; 64];
+    let mut is_unsorted = false;
+    for (place, block) in blocks.iter().enumerate() {
+        if place < first || first.saturating_add(size) < place {
+            continue;
+        }
+        end = block.end;
+        let p = usize::from(block.processor);
+        if p < seen.len() {
+            is_unsorted |= seen[p];
+            seen[p] = true;
+        }
+    }
+    if is_unsorted {
+        Some((start, end))
+    } else {
+        None
     }
 }
 

@@ -131,11 +131,7 @@ fn may_replace(old: &Summary, new: &Summary) -> bool
 }
 
 /// What is written and printed for a run that comes to this, and the run that was found for it, if there is one.
-fn shrunk_to(
-    alloc: Global,
-    summary: Summary,
-    found: Option<Found>,
-) -> Result<Shrunk, AllocError>
+fn shrunk_to(alloc: Global, summary: Summary, found: Option<Found>) -> Result<Shrunk, AllocError>
     ensures shrunk { (c : ConfigValue) (image : ImageContents) (steps : List StepValue) →
         IsLeft c image steps summary.left summary.status → AreReferences c image steps summary.references.items →
         IsTrace (trace_of c steps) → IfSome found (λ f.

@@ -76,12 +76,7 @@ struct Left {
 }
 
 /// What the machine of this size that opens on the image leaves after these steps and those of a drain.
-fn left_after(
-    alloc: Global,
-    image: &Image,
-    config: Config,
-    steps: &[Step],
-) -> Result<Left, Fault>
+fn left_after(alloc: Global, image: &Image, config: Config, steps: &[Step]) -> Result<Left, Fault>
     requires few { length steps.now ≤ 4194304 }
     requires words { image.now.shared_words ≡ config.shared_words }
     ensures left { IfOk result (λ l. (is : IsLeft config image.now steps.now l.left l.status)

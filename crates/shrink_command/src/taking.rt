@@ -49,13 +49,8 @@ impl<'a, G: ShrinkObserver> Watch<'a, G> {
         }
     }
 
-    /// Whether the observer has ended the search.
-    pub(crate) fn is_over(&self) -> bool {
-        self.is_over
-    }
-
     /// Asks the observer, unless it has ended the search. Returns whether the search is to go on.
-    fn goes_on(&mut self) -> bool {
+    pub(crate) fn goes_on(&mut self) -> bool {
         if self.is_over {
             return false;
         }
@@ -156,8 +151,7 @@ struct Trial<'a> {
 impl<'a> Trial<'a> {
     /// A run without an instruction.
     fn new(goal: Goal<'a>) -> Result<Self, AllocError> {
-        let Ok(machine) = Machine::new(goal.alloc, goal.image.copy(goal.alloc)?, goal.config)
-        else {
+        let Ok(machine) = Machine::new(goal.alloc, goal.image.copy(goal.alloc)?, goal.config) else {
             return Err(AllocError);
         };
         let mut printed = Vec::new(goal.alloc);
@@ -184,9 +178,14 @@ impl<'a> Trial<'a> {
         }
         self.left -= 1;
         match self.log.one(p) {
-            Ok(Outcome::Retired(Retired {
-                out: Some(byte), ..
-            })) => Ok(self.prints(p, byte)),
+            Ok(
+                Outcome::Retired(
+                    Retired {
+                        out: Some(byte),
+                        ..
+                    },
+                ),
+            ) => Ok(self.prints(p, byte)),
             Ok(_) => Ok(true),
             Err(LockRefusal::Memory) => Err(AllocError),
             Err(_) => Ok(false),
