@@ -41,6 +41,7 @@ pub(crate) struct Shrunk {
 ///
 /// [`Fault::Size`] if the size is out of limits, [`Fault::Stalled`] at the first step that stalls, and
 /// [`Fault::Memory`].
+#[tactic(auto, using(crate::proofs::OfTraces::size_not_taken))]
 pub(crate) fn shrink<G: ShrinkObserver>(
     alloc: Global,
     image: &Image,
@@ -107,10 +108,16 @@ fn check(
     if !is_trace(&config, log.steps()) {
         return Ok(None);
     }
-    match summary_of(alloc, image, config, log.steps()) {
-        Ok(new) if may_replace(summary, &new) => Ok(Some(Found { log, summary: new })),
-        Ok(_) | Err(Fault::Stalled(_)) => Ok(None),
-        Err(fault) => Err(fault),
+    let new = match summary_of(alloc, image, config, log.steps()) {
+        Ok(new) => new,
+        Err(Fault::Size) => return Err(Fault::Size),
+        Err(Fault::Memory) => return Err(Fault::Memory),
+        Err(_) => return Ok(None),
+    };
+    if may_replace(summary, &new) {
+        Ok(Some(Found { log, summary: new }))
+    } else {
+        Ok(None)
     }
 }
 
@@ -134,8 +141,8 @@ fn may_replace(old: &Summary, new: &Summary) -> bool
 fn shrunk_to(alloc: Global, summary: Summary, found: Option<Found>) -> Result<Shrunk, AllocError>
     ensures shrunk { (c : ConfigValue) (image : ImageContents) (steps : List StepValue) →
         IsLeft c image steps summary.left summary.status → AreReferences c image steps summary.references.items →
-        IsTrace (trace_of c steps) → IfSome found (λ f.
-        AreReplacedBy c image steps summary.left summary.references.items f.log.steps
+        IsTrace (trace_of c steps) → IfSome found (λ f. (others : List StepValue) →
+        AreReplacedBy c image others summary.left summary.references.items f.log.steps
         f.summary.references.items f.summary.status)
         → IfOk result (λ s. IsShrunk c image steps (steps_of steps s.log) (string_bytes s.line) s.status) }
     ensures low { summary.status ≤ 1 → IfSome found (λ f. f.summary.status ≤ 1) → IfOk result (λ s. s.status ≤ 1) }

@@ -99,6 +99,7 @@ fn left_after(alloc: Global, image: &Image, config: Config, steps: &[Step]) -> R
 
 /// The processors that refer in the serial order of these steps and those of a drain, one after another, and the number
 /// of its entries.
+#[tactic(auto, using(crate::proofs::OfTraces::size_not_taken))]
 fn references_of(
     alloc: Global,
     image: &Image,
