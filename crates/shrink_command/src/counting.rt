@@ -14,7 +14,7 @@ pub(crate) fn changes_in(references: &[u8]) -> usize
     let mut count = 0;
     let mut last = None;
     let mut rest = references;
-    while let Some((p, after)) = rest.split_first() {
+    while let [p, after @ ..] = rest {
         count += change_to(last, *p);
         last = Some(*p);
         rest = after;
@@ -38,8 +38,10 @@ fn change_to(last: Option<u8>, p: u8) -> usize
 pub(crate) fn counts_line(alloc: Global, old: &[u8], new: &[u8]) -> Result<String, AllocError>
     ensures { IfOk result (λ text. string_bytes text ≡ counts_line old.now new.now) }
 {
+    let (changes, fewer) = (changes_in(old), changes_in(new));
+    let (references, left) = (old.len(), new.len());
     let mut text = String::new(alloc);
-    write!(text, "changes {} to {}", changes_in(old), changes_in(new))?;
-    write!(text, ", references {} to {}\n", old.len(), new.len())?;
+    write!(text, "changes {changes} to {fewer}")?;
+    write!(text, ", references {references} to {left}\n")?;
     Ok(text)
 }

@@ -132,9 +132,9 @@ pub(crate) fn sorted(
     let order = match by {
         By::First => firsts_of(alloc, part.as_slice())?,
         By::Last => {
-            part.as_mut_slice().reverse();
+            part.reverse();
             let mut order = firsts_of(alloc, part.as_slice())?;
-            order.as_mut_slice().reverse();
+            order.reverse();
             order
         }
     };
