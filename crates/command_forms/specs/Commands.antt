@@ -242,7 +242,8 @@ unfoldable pub steps_command : App
 steps_command = command (codes "steps") (file ∷ path (codes "OUT") ∷ [])
 
 unfoldable pub shrink_command : App
-shrink_command = command (codes "shrink") (replay ++ (path (codes "OUT") ∷ number shrink_seconds.bounds ∷ []))
+shrink_command = command (codes "shrink")
+    (path (codes "TRACE") ∷ file ∷ path (codes "OUT") ∷ number shared_words.bounds ∷ number shrink_seconds.bounds ∷ [])
 
 unfoldable pub debug_command : App
 debug_command = command (codes "debug")

@@ -524,11 +524,11 @@ const SHRINK: CommandForm = CommandForm {
     arguments: &[
         TRACE,
         TRACED_IMAGE,
-        Argument::Number(SHARED_WORDS),
         Argument::Path {
             id: "OUT",
             help: "Where to write the trace, for `ultra order` and `ultra replay`; opened when the search is over",
         },
+        Argument::Number(SHARED_WORDS),
         Argument::Number(SHRINK_SECONDS),
     ],
     ends: SHRINK_ENDS,
