@@ -1,5 +1,6 @@
 //! All lists of a few blocks, in which each processor has as many references as in a given list.
 
+use crate::lists::count_of;
 use std::alloc::{AllocError, Global};
 
 /// Some references of a processor, one after another.
@@ -30,7 +31,7 @@ impl FewBlocks {
     ) -> Result<Self, AllocError> {
         let mut left = Vec::new(alloc);
         for p in 0..processors {
-            left.push(crate::lists::count_of(list, Some(p)))?;
+            left.push(count_of(list, Some(p)))?;
         }
         Ok(FewBlocks {
             wanted,

@@ -257,7 +257,9 @@ fn part_to_sort(blocks: &[Block], first: usize, size: usize) -> Option<(usize, u
         end = block.end;
         let p = usize::from(block.processor);
         if p < seen.len() {
-            is_unsorted |= seen[p];
+            if seen[p] {
+                is_unsorted = true;
+            }
             seen[p] = true;
         }
     }

@@ -195,7 +195,8 @@ impl<'a> Trial<'a> {
     /// Notes that a processor has written a byte to the console. Returns whether it was to write this byte.
     fn prints(&mut self, p: u8, byte: u8) -> bool {
         let place = usize::from(p);
-        let Some(left) = self.goal.left.processors.get(place) else {
+        let goal = self.goal;
+        let Some(left) = goal.left.processors.get(place) else {
             return false;
         };
         if place >= self.printed.len() {
@@ -204,7 +205,7 @@ impl<'a> Trial<'a> {
         let count = self.printed[place];
         match left.console.get(count) {
             Some(wanted) if *wanted == byte => {
-                self.printed[place] = count + 1;
+                self.printed[place] = count.saturating_add(1);
                 true
             }
             _ => false,
