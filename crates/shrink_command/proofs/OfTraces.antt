@@ -12,7 +12,7 @@ use Rattle.command_io.specs.Files.{IsFaultOfSize}
 use Rattle.command_io.specs.Links.{Output}
 use Rattle.trace_commands.specs.Causes.{IsNotTaken, IsStalled}
 use Rattle.trace_commands.specs.TraceReports.{IsTraceOf, TraceInput}
-use Rattle.shrink_command.specs.Causes.{IsPartShrunk, ShrinkFails, StepsFail}
+use Rattle.shrink_command.specs.Causes.{IsPartShrunk, IsUnwritten, ShrinkFails, StepsFail}
 use Rattle.shrink_command.specs.Shrinking.{IsShrinking, IsShrunkInto, PrintsShrinking, PrintsShrunk}
 
 module _ (given : TraceInput) (t : TraceContents) (read : IsTraceOf given.trace.bytes t) (c : Config) (size : c ≡ config_of t given.shared_words)
@@ -90,3 +90,22 @@ size_not_taken c image steps (fault.Line number) p = absurd p
 size_not_taken c image steps (fault.Text e) p = absurd p
 size_not_taken c image steps (fault.Image e) p = absurd p
 size_not_taken c image steps (fault.Trace e) p = absurd p
+
+-- If steps are not taken, they are not shrunk, for the same fault, and no byte of a trace is written.
+pub not_shrunk : (c : Config) (image : ImageContents) (steps : List Step) (shrunk out : Output) (f : Fault) → IsNotTaken c image steps f → IsUnwritten shrunk →
+    StepsFail c image steps shrunk out f
+not_shrunk c image steps shrunk out fault.Size p same = (p, same)
+not_shrunk c image steps shrunk out fault.Memory p same = (p, same)
+not_shrunk c image steps shrunk out (fault.Stalled place) p same = (p, same)
+not_shrunk c image steps shrunk out fault.Link p same = absurd p
+not_shrunk c image steps shrunk out fault.Budget p same = absurd p
+not_shrunk c image steps shrunk out fault.Full p same = absurd p
+not_shrunk c image steps shrunk out fault.Loan p same = absurd p
+not_shrunk c image steps shrunk out fault.Start p same = absurd p
+not_shrunk c image steps shrunk out fault.States p same = absurd p
+not_shrunk c image steps shrunk out fault.Alone p same = absurd p
+not_shrunk c image steps shrunk out fault.NotUtf8 p same = absurd p
+not_shrunk c image steps shrunk out (fault.Line number) p same = absurd p
+not_shrunk c image steps shrunk out (fault.Text e) p same = absurd p
+not_shrunk c image steps shrunk out (fault.Image e) p same = absurd p
+not_shrunk c image steps shrunk out (fault.Trace e) p same = absurd p
