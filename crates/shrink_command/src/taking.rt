@@ -1,33 +1,19 @@
-//! Runs by whole instructions, in which given processors refer one after another.
+//! Runs by whole instructions, in which given processors refer one after another, on copies of the cores and the shared
+//! words of a machine that has just opened.
 
 use crate::observer::ShrinkObserver;
-use elf_image::Image;
-use exploration::{FinalResult, words_of};
-use flat_machine::{Config, Retired, Status};
-use hart::Decision;
+use exploration::FinalResult;
+use flat_machine::{Cause, Status};
+use hart::{Core, Decision};
 use local_memory::Code;
-use machine_log::{LockRefusal, Logged};
 use machine_steps::Machine;
 use std::alloc::{AllocError, Global};
-use steps::Outcome;
 
 /// How many instructions a run may take more than the run that is to be shortened.
 pub(crate) const MORE_INSTRUCTIONS: usize = 1_000;
 
 /// After how many instructions the observer is asked again.
-const INSTRUCTIONS_A_LOOK: u32 = 256;
-
-/// What runs are taken on, and what they are to leave.
-#[derive(Clone, Copy, Drop)]
-pub(crate) struct Goal<'a> {
-    pub(crate) alloc: Global,
-    pub(crate) image: &'a Image,
-    pub(crate) config: Config,
-    /// What a run is to leave.
-    pub(crate) left: &'a FinalResult,
-    /// How many instructions a run may take.
-    pub(crate) most: usize,
-}
+const INSTRUCTIONS_A_LOOK: u32 = 4_096;
 
 /// Asks an observer again and again whether a search is to go on.
 #[derive(Drop)]
@@ -69,35 +55,16 @@ impl<'a, G: ShrinkObserver> Watch<'a, G> {
     }
 }
 
-/// A run that leaves what it is to leave.
-#[derive(Drop)]
-pub(crate) struct Run {
-    pub(crate) log: Logged,
-    /// The processors that refer in it, one after another.
-    pub(crate) references: Vec<u8>,
-}
-
-/// The run in which these processors refer one after another, each after what it does alone before that. Then each goes
-/// on alone until it stands where it is to stand. A processor that has stopped is passed over. None if the run does not
-/// leave what it is to leave, takes too many instructions, or is cut off by the observer.
-pub(crate) fn run_of<G: ShrinkObserver>(
-    goal: Goal<'_>,
-    list: &[u8],
-    watch: &mut Watch<'_, G>,
-) -> Result<Option<Run>, AllocError> {
-    if !watch.goes_on() {
-        return Ok(None);
-    }
-    let mut trial = Trial::new(goal)?;
-    let Some(references) = trial.refer_all(list, watch)? else {
-        return Ok(None);
-    };
-    if trial.stand_all(watch)? && trial.has_words()? {
-        let log = trial.log;
-        Ok(Some(Run { log, references }))
-    } else {
-        Ok(None)
-    }
+/// What runs begin with, and what they are to leave.
+#[derive(Clone, Copy, Drop)]
+pub(crate) struct Goal<'a> {
+    pub(crate) alloc: Global,
+    /// The machine, which has taken no step.
+    pub(crate) machine: &'a Machine,
+    /// What a run is to leave.
+    pub(crate) left: &'a FinalResult,
+    /// How many instructions a run may take.
+    pub(crate) most: usize,
 }
 
 /// How a processor stands before its next turn.
@@ -111,21 +78,6 @@ enum Standing {
     Alone,
 }
 
-/// How a processor stands before its next turn.
-fn standing(machine: &Machine, p: u8) -> Standing {
-    let Some(core) = machine.core(p) else {
-        return Standing::Stopped;
-    };
-    if core.status() != Status::Running {
-        return Standing::Stopped;
-    }
-    let code: &Code = machine.code();
-    match core.decide(code) {
-        Decision::Refer { .. } => Standing::Refers,
-        Decision::Local | Decision::Halt(_) | Decision::Fault(_) => Standing::Alone,
-    }
-}
-
 /// What a processor has come to.
 #[derive(Clone, Copy, Debug, PartialEq, Eq, Drop)]
 enum Reached {
@@ -137,33 +89,98 @@ enum Reached {
     Nothing,
 }
 
-/// A run that is being taken.
+/// A run that is tried. Its memory is used again for the next.
 #[derive(Drop)]
-struct Trial<'a> {
+pub(crate) struct Trial<'a> {
     goal: Goal<'a>,
-    log: Logged,
+    cores: Vec<Core>,
+    words: Vec<u32>,
     /// How many bytes each processor has written to the console.
     printed: Vec<usize>,
-    /// How many more instructions the run may take.
-    left: usize,
+    /// The processors of the instructions, one after another.
+    turns: Vec<u8>,
+    /// The processors that have referred, one after another.
+    references: Vec<u8>,
 }
 
 impl<'a> Trial<'a> {
-    /// A run without an instruction.
-    fn new(goal: Goal<'a>) -> Result<Self, AllocError> {
-        let Ok(machine) = Machine::new(goal.alloc, goal.image.copy(goal.alloc)?, goal.config) else {
-            return Err(AllocError);
-        };
-        let mut printed = Vec::new(goal.alloc);
-        for _p in 0..machine.config().processors() {
-            printed.push(0)?;
-        }
-        Ok(Trial {
+    /// A trial of no run.
+    pub(crate) fn new(goal: Goal<'a>) -> Result<Self, AllocError> {
+        let mut trial = Trial {
             goal,
-            log: Logged::new(goal.alloc, machine),
-            printed,
-            left: goal.most,
-        })
+            cores: Vec::new(goal.alloc),
+            words: Vec::new(goal.alloc),
+            printed: Vec::new(goal.alloc),
+            turns: Vec::new(goal.alloc),
+            references: Vec::new(goal.alloc),
+        };
+        for p in 0..goal.machine.config().processors() {
+            if let Some(core) = goal.machine.core(p) {
+                trial.cores.push(core.copy()?)?;
+            }
+        }
+        Ok(trial)
+    }
+
+    /// The processors of the instructions of the last run, one after another.
+    pub(crate) fn turns(&self) -> &[u8] {
+        self.turns.as_slice()
+    }
+
+    /// The processors that have referred in the last run, one after another.
+    pub(crate) fn references(&self) -> &[u8] {
+        self.references.as_slice()
+    }
+
+    /// Tries the run in which these processors refer one after another, each after what it does alone before that. Then
+    /// each goes on alone until it stands where it is to stand. A processor that has stopped is passed over. Returns
+    /// whether the run leaves what it is to leave: not if it takes too many instructions, or if the observer cuts it off.
+    pub(crate) fn leaves_the_same<G: ShrinkObserver>(
+        &mut self,
+        list: &[u8],
+        watch: &mut Watch<'_, G>,
+    ) -> Result<bool, AllocError> {
+        if !watch.goes_on() {
+            return Ok(false);
+        }
+        self.begin()?;
+        Ok(self.refer_all(list, watch)? && self.stand_all(watch)? && self.has_words())
+    }
+
+    /// Begins a run: the cores and the shared words are those of the machine.
+    fn begin(&mut self) -> Result<(), AllocError> {
+        let goal = self.goal;
+        self.turns.clear();
+        self.references.clear();
+        self.printed.clear();
+        for (p, core) in self.cores.iter_mut().enumerate() {
+            if let Ok(p) = u8::try_from(p) {
+                if let Some(first) = goal.machine.core(p) {
+                    core.copy_from(first);
+                }
+            }
+            self.printed.push(0)?;
+        }
+        self.words.clear();
+        for number in 0..goal.machine.config().shared_words {
+            self.words.push(goal.machine.word(number).unwrap_or(0))?;
+        }
+        Ok(())
+    }
+
+    /// How a processor stands before its next turn.
+    fn standing(&self, p: u8) -> Standing {
+        let Some(core) = self.cores.get(usize::from(p)) else {
+            return Standing::Stopped;
+        };
+        if core.status() != Status::Running {
+            return Standing::Stopped;
+        }
+        let code: &Code = self.goal.machine.code();
+        match core.decide(code) {
+            Decision::Refer { .. } => Standing::Refers,
+            Decision::Local | Decision::Halt(_) | Decision::Fault(_) => Standing::Alone,
+        }
     }
 
     /// Takes a processor's next instruction. Returns whether the run is to go on: it may take the instruction, and the
@@ -173,28 +190,26 @@ impl<'a> Trial<'a> {
         p: u8,
         watch: &mut Watch<'_, G>,
     ) -> Result<bool, AllocError> {
-        if self.left == 0 || !watch.goes_on_after_instruction() {
+        let place = usize::from(p);
+        if self.turns.len() >= self.goal.most
+            || place >= self.cores.len()
+            || !watch.goes_on_after_instruction()
+        {
             return Ok(false);
         }
-        self.left -= 1;
-        match self.log.one(p) {
-            Ok(
-                Outcome::Retired(
-                    Retired {
-                        out: Some(byte),
-                        ..
-                    },
-                ),
-            ) => Ok(self.prints(p, byte)),
-            Ok(_) => Ok(true),
-            Err(LockRefusal::Memory) => Err(AllocError),
-            Err(_) => Ok(false),
+        self.turns.push(p)?;
+        match take(
+            &mut self.cores[place],
+            self.goal.machine.code(),
+            &mut self.words,
+        ) {
+            Some(byte) => Ok(self.prints(place, byte)),
+            None => Ok(true),
         }
     }
 
     /// Notes that a processor has written a byte to the console. Returns whether it was to write this byte.
-    fn prints(&mut self, p: u8, byte: u8) -> bool {
-        let place = usize::from(p);
+    fn prints(&mut self, place: usize, byte: u8) -> bool {
         let goal = self.goal;
         let Some(left) = goal.left.processors.get(place) else {
             return false;
@@ -212,22 +227,20 @@ impl<'a> Trial<'a> {
         }
     }
 
-    /// Takes instructions of these processors, of each up to its next reference, and returns those that have referred.
-    /// None if the run is not to go on.
+    /// Takes instructions of these processors, of each up to its next reference. Returns whether the run is to go on.
     fn refer_all<G: ShrinkObserver>(
         &mut self,
         list: &[u8],
         watch: &mut Watch<'_, G>,
-    ) -> Result<Option<Vec<u8>>, AllocError> {
-        let mut references = Vec::new(self.goal.alloc);
+    ) -> Result<bool, AllocError> {
         for p in list {
             match self.refer(*p, watch)? {
-                Reached::Reference => references.push(*p)?,
+                Reached::Reference => self.references.push(*p)?,
                 Reached::Stop => {}
-                Reached::Nothing => return Ok(None),
+                Reached::Nothing => return Ok(false),
             }
         }
-        Ok(Some(references))
+        Ok(true)
     }
 
     /// Takes instructions of a processor up to its next reference.
@@ -237,7 +250,7 @@ impl<'a> Trial<'a> {
         watch: &mut Watch<'_, G>,
     ) -> Result<Reached, AllocError> {
         for _instruction in 0..self.goal.most {
-            let standing = standing(self.log.machine(), p);
+            let standing = self.standing(p);
             if standing == Standing::Stopped {
                 return Ok(Reached::Stop);
             }
@@ -256,7 +269,7 @@ impl<'a> Trial<'a> {
         &mut self,
         watch: &mut Watch<'_, G>,
     ) -> Result<bool, AllocError> {
-        for p in 0..self.log.machine().config().processors() {
+        for p in 0..self.goal.machine.config().processors() {
             if !self.stand(p, watch)? {
                 return Ok(false);
             }
@@ -275,7 +288,7 @@ impl<'a> Trial<'a> {
             if self.stands(p) {
                 return Ok(true);
             }
-            if standing(self.log.machine(), p) != Standing::Alone {
+            if self.standing(p) != Standing::Alone {
                 return Ok(false);
             }
             if !self.one(p, watch)? {
@@ -288,21 +301,50 @@ impl<'a> Trial<'a> {
     /// Whether a processor has the pc and the status that it is to have, and has written all that it is to write.
     fn stands(&self, p: u8) -> bool {
         let place = usize::from(p);
-        let machine = self.log.machine();
-        let (Some(left), Some(printed), Some(pc), Some(status)) = (
+        let (Some(left), Some(printed), Some(core)) = (
             self.goal.left.processors.get(place),
             self.printed.get(place),
-            machine.pc(p),
-            machine.status(p),
+            self.cores.get(place),
         ) else {
             return false;
         };
-        pc == left.pc && status == left.status && *printed == left.console.len()
+        core.pc() == left.pc && core.status() == left.status && *printed == left.console.len()
     }
 
     /// Whether the shared words are those that the run is to leave.
-    fn has_words(&self) -> Result<bool, AllocError> {
-        let words = words_of(self.goal.alloc, self.log.machine())?;
-        Ok(words == self.goal.left.words)
+    fn has_words(&self) -> bool {
+        for (place, word) in self.words.iter().enumerate() {
+            let Ok(place) = u32::try_from(place) else {
+                return false;
+            };
+            if self.goal.left.words.get(place) != *word {
+                return false;
+            }
+        }
+        true
+    }
+}
+
+/// Takes the next instruction of a core, on these shared words. Returns the byte that it writes to the console, if any.
+fn take(core: &mut Core, code: &Code, words: &mut Vec<u32>) -> Option<u8> {
+    match core.decide(code) {
+        Decision::Local => core.take_local(code).out,
+        Decision::Refer { word, phi, .. } => {
+            let place = word as usize;
+            let mut old = 0;
+            if place < words.len() {
+                old = words[place];
+                words[place] = phi.apply(old);
+            }
+            core.retire(code, old).out
+        }
+        Decision::Halt(byte) => {
+            core.stop(Cause::Halt(byte));
+            None
+        }
+        Decision::Fault(fault) => {
+            core.stop(Cause::Fault(fault));
+            None
+        }
     }
 }
