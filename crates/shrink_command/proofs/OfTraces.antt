@@ -1,11 +1,11 @@
 -- What is written and printed for the steps of a trace is written and printed for the trace.
-use Rattle.std.proofs.Common.{◌≡◌, ℕ, inr, List, refl, subst}
+use Rattle.std.proofs.Common.{◌≡◌, ◌≤◌, ℕ, Bool, true, inl, inr, List, length, refl, subst}
 use Rattle.flat_machine.specs.declared.config.Config.{Config}
 use Rattle.flat_machine.specs.Limits.{IsWithinLimits}
 use Rattle.elf_image.specs.Files.{IsImageOf}
 use Rattle.elf_image.specs.Images.{ImageContents}
 use Rattle.steps.specs.declared.step.Step.{Step}
-use Rattle.trace_file.specs.Traces.{TraceContents, config_of}
+use Rattle.trace_file.specs.Traces.{IsTrace, TraceContents, config_of, trace_of}
 use Rattle.command_io.specs.declared.fault.Fault.{Fault}
 use Rattle.command_io.specs.declared.fault.Fault.TheVariants as fault
 use Rattle.command_io.specs.Files.{IsFaultOfSize}
@@ -13,7 +13,11 @@ use Rattle.command_io.specs.Links.{Output}
 use Rattle.trace_commands.specs.Causes.{IsNotTaken, IsStalled}
 use Rattle.trace_commands.specs.TraceReports.{IsTraceOf, TraceInput}
 use Rattle.shrink_command.specs.Causes.{IsPartShrunk, IsUnwritten, ShrinkFails, StepsFail}
-use Rattle.shrink_command.specs.Shrinking.{IsShrinking, IsShrunkInto, PrintsShrinking, PrintsShrunk}
+use Rattle.machine_steps.specs.Machines.{IsIdle}
+use Rattle.exploration.specs.local_reduction.Results.{FinalResult}
+use Rattle.shrink_command.specs.Changes.{changes_in}
+use Rattle.shrink_command.specs.Runs.{AreReferences, IsLeft}
+use Rattle.shrink_command.specs.Shrinking.{AreReplacedBy, IsShrinking, IsShrunkInto, PrintsShrinking, PrintsShrunk}
 
 module _ (given : TraceInput) (t : TraceContents) (read : IsTraceOf given.trace.bytes t) (c : Config) (size : c ≡ config_of t given.shared_words)
     (image : ImageContents) (meant : IsImageOf c.shared_words given.image.bytes image) (steps : List Step) (all : steps ≡ t.steps)
@@ -109,3 +113,12 @@ not_shrunk c image steps shrunk out (fault.Line number) p same = absurd p
 not_shrunk c image steps shrunk out (fault.Text e) p same = absurd p
 not_shrunk c image steps shrunk out (fault.Image e) p same = absurd p
 not_shrunk c image steps shrunk out (fault.Trace e) p same = absurd p
+
+-- Steps that leave the same, with no reference open, and have no more changes and no more references may be written for others.
+pub replaced_by : (c : Config) (image : ImageContents) (steps taken others : List Step) (left left' : FinalResult) (references references' : List ℕ)
+    (status : ℕ) (is_idle : Bool) → taken ≡ others → (is : IsLeft c image taken left' status) × (is_idle ≡ true → IsIdle is.before) →
+    AreReferences c image taken references' → left' ≡ left → is_idle ≡ true → changes_in references' ≤ changes_in references →
+    length references' ≤ length references → IsTrace (trace_of c taken) → AreReplacedBy c image steps left references others references' status
+replaced_by c image steps taken others left left' references references' status is_idle is l are same idle changes fewer trace =
+    subst (λ (x : List Step × FinalResult). AreReplacedBy c image steps x.1 references x.0 references' status) (λ i. (is i, same i))
+    (record { leaves = l.0; drained = inl (l.1 idle); are = are; changes = changes; fewer = fewer; trace = trace })

@@ -82,6 +82,7 @@ fn turns_of_shorter_run<G: ShrinkObserver>(
         alloc,
         machine,
         left: &summary.left,
+        cores: summary.cores.as_slice(),
         most: summary.entries.saturating_add(MORE_INSTRUCTIONS),
     };
     let mut trial = Trial::new(goal)?;

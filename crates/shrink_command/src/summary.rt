@@ -7,8 +7,9 @@ ghost use Rattle.shrink_command.specs.Runs.{AreReferences, IsLeft};
 
 use command_io::{Fault, machine_of_copy};
 use elf_image::Image;
-use exploration::FinalResult;
+use exploration::{FinalResult, cores_of};
 use flat_machine::Config;
+use hart::Core;
 use machine_steps::laws;
 use run_reports::{drain_counted, exit_status, replay_counted};
 use std::alloc::Global;
@@ -21,6 +22,8 @@ use witness_traces::left_by;
 pub(crate) struct Summary {
     /// The pc, the status and the console of each processor, and all shared words.
     pub(crate) left: FinalResult,
+    /// The cores of the machine.
+    pub(crate) cores: Vec<Core>,
     /// The exit status of the machine.
     pub(crate) status: u8,
     /// Whether no reference is open before the drain.
@@ -54,12 +57,14 @@ pub(crate) fn summary_of(
 {
     let Left {
         left,
+        cores,
         status,
         is_idle,
     } = left_after(alloc, image, config, steps)?;
     let (references, entries) = references_of(alloc, image, config, steps)?;
     Ok(Summary {
         left,
+        cores,
         status,
         is_idle,
         references,
@@ -67,10 +72,11 @@ pub(crate) fn summary_of(
     })
 }
 
-/// What a machine leaves, its exit status, and whether no reference is open before the drain.
+/// What a machine leaves, its cores, its exit status, and whether no reference is open before the drain.
 #[derive(Drop)]
 struct Left {
     left: FinalResult,
+    cores: Vec<Core>,
     status: u8,
     is_idle: bool,
 }
@@ -90,8 +96,10 @@ fn left_after(alloc: Global, image: &Image, config: Config, steps: &[Step]) -> R
     let is_idle = machine.is_idle();
     drain_counted(&mut machine, &mut tally)?;
     let left = left_by(alloc, &machine, &tally)?;
+    let cores = cores_of(alloc, &machine)?;
     Ok(Left {
         left,
+        cores,
         status: exit_status(&machine),
         is_idle,
     })

@@ -63,6 +63,8 @@ pub(crate) struct Goal<'a> {
     pub(crate) machine: &'a Machine,
     /// What a run is to leave.
     pub(crate) left: &'a FinalResult,
+    /// The cores with which it is to end. Of those that have stopped, only what is left counts.
+    pub(crate) cores: &'a [Core],
     /// How many instructions a run may take.
     pub(crate) most: usize,
 }
@@ -210,8 +212,8 @@ impl<'a> Trial<'a> {
 
     /// Notes that a processor has written a byte to the console. Returns whether it was to write this byte.
     fn prints(&mut self, place: usize, byte: u8) -> bool {
-        let goal = self.goal;
-        let Some(left) = goal.left.processors.get(place) else {
+        let wanted = self.goal.left;
+        let Some(left) = wanted.processors.get(place) else {
             return false;
         };
         if place >= self.printed.len() {
@@ -298,26 +300,33 @@ impl<'a> Trial<'a> {
         Ok(false)
     }
 
-    /// Whether a processor has the pc and the status that it is to have, and has written all that it is to write.
+    /// Whether a processor has the pc and the status that it is to have, and has written all that it is to write. If it
+    /// runs, its registers and its local memory have to be the same, too, so that it would go on in the same way.
     fn stands(&self, p: u8) -> bool {
         let place = usize::from(p);
-        let (Some(left), Some(printed), Some(core)) = (
-            self.goal.left.processors.get(place),
+        let wanted = self.goal.left;
+        let (Some(left), Some(last), Some(printed), Some(core)) = (
+            wanted.processors.get(place),
+            self.goal.cores.get(place),
             self.printed.get(place),
             self.cores.get(place),
         ) else {
             return false;
         };
-        core.pc() == left.pc && core.status() == left.status && *printed == left.console.len()
+        core.pc() == left.pc
+            && core.status() == left.status
+            && *printed == left.console.len()
+            && (core.status() != Status::Running || core.equals(last))
     }
 
     /// Whether the shared words are those that the run is to leave.
     fn has_words(&self) -> bool {
+        let wanted = self.goal.left;
         for (place, word) in self.words.iter().enumerate() {
             let Ok(place) = u32::try_from(place) else {
                 return false;
             };
-            if self.goal.left.words.get(place) != *word {
+            if wanted.words.get(place) != *word {
                 return false;
             }
         }

@@ -1,5 +1,5 @@
 -- The references of a serial order: which processors refer to shared words in it, one after another.
-use Rattle.std.specs.Prelude.{ℕ, Bool, true, false, List, [], ◌∷◌, ◌++◌, Option, is_some, if◌then◌else◌}
+use Rattle.std.specs.Prelude.{ℕ, Bool, false, List, [], ◌∷◌, ◌++◌, Option, is_some, if◌then◌else◌}
 use Rattle.flat_machine.specs.declared.poke.Entry.{Entry}
 use Rattle.flat_machine.specs.declared.poke.Entry.TheVariants as entry
 use Rattle.flat_machine.specs.Flat.{flat_step}

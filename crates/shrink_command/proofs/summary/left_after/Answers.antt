@@ -10,6 +10,15 @@ left_by-requires-clause-home c =
     let all = c.in_ok-drain_counted.ensures.taken opening c.args.steps.now c.in_ok-tally.ensures.taken in
     run_home opening c.drain_counted.new.machine (c.args.steps.now ++ drain_steps c.replay_counted.new.machine) all.replay.run opens.home
 
+pub cores_of-requires : goal.cores_of-requires
+cores_of-requires c =
+    let opening = c.in_ok-machine.machine in
+    let opens = c.in_ok-machine.ensures.opening in
+    let all = c.in_ok-drain_counted.ensures.taken opening c.args.steps.now c.in_ok-tally.ensures.taken in
+    record {
+      home = run_home opening c.drain_counted.new.machine (c.args.steps.now ++ drain_steps c.replay_counted.new.machine) all.replay.run opens.home;
+    }
+
 pub returns-clause-left : goal.returns-clause-left
 returns-clause-left c =
     let opening = c.in_ok-machine.machine in
@@ -26,5 +35,5 @@ returns-clause-left c =
         is = c.in_ok-left.ensures;
         exit = c.exit_status.ensures;
       },
-      λ is. c.is_idle.ensures.idle.0 is,
+      λ is. c.is_idle-is_idle.ensures.idle.0 is,
     )
