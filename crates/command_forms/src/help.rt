@@ -290,8 +290,9 @@ trace of the best run is written to OUT, and a line is printed, as
 
     changes 57 to 9, references 812 to 240
 
-If no run by whole instructions has the same result, as after a write from outside, OUT is a copy of
-TRACE. An error is reported as by `ultra replay`, with nothing written to OUT.
+A processor that still runs has the same registers and local memory, too. If no run by whole
+instructions has the same result, as after a write from outside, OUT is a copy of TRACE. An error is
+reported as by `ultra replay`, with nothing written to OUT.
 
 Exit status: 0 done, 1 done, and a fault stopped a processor, 2 a refused trace, image or command line, 3 a
 file or standard output failed, 4 out of memory.";
