@@ -36,8 +36,8 @@ ended_with() {
 #   24t:X5     24 that write to the file `saved`, whose complete text is $room/ample.trace
 #   10e:2      10 that write to standard error; the status is 2 nevertheless
 # A failing call is interrupted, or, if it is the first or the last write of its part, takes no byte. The second line
-# of the error says what the call was on: an image is the last of the words, another file that is read the first after
-# the command.
+# of the error says what the call was on: an image is `image`, if it is set, or else the last of the words, another file
+# that is read the first after the command.
 fails_each_call() {
     local parts=$1 output how number part kind told before ended many read written
     IFS= read -r -d '' output <"$2"
@@ -48,7 +48,7 @@ fails_each_call() {
         for part in $parts; do
             many=${part%%[a-z]*} told=${part#*:} kind=${part#"$many"} kind=${kind%%:*}
             read=$2 written=$'\n'"  ${saved:=$room/saved.trace}: ${whys[$how]}"
-            [ "$told" != I9 ] || read=${*: -1}
+            [ "$told" != I9 ] || read=${image:-${*: -1}}
             for ((number = 1; number <= many; number++)); do
                 # A picture and a page have many bytes, so only some fifty calls fail.
                 [ "$how" = interrupted ] && ((many < 1000 || number % (many / 50) == 1 || number == many)) ||
@@ -107,6 +107,15 @@ fails_a_trace() {
     done
 }
 check 'each command on a trace reports any call that fails, and keeps the bytes written before it: X5, I9 or link, status 3' fails_a_trace
+
+# The one instruction makes the same trace again.
+fails_a_shrinking() {
+    local image=$room/ebreak.elf
+    ./ultra run --k 0 --sweep --trace "$room/ample.trace" "$image" >"$room/out"
+    ./ultra shrink "$room/ample.trace" "$image" "$room/saved.trace" >"$room/ample"
+    fails_each_call "25r:X5 89r:I9 24t:X5 $(stat -c %s "$room/ample")w:link" "$room/ample" shrink "$room/ample.trace" "$image" "$room/saved.trace"
+}
+check 'shrink reports any call that fails, and keeps the bytes written before it: X5, I9 or link, status 3' fails_a_shrinking
 
 # Of two runs with the same result, the first has a trace. Without --jobs the number of processors is read, too.
 fails_a_search() {

@@ -223,6 +223,15 @@ refuses_memory_of_a_page() {
 }
 check 'page without memory for one request reports memory, status 4, or prints its page' refuses_memory_of_a_page
 
+# The search makes many runs, so this one is short, too.
+refuses_memory_of_a_shrinking() {
+    ./ultra asm examples/explore/lost_adds.s "$room/lost_adds.elf" &&
+        ./ultra run --sweep --k 1 --trace "$room/short.trace" "$room/lost_adds.elf" >"$room/out" &&
+        ./ultra shrink "$room/short.trace" "$room/lost_adds.elf" "$room/ample.trace" >"$room/line" &&
+        refuses_each_request 0 "$room/line" /dev/null shrink "$room/short.trace" "$room/lost_adds.elf" "$room/saved.trace"
+}
+check 'shrink without memory for one request reports memory, status 4, or writes its trace' refuses_memory_of_a_shrinking
+
 # ---- searches
 
 refuses_memory_of_results() {

@@ -6,12 +6,13 @@ use Rattle.clap.specs.Simple.{is_simple}
 use Rattle.command_forms.specs.Commands.{ultra_command, words_command, check_command, asm_command, dis_command}
 use Rattle.command_forms.specs.Commands.{run_command, hunt_command, merge_command, explore_command, replay_command, order_command, story_command}
 use Rattle.command_forms.specs.Commands.{stats_command, picture_command, page_command, study_command, trace_command, steps_command}
-use Rattle.command_forms.specs.Commands.{debug_command, explain_command}
+use Rattle.command_forms.specs.Commands.{shrink_command, debug_command, explain_command}
 
 -- the definitions that a proof unfolds to compute with the program's command
 unfoldable pub commands : ⊤
 unfolding ultra_command words_command check_command asm_command dis_command run_command hunt_command merge_command explore_command replay_command
-    order_command story_command stats_command picture_command page_command study_command trace_command steps_command debug_command explain_command
+    order_command story_command stats_command picture_command page_command study_command trace_command steps_command shrink_command debug_command
+    explain_command
 commands = tt
 
 -- The matches of the program's command are a function of the words.

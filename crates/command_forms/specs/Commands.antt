@@ -94,6 +94,10 @@ depth = record { name = codes "depth"; low = 1; high = 16 }
 abbrev pub seconds : Bounds
 seconds = record { name = codes "seconds"; low = 1; high = 4294967295 }
 
+-- the seconds after which the search for a shorter run ends
+abbrev pub shrink_seconds : Ranged
+shrink_seconds = record { bounds = seconds; default = 10 }
+
 -- the result with which a witness ends
 abbrev pub witness : Bounds
 witness = record { name = codes "witness"; low = 0; high = 4294967295 }
@@ -249,6 +253,10 @@ trace_command = command (codes "trace") (path (codes "TRACE") ∷ [])
 unfoldable pub steps_command : App
 steps_command = command (codes "steps") (file ∷ path (codes "OUT") ∷ [])
 
+unfoldable pub shrink_command : App
+shrink_command = command (codes "shrink")
+    (path (codes "TRACE") ∷ file ∷ path (codes "OUT") ∷ number shared_words.bounds ∷ number shrink_seconds.bounds ∷ [])
+
 unfoldable pub debug_command : App
 debug_command = command (codes "debug")
     (file ∷ option (codes "trace") ∷ flag (codes "stdio") ∷ (sizes ++ (number steps.bounds ∷ number port.bounds ∷ [])))
@@ -284,6 +292,7 @@ ultra_command = with_subcommands (
     ∷ study_command.top
     ∷ trace_command.top
     ∷ steps_command.top
+    ∷ shrink_command.top
     ∷ debug_command.top
     ∷ explain_command.top
     ∷ []) program

@@ -6,20 +6,20 @@ ghost use Rattle.command_forms.specs.Commands.{asm_command, check_command, debug
 ghost use Rattle.command_forms.specs.Commands.{explain_command, explore_command, hunt_command, merge_command};
 ghost use Rattle.command_forms.specs.Commands.{order_command};
 ghost use Rattle.command_forms.specs.Commands.{page_command, picture_command, program, replay_command, run_command};
-ghost use Rattle.command_forms.specs.Commands.{stats_command};
+ghost use Rattle.command_forms.specs.Commands.{shrink_command, stats_command};
 ghost use Rattle.command_forms.specs.Commands.{steps_command, story_command, study_command, trace_command};
 ghost use Rattle.command_forms.specs.Commands.{ultra_command, words_command};
 
 use crate::help::{
     ASM_ENDS, CHECK_ENDS, DEBUG_ENDS, DIS_ENDS, EXPLAIN_ENDS, EXPLORE_ENDS, HUNT_ENDS, MERGE_ENDS,
-    ORDER_ENDS, PAGE_ENDS, PICTURE_ENDS, REPLAY_ENDS, RUN_ENDS, STATS_ENDS, STEPS_ENDS, STORY_ENDS,
-    STUDY_ENDS, TRACE_ENDS, WORDS_ENDS,
+    ORDER_ENDS, PAGE_ENDS, PICTURE_ENDS, REPLAY_ENDS, RUN_ENDS, SHRINK_ENDS, STATS_ENDS,
+    STEPS_ENDS, STORY_ENDS, STUDY_ENDS, TRACE_ENDS, WORDS_ENDS,
 };
 use crate::ranges::{
     BUDGET, COMBINATIONS, ChoiceOption, DEPTH, FIRST_LINE, FIRST_START, FIRST_STEP, JOBS,
     LAST_LINE, NumberOption, PORT, PROCESSOR, QUEUE, RECORDS, RUN_STEPS, RUNS, SECONDS,
-    SHARED_WORD, SHARED_WORDS, STAGES, START, STATES, STEP, STEP_COUNT, STEPS, SWEEP_STEPS,
-    WITNESS,
+    SHARED_WORD, SHARED_WORDS, SHRINK_SECONDS, STAGES, START, STATES, STEP, STEP_COUNT, STEPS,
+    SWEEP_STEPS, WITNESS,
 };
 
 /// A command of the program.
@@ -553,6 +553,22 @@ const STEPS_TEXT: CommandForm = CommandForm {
     ends: STEPS_ENDS,
 };
 
+const SHRINK: CommandForm = CommandForm {
+    name: "shrink",
+    about: "Write the trace of a run with the same result and fewer changes from one processor to another",
+    arguments: &[
+        TRACE,
+        TRACED_IMAGE,
+        Argument::Path {
+            id: "OUT",
+            help: "Where to write the trace, for `ultra order` and `ultra replay`; opened when the search is over",
+        },
+        Argument::Number(SHARED_WORDS),
+        Argument::Number(SHRINK_SECONDS),
+    ],
+    ends: SHRINK_ENDS,
+};
+
 const DEBUG: CommandForm = CommandForm {
     name: "debug",
     about: "Wait for a debugger on 127.0.0.1, and serve its commands on a machine that opens on an image",
@@ -709,6 +725,13 @@ fn steps_text() -> CommandForm
     STEPS_TEXT
 }
 
+#[tactic(auto, unfolding(crate::specs::Commands::shrink_command))]
+fn shrink() -> CommandForm
+    ensures { app_of_form result ≡ shrink_command }
+{
+    SHRINK
+}
+
 #[tactic(auto, unfolding(crate::specs::Commands::debug_command))]
 fn debug() -> CommandForm
     ensures { app_of_form result ≡ debug_command }
@@ -746,6 +769,7 @@ pub(crate) fn commands() -> [CommandForm; 19]
         study(),
         trace_text(),
         steps_text(),
+        shrink(),
         debug(),
         explain(),
     ]

@@ -300,6 +300,24 @@ steps. S5 is a text of more than 256 MiB. Whether the machine can take the steps
 Exit status: 0 done, 2 a mistake of the text or a refused command line, 3 FILE cannot be read (`link`)
 or OUT cannot be written (`X5`), 4 out of memory.";
 
+/// What `shrink` writes and prints, and its exit statuses.
+pub(crate) const SHRINK_ENDS: &str = "\
+Two runs have the same result if `ultra replay` prints the same of them, but for `retired`. A reference is
+a line of `ultra order` with a shared word, and a change is a reference of another processor than the
+reference before it. `shrink` looks for a run with the same result and fewer changes and references: it
+leaves out references, as of processors that spin, and moves those of one processor together. It takes the
+runs that it tries by whole instructions. The search ends when nothing helps, or after --seconds. Then the
+trace of the best run is written to OUT, and a line is printed, as
+
+    changes 57 to 9, references 812 to 240
+
+A processor that still runs has the same registers and local memory, too. If no run by whole
+instructions has the same result, as after a write from outside, OUT is a copy of TRACE. An error is
+reported as by `ultra replay`, with nothing written to OUT.
+
+Exit status: 0 done, 1 done, and a fault stopped a processor, 2 a refused trace, image or command line, 3 a
+file or standard output failed, 4 out of memory.";
+
 /// What `explore` prints, and its exit statuses.
 pub(crate) const EXPLORE_ENDS: &str = "\
 A result is what is left if no processor runs any more: where each stopped and why, what it printed, and

@@ -121,6 +121,15 @@ pub const STATES: NumberOption = NumberOption {
     help: "Give up when this many states are found, 1 to 4294967295 [default: 1000000]",
 };
 
+/// The seconds after which the search for a shorter run ends.
+pub const SHRINK_SECONDS: NumberOption = NumberOption {
+    name: "seconds",
+    default: 10,
+    low: 1,
+    high: u32::MAX,
+    help: "End the search after so many seconds, 1 to 4294967295 [default: 10]",
+};
+
 /// The start of the threads' choices.
 pub const START: NumberOption = NumberOption {
     name: "start",

@@ -14,13 +14,13 @@ use Rattle.clap.specs.Walk.{Row, Text, answers_to, finished, nothing_held, rows_
 use Rattle.command_forms.specs.Commands.{Bounds, asm_command, budget, check_command, combinations, debug_command}
 use Rattle.command_forms.specs.Commands.{dis_command, explain_command, explore_command, hunt_command, merge_command, order_command}
 use Rattle.command_forms.specs.Commands.{port, processor, queue, records, page_command, picture_command, replay_command}
-use Rattle.command_forms.specs.Commands.{run_command, runs}
+use Rattle.command_forms.specs.Commands.{run_command, runs, shrink_command, shrink_seconds}
 use Rattle.command_forms.specs.Commands.{shared_word, shared_words, stages, start, states, stats_command, step, steps}
 use Rattle.command_forms.specs.Commands.{depth, first_line, first_step, jobs, last_line, steps_command, story_command, study_command, sweep_steps}
 use Rattle.command_forms.specs.Commands.{seconds, step_count, trace_command, ultra_command, witness, words_command}
 use Rattle.command_forms.proofs.Lemmas.{commands}
 use Rattle.settings.specs.Given.{HasAsm, HasDebug, HasDis, HasExplore, HasHunt, HasLines, HasMerge, HasPage, HasPath, HasPicture}
-use Rattle.settings.specs.Given.{HasReplay, HasRun, HasSizes, HasStudy, IsComplete, IsOneOf, IsWhole, command_names}
+use Rattle.settings.specs.Given.{HasReplay, HasRun, HasShrink, HasSizes, HasStudy, IsComplete, IsOneOf, IsWhole, command_names}
 use Rattle.settings.proofs.NoHelp.{IsNoHelp, StopsAtNoHelp, walk_stops}
 use Rattle.settings.proofs.Numbers.{is_apart_or_number, number_there}
 use Rattle.settings.proofs.Rows.{gives_value, required_there}
@@ -36,6 +36,14 @@ both_required : (one other : Bool) → check_kinds false false (not one || (not 
 both_required true true e = (refl, refl)
 both_required true false e = cc
 both_required false other e = cc
+
+-- If three required arguments cause no fault, all are given.
+three_required : (one other third : Bool) → check_kinds false false (not one || (not other || (not third || false))) ≡ []
+    → (one ≡ true) × (other ≡ true) × (third ≡ true)
+three_required true true true e = (refl, refl, refl)
+three_required true true false e = cc
+three_required true false third e = cc
+three_required false other third e = cc
 
 -- the program's command, as it is built
 built_ultra : App
@@ -81,8 +89,9 @@ Has name rows =
     (Where (bytes_eq name (codes "study")) (HasStudy rows)
     (Where (bytes_eq name (codes "trace")) (HasPath (codes "TRACE") rows)
     (Where (bytes_eq name (codes "steps")) (HasAsm rows)
+    (Where (bytes_eq name (codes "shrink")) (HasShrink rows)
     (Where (bytes_eq name (codes "debug")) (HasDebug rows)
-    ⊤)))))))))))))))))
+    ⊤))))))))))))))))))
 
 is_one_of : (name : Text) (names : List Text) → list_any (λ x. bytes_eq name x) names ≡ true → IsOneOf name names
 is_one_of name [] e = absurd (true≢false (sym e))
@@ -113,6 +122,7 @@ whole name rows known has = record {
   study = λ is. subst (λ n. Has n rows) is has;
   trace = λ is. subst (λ n. Has n rows) is has;
   steps = λ is. subst (λ n. Has n rows) is has;
+  shrink = λ is. subst (λ n. Has n rows) is has;
   debug = λ is. subst (λ n. Has n rows) is has;
 }
 
@@ -269,6 +279,21 @@ page_provided words e = whole (codes "page") _ refl (
   number_there (built_leaf page_command.top) step_count words refl e,
 )
 
+-- If a required trace, its image and OUT cause no fault, all are given.
+files_and_out : (rows : List Row)
+    → check_kinds false false (not (is_given (codes "TRACE") rows) || (not (is_given (codes "FILE") rows) || (not (is_given (codes "OUT") rows) || false)))
+    ≡ []
+    → (is_given (codes "TRACE") rows ≡ true) × (is_given (codes "FILE") rows ≡ true) × (is_given (codes "OUT") rows ≡ true)
+files_and_out rows = three_required (is_given (codes "TRACE") rows) (is_given (codes "FILE") rows) (is_given (codes "OUT") rows)
+
+shrink_provided : IsProvided (built_leaf shrink_command.top)
+unfolding commands
+shrink_provided words e = whole (codes "shrink") _ refl (
+  replay_there (built_leaf shrink_command.top) words refl (λ rows h. ((files_and_out rows h).0, (files_and_out rows h).1)) refl e,
+  required_there (built_leaf shrink_command.top) (codes "OUT") words refl (λ rows h. (files_and_out rows h).2) e,
+  number_there (built_leaf shrink_command.top) shrink_seconds.bounds words refl e,
+)
+
 explore_provided : IsProvided (built_leaf explore_command.top)
 unfolding commands
 explore_provided words e = whole (codes "explore") _ refl (
@@ -334,9 +359,10 @@ enters : (stop : Option (Text × List Text)) → StopsAtNoHelp stop → entered_
 unfolding built_ultra commands
 enters None unhelped e has = absurd (true≢false (sym has))
 enters (Some p) unhelped e has =
-    let provided : AreProvidedFrom p.0 19 = ((λ is. absurd (helped (bytes_eq (codes "help") p.0) (no_help p.0 unhelped) is)), tt) in
-    let provided : AreProvidedFrom p.0 18 = ((λ is. explain_provided), provided) in
-    let provided : AreProvidedFrom p.0 17 = ((λ is. debug_provided), provided) in
+    let provided : AreProvidedFrom p.0 20 = ((λ is. absurd (helped (bytes_eq (codes "help") p.0) (no_help p.0 unhelped) is)), tt) in
+    let provided : AreProvidedFrom p.0 19 = ((λ is. explain_provided), provided) in
+    let provided : AreProvidedFrom p.0 18 = ((λ is. debug_provided), provided) in
+    let provided : AreProvidedFrom p.0 17 = ((λ is. shrink_provided), provided) in
     let provided : AreProvidedFrom p.0 16 = ((λ is. steps_provided), provided) in
     let provided : AreProvidedFrom p.0 15 = ((λ is. trace_provided), provided) in
     let provided : AreProvidedFrom p.0 14 = ((λ is. study_provided), provided) in

@@ -22,7 +22,7 @@ use Rattle.settings.specs.declared.choice.LineStyle.{LineStyle}
 use Rattle.settings.specs.declared.choice.Replay.{Replay}
 use Rattle.settings.specs.Lines.{Gives, IsAsked, IsChosen, GivesExplain, name_of}
 use Rattle.command_forms.specs.Commands.{ultra_command}
-use Rattle.settings.specs.Plain.{HasFile, HasFiles, HasOthers, HasTrace, IsAsItIs, IsNoOption, IsPlain, texts_of}
+use Rattle.settings.specs.Plain.{HasFile, HasFiles, HasOthers, HasThreeFiles, HasTrace, IsAsItIs, IsNoOption, IsPlain, texts_of}
 use Rattle.command_forms.proofs.Lemmas.{commands}
 
 no_hyphen : (file : Text) → IsNoOption file → strip_byte 45 file ≡ None
@@ -101,6 +101,14 @@ files_read : {command : Text} (one read other second : Text) (words : List Text)
     Some other ≡ Some second → HasFiles command read second words
 files_read {command} one read other second words named e f =
     subst (λ g. HasFiles command g second words) (same_text one read e) (subst (λ g. HasFiles command one g words) (same_text other second f) named)
+
+-- Words that name three files name the three files that are read.
+three_read : {command : Text} (one read other second third last : Text) (words : List Text) → HasThreeFiles command one other third words →
+    Some one ≡ Some read → Some other ≡ Some second → Some third ≡ Some last → HasThreeFiles command read second last words
+three_read {command} one read other second third last words named e f g =
+    subst (λ x. HasThreeFiles command x second last words) (same_text one read e)
+    (subst (λ x. HasThreeFiles command one x last words) (same_text other second f)
+    (subst (λ x. HasThreeFiles command one other x words) (same_text third last g) named))
 
 no_text : (o : Option (Bor Text)) → None ≡ option_map (λ t. t.now) o → o ≡ None
 no_text None e = refl
@@ -390,6 +398,35 @@ files_given c one other words named =
     give _ words (name_on_files c) (files_rows c one other) (rw named.1 (files_met c named.0 one other named.2 named.3))
     (files_are c one other words named)
 
+-- ---- `shrink TRACE FILE OUT`
+
+shrink_rows : (one other third : Text) → List Row
+shrink_rows one other third =
+    row (codes "TRACE") one CommandLine ∷ row (codes "FILE") other CommandLine ∷ row (codes "OUT") third CommandLine ∷ []
+
+shrink_met : (program one other third : Text) → IsNoOption one → IsNoOption other → IsNoOption third
+    → Meets (program ∷ codes "shrink" ∷ one ∷ other ∷ third ∷ []) (codes "shrink") (shrink_rows one other third)
+unfolding row shrink_rows clap_on_literals commands
+shrink_met program one other third h k l =
+    rw (no_hyphens one h, no_hyphen one h, no_hyphen one h) (rw (no_hyphens other k, no_hyphen other k, no_hyphen other k)
+    (rw (no_hyphens third l, no_hyphen third l, no_hyphen third l) (refl, refl)))
+
+shrink_are : (one other third : Text) (words : List Text) → HasThreeFiles (codes "shrink") one other third words → (s : Settings)
+    → (name_of s ≡ codes "shrink") × Gives (shrink_rows one other third) s → IsPlain s words
+unfolding row shrink_rows
+shrink_are one other third words named (asked.Shrink s) said =
+    let files = said.1.0 in
+    let shared = files.2 in
+    let seconds = said.1.2 in
+    (three_read one s.replay.trace.now other s.replay.file.now third s.out.now words named files.0 files.1 said.1.1, shared.0, seconds.0)
+shrink_are one other third words named chosen said = apart (name_of chosen) (codes "shrink") refl said.0
+
+-- The words give the three files, 1,024 shared words, and 10 seconds.
+shrink_given : (one other third : Text) (words : List Text) → HasThreeFiles (codes "shrink") one other third words → GivePlain words
+shrink_given one other third words named =
+    give _ words (codes "shrink") (shrink_rows one other third) (rw named.1 (shrink_met named.0 one other third named.2 named.3 named.4))
+    (shrink_are one other third words named)
+
 -- ---- `explain [CODE]..`
 
 explain_rows : List Text → List Row
@@ -506,5 +543,6 @@ plain_given (asked.Page p) words said = files_given OfPage p.replay.trace.now p.
 plain_given (asked.Study s) words said = file_given OfStudy s.file.now words said.0
 plain_given (asked.Trace t) words said = file_given OfTrace t.trace.now words said
 plain_given (asked.Steps s) words said = files_given OfSteps s.file.now s.out.now words said
+plain_given (asked.Shrink s) words said = shrink_given s.replay.trace.now s.replay.file.now s.out.now words said.0
 plain_given (asked.Debug d) words said = file_given OfDebug d.file.now words said.0
 plain_given (asked.Explain e) words said = explain_given (texts_of e.words.items) words said

@@ -3,7 +3,8 @@ use Rattle.std.specs.Prelude.{◌≡◌, ◌⊎◌, pos, true, List, [], ◌∷�
 use Rattle.clap.specs.Words.{IsSignedIn, Row, Text, first_of, one_of, without_minus}
 use Rattle.command_forms.specs.Commands.{Bounds, budget, combinations, depth, first_line, jobs, last_line, port}
 use Rattle.command_forms.specs.Commands.{processor, queue, records, runs, seconds, shared_word, shared_words, stages}
-use Rattle.command_forms.specs.Commands.{first_step, start, states, step, step_count, steps, sweep_steps, witness}
+use Rattle.command_forms.specs.Commands.{first_step, shrink_seconds, start, states, step, step_count, steps}
+use Rattle.command_forms.specs.Commands.{sweep_steps, witness}
 
 abbrev pub HasPath : Text → List Row → Type 0
 HasPath id rows = is_some (first_of id rows) ≡ true
@@ -46,6 +47,9 @@ abbrev pub HasStudy : List Row → Type 0
 HasStudy rows = HasPath (codes "FILE") rows × HasNumber queue.bounds rows × HasNumber shared_words.bounds rows
     × HasNumber sweep_steps.bounds rows
 
+abbrev pub HasShrink : List Row → Type 0
+HasShrink rows = HasReplay rows × HasPath (codes "OUT") rows × HasNumber shrink_seconds.bounds rows
+
 abbrev pub HasDebug : List Row → Type 0
 HasDebug rows = HasPath (codes "FILE") rows × HasSizes rows × HasNumber steps.bounds rows × HasNumber port.bounds rows
 
@@ -66,7 +70,7 @@ abbrev pub command_names : List Text
 command_names =
     codes "words" ∷ codes "check" ∷ codes "asm" ∷ codes "dis" ∷ codes "run" ∷ codes "hunt" ∷ codes "merge"
     ∷ codes "explore" ∷ codes "replay" ∷ codes "order" ∷ codes "story" ∷ codes "stats" ∷ codes "picture" ∷ codes "page"
-    ∷ codes "study" ∷ codes "trace" ∷ codes "steps" ∷ codes "debug" ∷ codes "explain" ∷ []
+    ∷ codes "study" ∷ codes "trace" ∷ codes "steps" ∷ codes "shrink" ∷ codes "debug" ∷ codes "explain" ∷ []
 
 abbrev pub IsOneOf : Text → List Text → Type 0
 IsOneOf name [] = ⊥
@@ -92,6 +96,7 @@ pub record IsWhole (name : Text) (rows : List Row) : Type 0 where
   pub study : name ≡ codes "study" → HasStudy rows
   pub trace : name ≡ codes "trace" → HasPath (codes "TRACE") rows
   pub steps : name ≡ codes "steps" → HasAsm rows
+  pub shrink : name ≡ codes "shrink" → HasShrink rows
   pub debug : name ≡ codes "debug" → HasDebug rows
 
 -- There is a subcommand with everything that it requires.

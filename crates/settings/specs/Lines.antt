@@ -27,13 +27,14 @@ use Rattle.settings.specs.declared.choice.Picture.{Picture}
 use Rattle.settings.specs.declared.choice.Study.{Study}
 use Rattle.settings.specs.declared.choice.Trace.{Trace}
 use Rattle.settings.specs.declared.choice.Schedule.{Schedule}
+use Rattle.settings.specs.declared.choice.Shrink.{Shrink}
 use Rattle.settings.specs.declared.choice.Session.{Session}
 use Rattle.settings.specs.declared.choice.Explain.{Explain}
 use Rattle.settings.specs.declared.choice.Sizes.{Sizes}
 use Rattle.command_forms.specs.Commands.{Bounds, Ranged, stages, queue, records, combinations, shared_words}
 use Rattle.command_forms.specs.Commands.{budget, steps, port, seconds, states, runs, start, processor, shared_word}
 use Rattle.command_forms.specs.Commands.{depth, jobs, witness, step, first_step, step_count, first_line, last_line}
-use Rattle.command_forms.specs.Commands.{sweep_steps, ultra_command}
+use Rattle.command_forms.specs.Commands.{shrink_seconds, sweep_steps, ultra_command}
 
 abbrev pub IsPath : Text → List Row → Text → Type 0
 IsPath id rows file = first_of id rows ≡ Some file
@@ -155,6 +156,10 @@ GivesTrace rows t = IsPath (codes "TRACE") rows t.trace.now
 abbrev pub GivesSchedule : List Row → Schedule → Type 0
 GivesSchedule rows s = IsPath (codes "FILE") rows s.file.now × IsPath (codes "OUT") rows s.out.now
 
+abbrev pub GivesShrink : List Row → Shrink → Type 0
+GivesShrink rows s = GivesReplay rows s.replay × IsPath (codes "OUT") rows s.out.now
+    × IsNumber shrink_seconds rows s.seconds
+
 abbrev pub GivesSession : List Row → Session → Type 0
 GivesSession rows d = IsPath (codes "FILE") rows d.file.now
     × IsOption (codes "trace") rows d.trace × IsFlag (codes "stdio") rows d.stdio
@@ -182,6 +187,7 @@ name_of (asked.Page p) = codes "page"
 name_of (asked.Study s) = codes "study"
 name_of (asked.Trace t) = codes "trace"
 name_of (asked.Steps s) = codes "steps"
+name_of (asked.Shrink s) = codes "shrink"
 name_of (asked.Debug d) = codes "debug"
 name_of (asked.Explain e) = codes "explain"
 
@@ -204,6 +210,7 @@ Gives rows (asked.Page p) = GivesPage rows p
 Gives rows (asked.Study s) = GivesStudy rows s
 Gives rows (asked.Trace t) = GivesTrace rows t
 Gives rows (asked.Steps s) = GivesSchedule rows s
+Gives rows (asked.Shrink s) = GivesShrink rows s
 Gives rows (asked.Debug d) = GivesSession rows d
 Gives rows (asked.Explain e) = GivesExplain rows e
 

@@ -27,6 +27,11 @@ abbrev pub HasFiles : (command one other : Text) → List Text → Type 0
 HasFiles command one other words = (program : Text) × (words ≡ program ∷ command ∷ one ∷ other ∷ [])
     × IsNoOption one × IsNoOption other
 
+-- The words are the program's name, a command and three files.
+abbrev pub HasThreeFiles : (command one other third : Text) → List Text → Type 0
+HasThreeFiles command one other third words = (program : Text)
+    × (words ≡ program ∷ command ∷ one ∷ other ∷ third ∷ []) × IsNoOption one × IsNoOption other × IsNoOption third
+
 -- The words are the program's name, a command, a trace and an image. The machine has 1,024 shared words.
 abbrev pub HasTrace : (command : Text) → Replay → List Text → Type 0
 HasTrace command r words = HasFiles command r.trace.now r.file.now words × (r.words ≡ 1024)
@@ -85,6 +90,9 @@ IsPlain (asked.Study s) words = HasFile (codes "study") s.file.now words
     × (s.c ≡ 4) × (s.words ≡ 1024) × (s.budget ≡ 4000000)
 IsPlain (asked.Trace t) words = HasFile (codes "trace") t.trace.now words
 IsPlain (asked.Steps s) words = HasFiles (codes "steps") s.file.now s.out.now words
+IsPlain (asked.Shrink s) words =
+    HasThreeFiles (codes "shrink") s.replay.trace.now s.replay.file.now s.out.now words × (s.replay.words ≡ 1024)
+    × (s.seconds ≡ 10)
 IsPlain (asked.Debug d) words = HasFile (codes "debug") d.file.now words
     × (d.trace ≡ None) × (d.stdio ≡ false) × AreUsual d.sizes × (d.budget ≡ 100000) × (d.port ≡ 3333)
 IsPlain (asked.Explain e) words = HasOthers (codes "explain") (texts_of e.words.items) words

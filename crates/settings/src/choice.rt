@@ -24,6 +24,7 @@ pub enum Settings<'a> {
     Study(Study<'a>),
     Trace(Trace<'a>),
     Steps(Schedule<'a>),
+    Shrink(Shrink<'a>),
     Debug(Session<'a>),
     Explain(Explain<'a>),
 }
@@ -285,6 +286,17 @@ pub struct Schedule<'a> {
     pub file: &'a str,
     /// Where the trace is written.
     pub out: &'a str,
+}
+
+/// `shrink TRACE FILE OUT`.
+#[derive(Debug, PartialEq, Eq, Drop)]
+pub struct Shrink<'a> {
+    /// The trace and its machine.
+    pub replay: Replay<'a>,
+    /// Where the trace of the shorter run is written.
+    pub out: &'a str,
+    /// The number of seconds after which the search ends, from 1.
+    pub seconds: u32,
 }
 
 /// `debug FILE`.

@@ -8,5 +8,5 @@ mod reads;
 pub use asked::{settings, status_of};
 pub use choice::{
     Asm, Check, Counts, Dis, Explain, Explore, Hunt, LineStyle, Lines, Merge, Order, Page, Picture,
-    Replay, Report, Run, Schedule, Session, Settings, Sizes, Story, Study, Trace, Words,
+    Replay, Report, Run, Schedule, Session, Settings, Shrink, Sizes, Story, Study, Trace, Words,
 };

@@ -4,25 +4,25 @@ ghost use Rattle.clap.specs.Words.{all_of, found_of, rows_of, subcommand_rows_of
 ghost use Rattle.settings.specs.Lines.{AreSizes, GivesAsm, GivesCheck, GivesCounts, GivesDis, GivesExplain};
 ghost use Rattle.settings.specs.Lines.{GivesExplore, GivesHunt, GivesLines, GivesMerge, GivesOrder, GivesPage};
 ghost use Rattle.settings.specs.Lines.{GivesPicture, GivesReplay};
-ghost use Rattle.settings.specs.Lines.{GivesReport, GivesRun, GivesSchedule, GivesSession, GivesStory, GivesStudy};
+ghost use Rattle.settings.specs.Lines.{GivesReport, GivesRun, GivesSchedule, GivesSession, GivesShrink, GivesStory, GivesStudy};
 ghost use Rattle.settings.specs.Lines.{GivesStyle, GivesTrace, GivesWords, IsChoice, IsChosen, IsFlag, IsNumber};
 ghost use Rattle.settings.specs.Lines.{IsOption, IsPath};
 ghost use Rattle.settings.specs.Plain.{texts_of};
 ghost use Rattle.settings.specs.Given.{HasAsm, HasDebug, HasDis, HasExplore, HasHunt, HasLines, HasNumber};
-ghost use Rattle.settings.specs.Given.{HasPage, HasPath, HasPicture, HasReplay, HasRun, HasSizes, HasStudy};
+ghost use Rattle.settings.specs.Given.{HasPage, HasPath, HasPicture, HasReplay, HasRun, HasShrink, HasSizes, HasStudy};
 ghost use Rattle.settings.specs.Given.{IsComplete};
 ghost use Rattle.command_forms.specs.Forms.{bounded, bounds_as, ranged, ranged_as};
 
 use crate::choice::{
     Asm, Check, Counts, Dis, Explain, Explore, Hunt, LineStyle, Lines, Merge, Order, Page, Picture,
-    Replay, Report, Run, Schedule, Session, Settings, Sizes, Story, Study, Trace, Words,
+    Replay, Report, Run, Schedule, Session, Settings, Shrink, Sizes, Story, Study, Trace, Words,
 };
 use clap::ArgMatches;
 use command_forms::{
     BUDGET, COMBINATIONS, ChoiceOption, DEPTH, FIRST_LINE, FIRST_START, FIRST_STEP, JOBS,
     LAST_LINE, NumberOption, PORT, PROCESSOR, QUEUE, RECORDS, RUN_STEPS, RUNS, SECONDS,
-    SHARED_WORD, SHARED_WORDS, STAGES, START, STATES, STEP, STEP_COUNT, STEPS, SWEEP_STEPS,
-    WITNESS,
+    SHARED_WORD, SHARED_WORDS, SHRINK_SECONDS, STAGES, START, STATES, STEP, STEP_COUNT, STEPS,
+    SWEEP_STEPS, WITNESS,
 };
 use std::alloc::{AllocError, Global};
 
@@ -377,6 +377,17 @@ fn schedule<'a>(matches: &ArgMatches<'a>) -> Schedule<'a>
     }
 }
 
+fn shrink<'a>(matches: &ArgMatches<'a>) -> Shrink<'a>
+    requires { HasShrink (rows_of (found_of matches.now)) }
+    ensures { GivesShrink (rows_of (found_of matches.now)) result }
+{
+    Shrink {
+        replay: replay(matches),
+        out: path(matches, "OUT"),
+        seconds: number(matches, SHRINK_SECONDS),
+    }
+}
+
 fn session<'a>(matches: &ArgMatches<'a>) -> Session<'a>
     requires { HasDebug (rows_of (found_of matches.now)) }
     ensures { GivesSession (rows_of (found_of matches.now)) result }
@@ -478,6 +489,7 @@ pub(crate) fn subcommand_settings<'a>(
         "study" => Ok(Settings::Study(study(inner))),
         "trace" => Ok(Settings::Trace(trace(inner))),
         "steps" => Ok(Settings::Steps(schedule(inner))),
+        "shrink" => Ok(Settings::Shrink(shrink(inner))),
         "debug" => Ok(Settings::Debug(session(inner))),
         "explain" => Ok(Settings::Explain(explain(alloc, inner)?)),
         _ => unreachable!(),

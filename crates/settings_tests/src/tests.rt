@@ -16,13 +16,14 @@ mod picture;
 mod refused;
 mod replay;
 mod run;
+mod shrink;
 mod study;
 
 use clap::Error;
 use clap::error::ErrorKind;
 use command_forms::{
-    BUDGET, COMBINATIONS, FIRST_START, PORT, QUEUE, RECORDS, RUN_STEPS, RUNS, SHARED_WORDS, STAGES,
-    START, STATES, STEPS, SWEEP_STEPS,
+    BUDGET, COMBINATIONS, FIRST_START, PORT, QUEUE, RECORDS, RUN_STEPS, RUNS, SHARED_WORDS,
+    SHRINK_SECONDS, STAGES, START, STATES, STEPS, SWEEP_STEPS,
 };
 use settings::{settings, status_of};
 use std::alloc::{AllocError, AllocGlobal};
@@ -80,7 +81,7 @@ const REFUSED: &str = "\
 $ ultra
 MissingSubcommand
 error: 'ultra' requires a subcommand but one was not provided
-  [subcommands: words, check, asm, dis, run, hunt, merge, explore, replay, order, story, stats, picture, page, study, trace, steps, debug, explain, help]
+  [subcommands: words, check, asm, dis, run, hunt, merge, explore, replay, order, story, stats, picture, page, study, trace, steps, shrink, debug, explain, help]
 
 Usage: ultra <COMMAND>
 $ ultra frob
@@ -129,7 +130,7 @@ DisplayVersion
 ultra 0.1.0
 ";
 
-static CASES: [&str; 29] = [
+static CASES: [&str; 31] = [
     TAKEN,
     REFUSED,
     run::TAKEN,
@@ -157,6 +158,8 @@ static CASES: [&str; 29] = [
     picture::REFUSED,
     page::TAKEN,
     page::HELP,
+    shrink::TAKEN,
+    shrink::REFUSED,
     study::TAKEN,
     study::HELP,
 ];
@@ -261,6 +264,7 @@ fn help_has_the_defaults(rt: HostRuntime) -> Result<(), Fail> {
         STATES,
         START,
         FIRST_START,
+        SHRINK_SECONDS,
     ] {
         let (low, high, default) = (option.low, option.high, option.default);
         let range = format!(in alloc; "{low} to {high}")?;

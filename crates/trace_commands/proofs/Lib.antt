@@ -3,6 +3,7 @@ pub mod Statuses
 pub mod Answering
 pub mod Words
 pub mod OrderTelling
+pub mod References
 pub mod Orders
 pub mod StorySteps
 pub mod Lemmas

@@ -24,7 +24,8 @@ pub none_printed : (choice : Choice) (old after : MachineLists) (text : List ℕ
     AreShown choice old [] text old after
 none_printed choice old after text none both = record { lines = none; both = both; config = refl }
 
-flat_more : (m : FlatState) (xs : List Entry) (e : Entry) → flat_run m (xs ++ e ∷ []) ≡ flat_step (flat_run m xs) e
+-- The flat machine after some entries and one more has taken that one last.
+pub flat_more : (m : FlatState) (xs : List Entry) (e : Entry) → flat_run m (xs ++ e ∷ []) ≡ flat_step (flat_run m xs) e
 flat_more m [] e = refl
 flat_more m (x ∷ xs) e = flat_more (flat_step m x) xs e
 

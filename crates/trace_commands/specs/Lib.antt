@@ -2,6 +2,7 @@ pub mod TraceReports
 pub mod Explained
 pub mod Causes
 pub mod Taking
+pub mod Referring
 pub mod Orders
 pub mod Stories
 pub mod SizeLines

@@ -12,7 +12,8 @@
 //! gives their serial order ([`entries_of`]). Two more machines execute it, one entry at a time: one of them has taken
 //! the entry and the other has not yet, so that its line can say what it changed ([`order_text`]). All of this is
 //! [`order_lines`]. For a picture, a second machine takes as many steps as are asked for, and its view is drawn
-//! ([`picture_text`]).
+//! ([`picture_text`]). Two machines that execute an order also tell which processors refer in it
+//! ([`referring_processors`]).
 #![tactic(auto)]
 
 mod choosing;
@@ -23,6 +24,7 @@ mod input;
 mod lines;
 mod order;
 mod picture;
+mod referring;
 mod replay;
 mod size_line;
 mod story;
@@ -36,6 +38,7 @@ pub use input::trace_of;
 pub use lines::order_text;
 pub use order::{Order, entries_of, order_lines};
 pub use picture::Picture;
+pub use referring::referring_processors;
 pub use replay::{Report, replay_command};
 pub use size_line::push_size;
 pub use story::Story;

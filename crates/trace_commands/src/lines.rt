@@ -160,7 +160,7 @@ fn word_of(before: &Machine, entry: Entry, outcome: Outcome) -> Option<u32>
 }
 
 /// The shared word that a processor's turn acts on, if any.
-fn word_of_turn(before: &Machine, p: u8, outcome: Outcome) -> Option<u32>
+pub(crate) fn word_of_turn(before: &Machine, p: u8, outcome: Outcome) -> Option<u32>
     requires home { AreHome before.now }
     requires fault { outcome ≡ answer_of (flat_event (flat_state before.now) (entries.Processor p)) }
     requires moves { outcome ≡ Outcome.Stalled → ⊥ }

@@ -12,6 +12,7 @@ mod order_lines;
 mod orders;
 mod pictures;
 mod queues;
+mod shrinking;
 mod stories;
 mod story_lines;
 mod texts;

@@ -11,6 +11,7 @@ mod output;
 mod page;
 mod refusal;
 mod reports;
+mod shrinking;
 mod source;
 mod standard_streams;
 mod symbols;
@@ -18,47 +19,104 @@ mod symbols;
 use crate::assembling::asm_file;
 use crate::graph_page::page_of_graph;
 use crate::loopback_port::LoopbackPort;
-use crate::output::{Output, format_of};
+use crate::output::Output;
+use crate::output::format_of;
 use crate::page::page;
 use crate::refusal::Refusal;
-use crate::reports::{Reports, place_of};
+use crate::reports::Reports;
+use crate::reports::place_of;
+use crate::shrinking::shrink_file;
 use crate::source::page_file;
 use crate::standard_streams::StandardStreams;
 use crate::symbols::symbol_bytes;
-use asm_commands::{check_command, course_check_command, dis_command};
+use asm_commands::check_command;
+use asm_commands::course_check_command;
+use asm_commands::dis_command;
 use clap::Error;
-use command_io::{DONE, Fault, LINK_FAILED, REFUSED, SPENT, report_fault};
-use debug_session::{Connect, debug_command};
-use explain_command::{all_topics, explain_command};
-use host_files::{
-    Explained, FileRefusal, Place, Reason, STANDARD, open, open_beside, open_beside_trace,
-    open_image, read_once, refuse, report_place, text_or_place, trace_to, writer_to,
-};
-use link::{Link, LinkRead, LinkWrite, Meter};
+use command_io::DONE;
+use command_io::Fault;
+use command_io::LINK_FAILED;
+use command_io::REFUSED;
+use command_io::SPENT;
+use command_io::report_fault;
+use debug_session::Connect;
+use debug_session::debug_command;
+use explain_command::all_topics;
+use explain_command::explain_command;
+use host_files::Explained;
+use host_files::FileRefusal;
+use host_files::Place;
+use host_files::Reason;
+use host_files::STANDARD;
+use host_files::open;
+use host_files::open_beside;
+use host_files::open_beside_trace;
+use host_files::open_image;
+use host_files::read_once;
+use host_files::refuse;
+use host_files::report_place;
+use host_files::text_or_place;
+use host_files::trace_to;
+use host_files::writer_to;
+use link::Link;
+use link::LinkRead;
+use link::LinkWrite;
+use link::Meter;
 use machine_picture::Svg;
-use page_command::{Legend, Window};
-use processor_threads::{Gate, Open};
-use run_command::{Progress, run_command, threaded_run_command, unlogged_run_command};
-use search_files::{asks_for_property, explore_file, hunt_file, merge_files, study_file};
-use settings::{
-    Counts, Lines, Replay, Run, Schedule, Session, Settings, settings, status_of,
-};
-use std::alloc::{AllocError, Global};
+use page_command::Legend;
+use page_command::Window;
+use processor_threads::Gate;
+use processor_threads::Open;
+use run_command::Progress;
+use run_command::run_command;
+use run_command::threaded_run_command;
+use run_command::unlogged_run_command;
+use search_files::asks_for_property;
+use search_files::explore_file;
+use search_files::hunt_file;
+use search_files::merge_files;
+use search_files::study_file;
+use settings::Counts;
+use settings::Lines;
+use settings::Replay;
+use settings::Run;
+use settings::Schedule;
+use settings::Session;
+use settings::Settings;
+use settings::settings;
+use settings::status_of;
+use std::alloc::AllocError;
+use std::alloc::Global;
 use std::env;
-use std::io::{self, ErrorKind, Input, IsTerminal, Read, Write};
+use std::io::ErrorKind;
+use std::io::Input;
+use std::io::IsTerminal;
+use std::io::Read;
+use std::io::Write;
+use std::io::{self};
 use std::net::Net;
 use std::process::ExitCode;
-use std::rt::{Env, Files};
+use std::rt::Env;
+use std::rt::Files;
 use std::sync::Wait;
 use std::thread::Threads;
 use std::time::Clock;
 use symbol_table::SymbolTable;
-use trace_commands::{
-    Order, Picture, Report, Selection, Story, TraceReport, lines_command, trace_command,
-};
-use trace_counts::{LatencyStats, QueueStats, QueueTable, Stats};
+use trace_commands::Order;
+use trace_commands::Picture;
+use trace_commands::Report;
+use trace_commands::Selection;
+use trace_commands::Story;
+use trace_commands::TraceReport;
+use trace_commands::lines_command;
+use trace_commands::trace_command;
+use trace_counts::LatencyStats;
+use trace_counts::QueueStats;
+use trace_counts::QueueTable;
+use trace_counts::Stats;
 use trace_lines::Choice;
-use trace_text::{steps_command, text_command};
+use trace_text::steps_command;
+use trace_text::text_command;
 use words_command::words_command;
 
 /// All steps of a run.
@@ -331,15 +389,14 @@ fn execute<
             };
             tell_steps(rt, &asked.replay, &picture, reason, out, err)
         }
-        Settings::Page(asked) => {
-            page_file(rt, asked, names.as_ref(), reason, out, err)
-        }
+        Settings::Page(asked) => { page_file(rt, asked, names.as_ref(), reason, out, err) }
         Settings::Study(study) => Ok(study_file(rt, study, reason, out, err)?),
         Settings::Trace(asked) => {
             let mut trace = Meter::new(open(rt, asked.trace, reason)?);
             Ok(text_command(alloc, &mut trace, out, err))
         }
         Settings::Steps(schedule) => write_steps(rt, schedule, reason, out, err),
+        Settings::Shrink(shrink) => shrink_file(rt, shrink, reason, out, err),
         Settings::Debug(session) => debug_file(rt, session, reason, out, err),
         Settings::Explain(explain) => {
             let topics = all_topics();

@@ -18,6 +18,8 @@ pub(crate) enum Refusal<'a> {
     Search(SearchRefusal<'a>),
     /// The map of labels is the same file as the text or the image. None is opened.
     SameMap,
+    /// OUT is the same file as the trace to read. Neither is opened.
+    SameTrace,
     /// A run without a log is asked for on threads, or with a trace.
     NoLog,
     /// There is no memory for what the command line asks for.
@@ -41,6 +43,7 @@ impl Refusal<'_> {
             Refusal::File(refusal) => refusal.report_fault(err),
             Refusal::Search(refusal) => refusal.report_fault(err),
             Refusal::SameMap => refuse("MAP is the same file as FILE or OUT", err),
+            Refusal::SameTrace => refuse("OUT is the same file as TRACE", err),
             Refusal::NoLog => refuse("--no-log goes with --sweep, and not with --trace", err),
             Refusal::Memory => report_fault(Fault::Memory, err),
             Refusal::Formats => {

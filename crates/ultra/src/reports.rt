@@ -4,7 +4,8 @@ use host_files::Place;
 use settings::{Replay, Settings};
 use std::io::{self, Write};
 
-/// Standard error. It keeps the first letter of the code that a command reports there.
+/// Standard error. It keeps the first letter of the code that a command reports there, unless the command also names the
+/// file at fault.
 #[derive(Drop)]
 pub(crate) struct Reports<'a, E> {
     pub(crate) err: &'a mut E,
@@ -16,6 +17,10 @@ impl<E: Write> Write for Reports<'_, E> {
         // A command writes the line of a code in one call.
         if let Some(code) = buf.strip_prefix(b"ultra: ".as_slice()) {
             self.letter = code.first().copied();
+        }
+        // A second line names the file already.
+        if buf.starts_with(b"  ") {
+            self.letter = None;
         }
         self.err.write(buf)
     }
@@ -55,6 +60,7 @@ pub(crate) fn place_of<'a>(settings: &Settings<'a>, letter: u8) -> Option<Place<
         (_, Settings::Picture(asked)) => place_of_replay(&asked.replay, letter),
         (b'A', Settings::Page(asked)) => file(asked.source),
         (_, Settings::Page(asked)) => place_of_replay(&asked.replay, letter),
+        (_, Settings::Shrink(shrink)) => place_of_replay(&shrink.replay, letter),
         _ => None,
     }
 }

@@ -1,4 +1,4 @@
-//! What a machine leaves when no processor runs.
+//! What a machine leaves.
 
 ghost use Rattle.std.specs.Prelude.{◌≡◌, ◌<◌, ◌^◌, IfOk, length, map};
 ghost use Rattle.std.specs.List.{range_with_len};
@@ -11,7 +11,11 @@ use machine_steps::Machine;
 use std::alloc::{AllocError, Global};
 
 /// What a machine leaves. The tally says what its processors have shown.
-pub(crate) fn left_by(
+///
+/// # Errors
+///
+/// [`AllocError`] if there is no memory for it.
+pub fn left_by(
     alloc: Global,
     machine: &Machine,
     tally: &Tally,

@@ -14,6 +14,7 @@ mod taking;
 mod way;
 mod witness;
 
+pub use left::left_by;
 pub use refused::Refused;
 pub use reporting::tell_refused;
 pub use round::{replay_round, round_of};

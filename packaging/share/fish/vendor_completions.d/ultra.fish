@@ -56,6 +56,7 @@ complete -c ultra -n __ultra_wants_command -a page -d 'Write a page for a browse
 complete -c ultra -n __ultra_wants_command -a study -d 'Run an image by the sweep on machines of several sizes, and print a row of figures for each'
 complete -c ultra -n __ultra_wants_command -a trace -d 'Print a trace as a text, which can be edited and made a trace again by `ultra steps`'
 complete -c ultra -n __ultra_wants_command -a steps -d 'Make a trace of a text of steps, which may be written by hand'
+complete -c ultra -n __ultra_wants_command -a shrink -d 'Write the trace of a run with the same result and fewer changes from one processor to another'
 complete -c ultra -n __ultra_wants_command -a debug -d 'Wait for a debugger on 127.0.0.1, and serve its commands on a machine that opens on an image'
 complete -c ultra -n __ultra_wants_command -a explain -d 'Explain what a code that ultra prints means, what usually causes it and what to do'
 complete -c ultra -n __ultra_wants_command -a help -d 'Print the help of the program or of a command'
@@ -103,7 +104,7 @@ complete -c ultra -n '__ultra_wants_more run 1 --trace --symbols --k --c --b --r
 complete -c ultra -n '__ultra_has_command hunt' -l trace -r -F -d 'Write a trace for each result, for `ultra replay`, to PREFIX followed by the run\'s number and `.trace`'
 complete -c ultra -n '__ultra_has_command hunt' -l page -r -F -d 'Write a page for each result, which plays its first run, to PREFIX followed by the run\'s number and `.html`'
 complete -c ultra -n '__ultra_has_command hunt' -l observe -x -d 'Words by which runs differ, as `0-3,8`; results have no others [default: all]'
-complete -c ultra -n '__ultra_has_command hunt' -l schedule -r -F -d 'How a run picks the processor of each turn: random, pct or sweep-like [default: random]'
+complete -c ultra -n '__ultra_has_command hunt' -l schedule -r -F -d 'How a run picks the processor of each turn: random, pct or sweep-like [default: pct]'
 complete -c ultra -n '__ultra_has_command hunt' -l overwrite -d 'Overwrite traces and pages that exist; without it the hunt is refused if one does'
 complete -c ultra -n '__ultra_has_command hunt' -l expect-one -d 'Expect all runs to come to one result; if they do not, the exit status says so'
 complete -c ultra -n '__ultra_has_command hunt' -l quiet -d 'Show no progress line on a terminal'
@@ -229,6 +230,11 @@ complete -c ultra -n '__ultra_wants_more trace 1' -F
 complete -c ultra -n '__ultra_has_command steps' -l help -d 'Print help'
 complete -c ultra -n '__ultra_wants_more steps 2' -F
 
+complete -c ultra -n '__ultra_has_command shrink' -l words -x -d 'Shared words of four bytes that the machine has, 1 to 262144 [default: 1024]'
+complete -c ultra -n '__ultra_has_command shrink' -l seconds -x -d 'End the search after so many seconds, 1 to 4294967295 [default: 10]'
+complete -c ultra -n '__ultra_has_command shrink' -l help -d 'Print help'
+complete -c ultra -n '__ultra_wants_more shrink 3 --words --seconds' -F
+
 complete -c ultra -n '__ultra_has_command debug' -l trace -r -F -d 'Where to write the steps of the session, for `ultra replay`; opened after the session is over'
 complete -c ultra -n '__ultra_has_command debug' -l stdio -d 'Serve the session over standard input and output; no port is opened'
 complete -c ultra -n '__ultra_has_command debug' -l k -x -a '0 1 2 3 4 5 6' -d 'Stages of the network, 0 to 6; the machine has 2^k processors and 2^k memory modules [default: 2]'
@@ -319,6 +325,7 @@ complete -c ultra -n '__ultra_wants_more help 1' -a page -d 'Write a page for a 
 complete -c ultra -n '__ultra_wants_more help 1' -a study -d 'Run an image by the sweep on machines of several sizes, and print a row of figures for each'
 complete -c ultra -n '__ultra_wants_more help 1' -a trace -d 'Print a trace as a text, which can be edited and made a trace again by `ultra steps`'
 complete -c ultra -n '__ultra_wants_more help 1' -a steps -d 'Make a trace of a text of steps, which may be written by hand'
+complete -c ultra -n '__ultra_wants_more help 1' -a shrink -d 'Write the trace of a run with the same result and fewer changes from one processor to another'
 complete -c ultra -n '__ultra_wants_more help 1' -a debug -d 'Wait for a debugger on 127.0.0.1, and serve its commands on a machine that opens on an image'
 complete -c ultra -n '__ultra_wants_more help 1' -a explain -d 'Explain what a code that ultra prints means, what usually causes it and what to do'
 complete -c ultra -n '__ultra_wants_more help 1' -a help -d 'Print the help of the program or of a command'

@@ -1,0 +1,4 @@
+pub mod Changes
+pub mod Runs
+pub mod Shrinking
+pub mod Causes
