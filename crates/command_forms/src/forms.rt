@@ -748,7 +748,7 @@ fn explain() -> CommandForm
 
 /// All commands, in the order in which the help lists them.
 #[tactic(auto, unfolding(crate::specs::Commands::ultra_command))]
-pub(crate) fn commands() -> [CommandForm; 19]
+pub(crate) fn commands() -> [CommandForm; 20]
     ensures { with_forms result program ≡ ultra_command }
 {
     [
