@@ -26,7 +26,7 @@ signal --k 0
 signal --k 1 --each
 signal --k 2
 swap_lock --k 0
-swap_lock --k 1 --b 0 --c 1 --r 3
+swap_lock --k 1 --b 0 --c 4 --r 3
 swap_lock --k 2
 barrier_one_round --k 0
 barrier_one_round --k 1
@@ -40,7 +40,7 @@ peterson_wrong --k 1
 polite --k 1
 shares --k 1
 ticket_lock --k 2
-own_number --k 5
+own_number --k 3
 END
 fi
 
