@@ -240,7 +240,7 @@ END
     cat "$room/err"
     diff "$room/out" "$room/merged" && [ "$ended" -eq "$wanted" ] && [ -d "$room/killed" ] && grep -x 'some jobs have failed at try 1' "$room/err" &&
         # The log has a line for each job, and one more for the second try.
-        [ "$(tail -n +2 "$room/jobs/log" | wc -l)" -ge 20 ] && diff /dev/null <(ls "$room/jobs" | grep part)
+        [ "$(tail -n +2 "$room/jobs/log" | wc -l)" -ge 20 ] && diff /dev/null <(find "$room/jobs" -name '*part*')
 }
 if command -v parallel >/dev/null && parallel --version 2>/dev/null </dev/null | grep -q '^GNU parallel'; then
     check 'a hunt that GNU parallel deals to jobs, one of which is killed, is one hunt' merges_jobs

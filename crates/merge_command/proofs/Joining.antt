@@ -17,6 +17,7 @@ past_first : (f : FindingState) (fs : List FindingState) (place : ℕ) (o : Opti
 past_first f fs place (Some x) g = refl
 past_first f fs place None g = refl
 
+-- Joining a result by its place is inserting it by its text.
 pub joined_is : (fs : List FindingState) (g : FindingState) → joined fs g ≡ inserted fs g
 joined_is [] g = refl
 joined_is (f ∷ fs) g = by (bytes_eq g.text f.text) refl (joined_is fs g)
@@ -162,6 +163,7 @@ merged_last fs gs h =
     ap (merged fs) (joined_is gs h) ∙ merged_is fs (inserted gs h) ∙ absorbed_last fs gs h
     ∙ ap (λ xs. inserted xs h) (sym (merged_is fs gs)) ∙ sym (joined_is (merged fs gs) h)
 
+-- Results of three ranges of runs are the same merged from the left or from the right.
 pub associative : (fs gs hs : List FindingState) → merged (merged fs gs) hs ≡ merged fs (merged gs hs)
 associative fs gs hs =
     merged_is (merged fs gs) hs ∙ ap (λ xs. absorbed xs hs) (merged_is fs gs) ∙ absorbed_all fs gs hs

@@ -10,9 +10,11 @@ abbrev pub Reads : Reading → List ℕ → Reading → Type 0
 Reads r text s = (count : ℕ) (rest : List ℕ) → (more : ℕ)
     × (read_from count r (parts_at 10 (text ++ rest)) ≡ read_from more s (parts_at 10 rest))
 
+-- Reading nothing changes nothing.
 pub reads_nothing : (r : Reading) → Reads r [] r
 reads_nothing r count rest = (count, refl)
 
+-- A text and then another are read one after the other.
 pub reads_both : (r s t : Reading) (text more : List ℕ) → Reads r text s → Reads s more t → Reads r (text ++ more) t
 reads_both r s t text more one two count rest =
     let a = one count (more ++ rest) in

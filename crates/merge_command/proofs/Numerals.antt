@@ -13,9 +13,9 @@ use Rattle.std.proofs.lemmas.Fmt.{decimal_is_IsNumeral}
 use Rattle.std.proofs.lemmas.Slice.Eq.{bytes_eq-Decides}
 use Rattle.hex.specs.Hex.{IsBytes, encode_lower, encode_with, lower_digits}
 use Rattle.hex.proofs.HexLemmas.{length-encode_with}
-use Rattle.flat_machine.specs.declared.fault.Fault.{Fault}
-use Rattle.flat_machine.specs.declared.fault.Fault.TheVariants as fault
-use Rattle.flat_machine.specs.State.{number_of_fault}
+use Rattle.machine_steps.specs.machine_ports.flat_machine.declared.fault.Fault.{Fault}
+use Rattle.machine_steps.specs.machine_ports.flat_machine.declared.fault.Fault.TheVariants as fault
+use Rattle.machine_steps.specs.machine_ports.flat_machine.State.{number_of_fault}
 use Rattle.asm_lines.specs.Alike.{IsNumeralOf}
 use Rattle.asm_lines.specs.Number.{natural_within, number_of, number_within}
 use Rattle.command_io.specs.Digits.{hex_of_byte, hex_of_bytes, hex_of_word}
@@ -143,12 +143,14 @@ console_again (b ∷ bytes) =
     (and_from (nat_lt 0 (length text)) _ some
     (and_from (length text % 2 == 0) (list_all is_digit_or_zero text) (ap (λ m. m == 0) rest) (digits_or_zeros (b ∷ bytes))))
 
+-- The text of a console is a word.
 pub console_word : (bytes : List ℕ) → IsWord (console_text bytes)
 console_word [] = refl
 console_word (b ∷ bytes) = hex_word (b ∷ bytes)
 
 -- ---- faults
 
+-- The number of a fault is below 2^32.
 pub fault_small : (f : Fault) → number_of_fault f < 2 ^ 32
 fault_small fault.NoRow = omega arith
 fault_small fault.FetchOutsideCode = omega arith

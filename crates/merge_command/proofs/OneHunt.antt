@@ -3,8 +3,8 @@ use Rattle.std.proofs.Common.{◌≡◌, ◌∙◌, ℕ, zero, suc, ◌+◌, Boo
 use Rattle.std.proofs.Common.{refl, sym, ap, subst, arith, append_assoc, length-append}
 use Rattle.std.specs.Prelude.{slice_get}
 use Rattle.std.proofs.lemmas.Bool.Decides.{nat_tests}
-use Rattle.flat_machine.specs.declared.config.Config.{Config}
-use Rattle.elf_image.specs.Images.{ImageContents}
+use Rattle.machine_steps.specs.machine_ports.flat_machine.declared.config.Config.{Config}
+use Rattle.machine_steps.specs.elf_image.Images.{ImageContents}
 use Rattle.hunt_command.specs.declared.policy.Policy.{Policy}
 use Rattle.hunt_command.specs.Findings.{FindingState, found_once, if_unfinished, joined, merged, noted}
 use Rattle.hunt_command.specs.Hunts.{AreFound, AreResults, IsResultOf, ResultState, found_from, greater, greatest_from, number_at}
@@ -109,6 +109,7 @@ module _ (observed : Option (List Bool)) (c : Config) (image : ImageContents) (p
   abbrev pub AreFrom : ℕ → List ResultState → Type 0
   AreFrom place rs = (i : ℕ) (r : ResultState) → slice_get rs i ≡ Some r → IsResultOf observed c image policy (number_at start (place + i)) r
 
+  -- The results after the first are those from the next run on.
   pub after_first : (place : ℕ) (r : ResultState) (rs : List ResultState) → AreFrom place (r ∷ rs) → AreFrom (place + 1) rs
   after_first place r rs each i x there =
       subst (λ n. IsResultOf observed c image policy (number_at start n) x) (let same : place + suc i ≡ place + 1 + i = omega arith in same)

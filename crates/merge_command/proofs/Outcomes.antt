@@ -6,9 +6,9 @@ use Rattle.std.specs.Fmt.{decimal}
 use Rattle.std.specs.Int.{w32, to_be_bytes}
 use Rattle.std.specs.List.{list_all}
 use Rattle.std.proofs.lemmas.Bool.{and_from, cases_lt, le-leb, lt-ltb, or_parts}
-use Rattle.flat_machine.specs.declared.event.Status.{Status}
-use Rattle.flat_machine.specs.declared.event.Status.TheVariants.{Running, Halted, Faulted}
-use Rattle.flat_machine.specs.State.{number_of_fault}
+use Rattle.machine_steps.specs.machine_ports.flat_machine.declared.event.Status.{Status}
+use Rattle.machine_steps.specs.machine_ports.flat_machine.declared.event.Status.TheVariants.{Running, Halted, Faulted}
+use Rattle.machine_steps.specs.machine_ports.flat_machine.State.{number_of_fault}
 use Rattle.machine_steps.specs.Machines.{MachineLists}
 use Rattle.machine_steps.specs.machine_theory.Processors.{word_at}
 use Rattle.machine_steps.specs.Standing.{IsFaulted, processor_of}
@@ -49,10 +49,12 @@ has_fault text = any_of_fault (parts_at 10 text)
 abbrev pub Tells : List ℕ → Bool → Type 0
 Tells text faulted = (rest : List ℕ) → has_fault (text ++ rest) ≡ (faulted || has_fault rest)
 
+-- `or` is associative.
 pub or_assoc : (a b c : Bool) → ((a || b) || c) ≡ (a || (b || c))
 or_assoc true b c = refl
 or_assoc false b c = refl
 
+-- `or` with false changes nothing.
 pub or_false : (a : Bool) → (a || false) ≡ a
 or_false true = refl
 or_false false = refl
@@ -60,10 +62,12 @@ or_false false = refl
 tells_nothing : Tells [] false
 tells_nothing rest = refl
 
+-- Two texts tell of a fault if one of them does.
 pub tells_both : (text more : List ℕ) (a b : Bool) → Tells text a → Tells more b → Tells (text ++ more) (a || b)
 tells_both text more a b one two rest =
     ap has_fault (append_assoc text more rest) ∙ one (more ++ rest) ∙ ap (λ c. a || c) (two rest) ∙ sym (or_assoc a b (has_fault rest))
 
+-- A line of words tells of a fault if its words do.
 pub tells_line : (w : List ℕ) (ws : List (List ℕ)) → IsWord w → AreWords ws → Tells (said w ws ++ 10 ∷ []) (is_of_fault (w ∷ ws))
 tells_line w ws is all rest =
     ap any_of_fault (first_line w ws rest is all) ∙ ap (λ l. is_of_fault l || has_fault rest) (words_again w ws is all)
@@ -83,7 +87,8 @@ with_pc a n s p h r t c e = simp append_assoc
 no_pc : (a n s r t c e : List ℕ) → a ++ n ++ s ++ [] ++ r ++ t ++ c ++ e ≡ a ++ (n ++ (s ++ (r ++ (t ++ (c ++ e)))))
 no_pc a n s r t c e = simp (append_assoc, append-nil)
 
-five_words : (a b c d e s f : List ℕ) → (a ++ s) ++ (b ++ s) ++ (c ++ s) ++ (d ++ s) ++ (e ++ f) ≡ a ++ (s ++ (b ++ (s ++ (c ++ (s ++ (d ++ (s ++ (e ++ f))))))))
+five_words : (a b c d e s f : List ℕ) → (a ++ s) ++ (b ++ s) ++ (c ++ s) ++ (d ++ s) ++ (e ++ f) ≡ a ++ (s ++ (b ++ (s ++ (c ++ (s ++ (d ++ (s ++ (e
+    ++ f))))))))
 five_words a b c d e s f = simp append_assoc
 
 six_words : (a b c d e g s f : List ℕ) → (a ++ s) ++ (b ++ s) ++ (c ++ s) ++ (d ++ s) ++ (e ++ s) ++ (g ++ f)
@@ -122,11 +127,14 @@ module _ (read : AreRead) (n : ℕ) (small : n < 2 ^ 32) (pc : ℕ) where
     last = refl;
     says = rw (value_again pc, console_again shown.console, number_again read n small) refl;
     printed = said_ended (codes "processor") (decimal n ∷ codes "pc" ∷ hex_of_word pc ∷ codes "run" ∷ codes "console" ∷ console_text shown.console ∷ []) []
-        ∙ sym (with_pc (codes "processor ") (decimal n) (codes " ") (codes "pc ") (hex_of_word pc) (status_text Running) (codes " console ") (console_text shown.console) (10 ∷ []));
-    text = five_words (codes "processor") (decimal n) (codes "run") (codes "console") (console_text shown.console) (codes " ") (10 ∷ []) ∙ sym (no_pc (codes "processor ") (decimal n) (codes " ") (status_text Running) (codes " console ") (console_text shown.console) (10 ∷ []));
+        ∙ sym (with_pc (codes "processor ") (decimal n) (codes " ") (codes "pc ") (hex_of_word pc) (status_text Running) (codes " console ")
+        (console_text shown.console) (10 ∷ []));
+    text = five_words (codes "processor") (decimal n) (codes "run") (codes "console") (console_text shown.console) (codes " ") (10 ∷ [])
+        ∙ sym (no_pc (codes "processor ") (decimal n) (codes " ") (status_text Running) (codes " console ") (console_text shown.console) (10 ∷ []));
     short = decimal n ∷ codes "run" ∷ codes "console" ∷ console_text shown.console ∷ [];
     each = (number, (refl, (refl, (console_word shown.console, tt))));
-    short_is = said_ended (codes "processor") (decimal n ∷ codes "run" ∷ codes "console" ∷ console_text shown.console ∷ []) [] ∙ sym (no_pc (codes "processor ") (decimal n) (codes " ") (status_text Running) (codes " console ") (console_text shown.console) (10 ∷ []));
+    short_is = said_ended (codes "processor") (decimal n ∷ codes "run" ∷ codes "console" ∷ console_text shown.console ∷ []) []
+        ∙ sym (no_pc (codes "processor ") (decimal n) (codes " ") (status_text Running) (codes " console ") (console_text shown.console) (10 ∷ []));
     tells = refl;
   }
   outcome_of (Halted b) shown = record {
@@ -134,12 +142,16 @@ module _ (read : AreRead) (n : ℕ) (small : n < 2 ^ 32) (pc : ℕ) where
     all = (number, (refl, (value, (refl, (hex_word (b ∷ []), (refl, (console_word shown.console, tt)))))));
     last = refl;
     says = rw (value_again pc, byte_again b, console_again shown.console, number_again read n small) refl;
-    printed = said_ended (codes "processor") (decimal n ∷ codes "pc" ∷ hex_of_word pc ∷ codes "halt" ∷ hex_of_byte b ∷ codes "console" ∷ console_text shown.console ∷ []) []
-        ∙ sym (with_pc (codes "processor ") (decimal n) (codes " ") (codes "pc ") (hex_of_word pc) (status_text (Halted b)) (codes " console ") (console_text shown.console) (10 ∷ []));
-    text = six_words (codes "processor") (decimal n) (codes "halt") (hex_of_byte b) (codes "console") (console_text shown.console) (codes " ") (10 ∷ []) ∙ sym (no_pc (codes "processor ") (decimal n) (codes " ") (status_text (Halted b)) (codes " console ") (console_text shown.console) (10 ∷ []));
+    printed = said_ended (codes "processor")
+        (decimal n ∷ codes "pc" ∷ hex_of_word pc ∷ codes "halt" ∷ hex_of_byte b ∷ codes "console" ∷ console_text shown.console ∷ []) []
+        ∙ sym (with_pc (codes "processor ") (decimal n) (codes " ") (codes "pc ") (hex_of_word pc) (status_text (Halted b)) (codes " console ")
+        (console_text shown.console) (10 ∷ []));
+    text = six_words (codes "processor") (decimal n) (codes "halt") (hex_of_byte b) (codes "console") (console_text shown.console) (codes " ") (10 ∷ [])
+        ∙ sym (no_pc (codes "processor ") (decimal n) (codes " ") (status_text (Halted b)) (codes " console ") (console_text shown.console) (10 ∷ []));
     short = decimal n ∷ codes "halt" ∷ hex_of_byte b ∷ codes "console" ∷ console_text shown.console ∷ [];
     each = (number, (refl, (hex_word (b ∷ []), (refl, (console_word shown.console, tt)))));
-    short_is = said_ended (codes "processor") (decimal n ∷ codes "halt" ∷ hex_of_byte b ∷ codes "console" ∷ console_text shown.console ∷ []) [] ∙ sym (no_pc (codes "processor ") (decimal n) (codes " ") (status_text (Halted b)) (codes " console ") (console_text shown.console) (10 ∷ []));
+    short_is = said_ended (codes "processor") (decimal n ∷ codes "halt" ∷ hex_of_byte b ∷ codes "console" ∷ console_text shown.console ∷ []) []
+        ∙ sym (no_pc (codes "processor ") (decimal n) (codes " ") (status_text (Halted b)) (codes " console ") (console_text shown.console) (10 ∷ []));
     tells = refl;
   }
   outcome_of (Faulted f) shown =
@@ -150,12 +162,20 @@ module _ (read : AreRead) (n : ℕ) (small : n < 2 ^ 32) (pc : ℕ) where
         all = (number, (refl, (value, (refl, (digits, (refl, (console_word shown.console, tt)))))));
         last = refl;
         says = rw (value_again pc, fault_again read f, console_again shown.console, number_again read n small) refl;
-        printed = said_ended (codes "processor") (decimal n ∷ codes "pc" ∷ hex_of_word pc ∷ codes "fault" ∷ decimal (number_of_fault f) ∷ codes "console" ∷ console_text shown.console ∷ []) []
-            ∙ sym (with_pc (codes "processor ") (decimal n) (codes " ") (codes "pc ") (hex_of_word pc) (status_text (Faulted f)) (codes " console ") (console_text shown.console) (10 ∷ []));
-        text = six_words (codes "processor") (decimal n) (codes "fault") (decimal (number_of_fault f)) (codes "console") (console_text shown.console) (codes " ") (10 ∷ []) ∙ sym (no_pc (codes "processor ") (decimal n) (codes " ") (status_text (Faulted f)) (codes " console ") (console_text shown.console) (10 ∷ []));
+        printed = said_ended (codes "processor")
+            (decimal n ∷ codes "pc" ∷ hex_of_word pc ∷ codes "fault" ∷ decimal (number_of_fault f) ∷ codes "console" ∷ console_text shown.console ∷ []) []
+            ∙ sym (with_pc (codes "processor ") (decimal n) (codes " ") (codes "pc ") (hex_of_word pc) (status_text (Faulted f)) (codes " console ")
+            (console_text shown.console) (10 ∷ []));
+        text = six_words (codes "processor") (decimal n) (codes "fault") (decimal (number_of_fault f)) (codes "console")
+            (console_text shown.console) (codes " ") (10 ∷ [])
+            ∙ sym (no_pc (codes "processor ") (decimal n) (codes " ") (status_text (Faulted f)) (codes " console ") (console_text shown.console)
+            (10 ∷ []));
         short = decimal n ∷ codes "fault" ∷ decimal (number_of_fault f) ∷ codes "console" ∷ console_text shown.console ∷ [];
         each = (number, (refl, (digits, (refl, (console_word shown.console, tt)))));
-        short_is = said_ended (codes "processor") (decimal n ∷ codes "fault" ∷ decimal (number_of_fault f) ∷ codes "console" ∷ console_text shown.console ∷ []) [] ∙ sym (no_pc (codes "processor ") (decimal n) (codes " ") (status_text (Faulted f)) (codes " console ") (console_text shown.console) (10 ∷ []));
+        short_is = said_ended (codes "processor")
+            (decimal n ∷ codes "fault" ∷ decimal (number_of_fault f) ∷ codes "console" ∷ console_text shown.console ∷ []) []
+            ∙ sym (no_pc (codes "processor ") (decimal n) (codes " ") (status_text (Faulted f)) (codes " console ") (console_text shown.console)
+            (10 ∷ []));
         tells = refl;
       }
 
@@ -171,7 +191,8 @@ unfolding read_after
 outcome_read r p text words n faulted cut middle says next none =
     let s = record r { last = Some p } in
     let more = record p { text = p.text ++ without_pc words; printed = p.printed ++ (text ++ 10 ∷ []); processors = p.processors + 1 } in
-    let both : ((n == p.processors) && (p.words == 0)) ≡ true = (λ i. (next i == p.processors) && (none i == 0)) ∙ ap (λ b. b && true) (eqb_itself p.processors) in
+    let both : ((n == p.processors) && (p.words == 0)) ≡ true = (λ i. (next i == p.processors) && (none i == 0))
+    ∙ ap (λ b. b && true) (eqb_itself p.processors) in
     let added : with_outcome p n text words ≡ Some more = rw both refl in
     ap (after_words s text) cut
     ∙ rw middle (ap (after_line s text words) says)
@@ -280,6 +301,7 @@ not_stopped Running e h = h
 not_stopped (Halted b) e h = h
 not_stopped (Faulted f) e h = absurd (cc)
 
+-- If no processor is stopped by a fault, none of the first has one.
 pub none_stopped : (m : MachineLists) (n : ℕ) → any_stopped m n ≡ false → (p : ℕ) → p < n → IsFaulted (processor_of m p).status → ⊥
 none_stopped m zero e p within h = absurd (omega arith)
 none_stopped m (suc n) e p within h =
@@ -336,6 +358,7 @@ module _ (read : AreRead) (r : Reading) (p : PendingState) (some : 0 < p.process
       subst (λ x. Reads s x (after_written r p (text ++ word_line n word) (n + 1))) is_line
       (reads_line s (after_written r p (text ++ word_line n word) (n + 1)) (codes "word") others refl all is)
 
+  -- The lines of words after a result are read as its words.
   pub words_read : (text : List ℕ) (n : ℕ) → WordLines text n → n < 2 ^ 32 → WordsAreRead r p text n
   words_read _ _ none small = record { next = 0; few = omega arith; reads = reads_nothing (after_written r p [] 0) }
   words_read _ _ (skipped text m before) small =
@@ -363,6 +386,7 @@ one_word n word small =
       subst (λ l. list_all (λ b. nat_lt b 128) l ≡ true) is_line (ascii_line (codes "word") others refl all),
     )
 
+-- The lines of words tell of no fault, and are ASCII.
 pub words_tell : (text : List ℕ) (n : ℕ) → WordLines text n → n < 2 ^ 32 → Tells text false × (list_all (λ b. nat_lt b 128) text ≡ true)
 words_tell _ _ none small = (tells_nothing, refl)
 words_tell _ _ (skipped text m before) small = words_tell text m before (omega arith)
@@ -396,6 +420,7 @@ chosen_words : (marks : List Bool) (m : MachineLists) (n : ℕ) → WordLines (o
 chosen_words marks m zero = none
 chosen_words marks m (suc n) = observed_or_none marks (observed_lines (Some marks) m n) n (word_at m.config.k m.modules n) (chosen_words marks m n)
 
+-- The lines of observed words are lines of words.
 pub observed_words : (observed : Option (List Bool)) (m : MachineLists) (n : ℕ) → WordLines (observed_lines observed m n) n
 observed_words None m n = shared_words m n
 observed_words (Some marks) m n = chosen_words marks m n

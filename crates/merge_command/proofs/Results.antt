@@ -4,9 +4,9 @@ use Rattle.std.proofs.Common.{refl, sym, ap, subst, arith, length}
 use Rattle.std.specs.Prelude.{⊤, ◌||◌, bytes_eq, codes, slice_index}
 use Rattle.std.proofs.lemmas.Slice.Eq.{bytes_eq-Decides}
 use Rattle.std.proofs.lemmas.List.{append-nil}
-use Rattle.flat_machine.specs.declared.config.Config.{Config}
-use Rattle.flat_machine.specs.Limits.{IsWithinLimits}
-use Rattle.elf_image.specs.Images.{ImageContents}
+use Rattle.machine_steps.specs.machine_ports.flat_machine.declared.config.Config.{Config}
+use Rattle.machine_steps.specs.machine_ports.flat_machine.Limits.{IsWithinLimits}
+use Rattle.machine_steps.specs.elf_image.Images.{ImageContents}
 use Rattle.machine_steps.specs.Machines.{MachineLists}
 use Rattle.schedules.specs.declared.sweeping.SweepEnd.{SweepEnd}
 use Rattle.schedules.specs.declared.sweeping.SweepEnd.TheVariants.{Over, Budget}
@@ -188,6 +188,7 @@ tells_end : (end : SweepEnd) → Tells (end_line end) false
 tells_end Over = tells_line (codes "over") [] refl tt
 tells_end Budget = tells_line (codes "budget") [] refl tt
 
+-- A machine within its limits has fewer than 2^32 processors.
 pub few_processors : (c : Config) (m : MachineLists) → IsWithinLimits c → m.config ≡ c → 2 ^ m.config.k < 2 ^ 32
 few_processors c m limits size = by m.config.k (let stages = limits.stages in let same = ap (λ (c : Config). c.k) size in omega (arith, stages, same))
   where
@@ -201,6 +202,7 @@ few_processors c m limits size = by m.config.k (let stages = limits.stages in le
     by (suc (suc (suc (suc (suc (suc zero)))))) le = omega arith
     by (suc (suc (suc (suc (suc (suc (suc k))))))) le = absurd (omega arith)
 
+-- A machine within its limits has a processor.
 pub some_processors : (c : Config) (m : MachineLists) → IsWithinLimits c → m.config ≡ c → 0 < 2 ^ m.config.k
 some_processors c m limits size = by m.config.k (let stages = limits.stages in let same = ap (λ (c : Config). c.k) size in omega (arith, stages, same))
   where
@@ -214,6 +216,7 @@ some_processors c m limits size = by m.config.k (let stages = limits.stages in l
     by (suc (suc (suc (suc (suc (suc zero)))))) le = omega arith
     by (suc (suc (suc (suc (suc (suc (suc k))))))) le = absurd (omega arith)
 
+-- A machine within its limits has fewer than 2^32 words.
 pub few_words : (c : Config) (m : MachineLists) → IsWithinLimits c → m.config ≡ c → m.config.shared_words < 2 ^ 32
 few_words c m limits size = let words = limits.words in let same = ap (λ (c : Config). c.shared_words) size in omega (arith, words, same)
 
@@ -259,6 +262,7 @@ abbrev any_result : List ResultState → Bool
 any_result [] = false
 any_result (r ∷ rs) = has_fault r.text || any_result rs
 
+-- The greater of two statuses of machines is that of a fault in either.
 pub greater_fault : (a b : Bool) → greater (greatest_of a) (greatest_of b) ≡ greatest_of (b || a)
 greater_fault true true = refl
 greater_fault true false = refl
@@ -319,7 +323,8 @@ module _ (read : AreRead) (observed : Option (List Bool)) (c : Config) (image : 
         let is = subst (λ n. IsResultOf observed c image policy (number_at start n) r) (let same : place + 0 ≡ place = omega arith in same) (each 0 r refl) in
         let same : joined fs one ≡ inserted fs one = joined_is fs one in
         let counted = are.counted in
-        let at : place_after start number ≡ 0 + runs_of fs = place_again start place first (omega arith) ∙ (let n : place ≡ 0 + runs_of fs = omega (arith, counted) in n) in
+        let at : place_after start number ≡ 0 + runs_of fs = place_again start place first (omega arith) ∙ (let n : place ≡ 0 + runs_of fs =
+        omega (arith, counted) in n) in
         let next : AreFoundIn c start (place + 1) (joined fs one) = subst (AreFoundIn c start (place + 1)) (sym same) (record {
           texts = texts_inserted c fs one are.texts (one_text number r is);
           different = different_inserted fs one are.different;
@@ -349,6 +354,7 @@ module _ (read : AreRead) (observed : Option (List Bool)) (c : Config) (image : 
         by Over = omega arith
         by Budget = omega arith
 
+    -- The unfinished runs have numbers of the hunt, in their order.
     pub unfinished_numbers : (place runs : ℕ) (rs : List ResultState) → place + length rs ≤ runs → runs < 2 ^ 32 →
         AreNumbers start runs place (unfinished_from start place rs)
     unfinished_numbers place runs [] few small = tt

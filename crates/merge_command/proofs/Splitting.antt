@@ -104,6 +104,7 @@ pub record HasParts (parts : List (List ℕ)) : Type 0 where
   pub others : List (List ℕ)
   pub are : parts ≡ first ∷ others
 
+-- A text that is split has a first part.
 pub has_parts : (p : ℕ → Bool) (text : List ℕ) → HasParts (slice_split p text)
 has_parts p [] = record { first = []; others = []; are = refl }
 has_parts p (b ∷ bs) = by (p b) refl (has_parts p bs)

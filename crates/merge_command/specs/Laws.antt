@@ -1,8 +1,8 @@
 -- The laws of hunts' texts.
 use Rattle.std.specs.Prelude.{◌≡◌, ◌≤◌, ◌<◌, ℕ, ◌+◌, ◌^◌, Bool, List, [], ◌∷◌, ◌++◌, map, Option, Some, Ok}
-use Rattle.flat_machine.specs.declared.config.Config.{Config}
-use Rattle.flat_machine.specs.Limits.{IsWithinLimits}
-use Rattle.elf_image.specs.Images.{ImageContents}
+use Rattle.machine_steps.specs.machine_ports.flat_machine.declared.config.Config.{Config}
+use Rattle.machine_steps.specs.machine_ports.flat_machine.Limits.{IsWithinLimits}
+use Rattle.machine_steps.specs.elf_image.Images.{ImageContents}
 use Rattle.hunt_command.specs.declared.policy.Policy.{Policy}
 use Rattle.hunt_command.specs.Findings.{FindingState, hunt_lines, merged}
 use Rattle.hunt_command.specs.Hunts.{AreFound, greater, number_at}
@@ -16,7 +16,8 @@ use Rattle.merge_command.specs.Reading.{found_of}
 abbrev pub MergingIsAssociative : Type 0
 MergingIsAssociative = (fs gs hs : List FindingState) → merged (merged fs gs) hs ≡ merged fs (merged gs hs)
 
--- What a hunt finds, merged with what the hunt of the runs after its own finds, is what one hunt of all these runs finds.
+-- What a hunt finds, merged with what the hunt of the runs after its own finds, is what one hunt of all these runs
+-- finds.
 abbrev pub MergingHuntsIsOneHunt : Type 0
 MergingHuntsIsOneHunt = (observed : Option (List Bool)) (c : Config) (image : ImageContents) (policy : Policy)
     (start runs others : ℕ) (found later : List FindingState) (unfinished unended : List ℕ) (greatest status : ℕ) →

@@ -3,8 +3,8 @@ ghost use Rattle.std.specs.Prelude.{◌≡◌, ◌≤◌, ◌<◌, ◌^◌, code
 ghost use Rattle.clap.specs.Words.{all_of, found_of, rows_of, subcommand_rows_of};
 ghost use Rattle.settings.specs.Lines.{AreSizes, GivesAsm, GivesCheck, GivesCounts, GivesDis, GivesExplain};
 ghost use Rattle.settings.specs.Lines.{GivesExplore, GivesHunt, GivesLines, GivesMerge, GivesOrder, GivesPage};
-ghost use Rattle.settings.specs.Lines.{GivesPicture, GivesReplay};
-ghost use Rattle.settings.specs.Lines.{GivesReport, GivesRun, GivesSchedule, GivesSession, GivesShrink, GivesStory, GivesStudy};
+ghost use Rattle.settings.specs.Lines.{GivesPicture, GivesReplay, GivesReport, GivesRun, GivesSchedule};
+ghost use Rattle.settings.specs.Lines.{GivesSession, GivesShrink, GivesStory, GivesStudy};
 ghost use Rattle.settings.specs.Lines.{GivesStyle, GivesTrace, GivesWords, IsChoice, IsChosen, IsFlag, IsNumber};
 ghost use Rattle.settings.specs.Lines.{IsOption, IsPath};
 ghost use Rattle.settings.specs.Plain.{texts_of};

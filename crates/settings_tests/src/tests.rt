@@ -81,7 +81,8 @@ const REFUSED: &str = "\
 $ ultra
 MissingSubcommand
 error: 'ultra' requires a subcommand but one was not provided
-  [subcommands: words, check, asm, dis, run, hunt, merge, explore, replay, order, story, stats, picture, page, study, trace, steps, shrink, debug, explain, help]
+  [subcommands: words, check, asm, dis, run, hunt, merge, explore, replay, order, story, stats, picture, page, \
+    study, trace, steps, shrink, debug, explain, help]
 
 Usage: ultra <COMMAND>
 $ ultra frob
