@@ -1,7 +1,10 @@
 -- What is written and printed for the steps of a trace is written and printed for the trace.
-use Rattle.std.proofs.Common.{◌≡◌, ◌≤◌, ℕ, Bool, true, inl, inr, List, length, refl, subst}
+use Rattle.std.proofs.Common.{◌≡◌, ◌≤◌, ℕ, Bool, true, inl, inr, List, Option, Some, None, length, refl, subst}
+use Rattle.std.specs.Prelude.{IfSome, slice_get}
 use Rattle.flat_machine.specs.declared.config.Config.{Config}
 use Rattle.flat_machine.specs.Limits.{IsWithinLimits}
+use Rattle.flat_machine.specs.State.{is_running}
+use Rattle.hart.specs.State.{CoreState}
 use Rattle.elf_image.specs.Files.{IsImageOf}
 use Rattle.elf_image.specs.Images.{ImageContents}
 use Rattle.steps.specs.declared.step.Step.{Step}
@@ -16,7 +19,7 @@ use Rattle.shrink_command.specs.Causes.{IsPartShrunk, IsUnwritten, ShrinkFails, 
 use Rattle.machine_steps.specs.Machines.{IsIdle}
 use Rattle.exploration.specs.local_reduction.Results.{FinalResult}
 use Rattle.shrink_command.specs.Changes.{changes_in}
-use Rattle.shrink_command.specs.Runs.{AreReferences, IsLeft}
+use Rattle.shrink_command.specs.Runs.{AreReferences, GoOnAlike, IsLeft}
 use Rattle.shrink_command.specs.Shrinking.{AreReplacedBy, IsShrinking, IsShrunkInto, PrintsShrinking, PrintsShrunk}
 
 module _ (given : TraceInput) (t : TraceContents) (read : IsTraceOf given.trace.bytes t) (c : Config) (size : c ≡ config_of t given.shared_words)
@@ -114,11 +117,31 @@ not_shrunk c image steps shrunk out (fault.Text e) p same = absurd p
 not_shrunk c image steps shrunk out (fault.Image e) p same = absurd p
 not_shrunk c image steps shrunk out (fault.Trace e) p same = absurd p
 
--- Steps that leave the same, with no reference open, and have no more changes and no more references may be written for others.
-pub replaced_by : (c : Config) (image : ImageContents) (steps taken others : List Step) (left left' : FinalResult) (references references' : List ℕ)
-    (status : ℕ) (is_idle : Bool) → taken ≡ others → (is : IsLeft c image taken left' status) × (is_idle ≡ true → IsIdle is.before) →
-    AreReferences c image taken references' → left' ≡ left → is_idle ≡ true → changes_in references' ≤ changes_in references →
-    length references' ≤ length references → IsTrace (trace_of c taken) → AreReplacedBy c image steps left references others references' status
-replaced_by c image steps taken others left left' references references' status is_idle is l are same idle changes fewer trace =
-    subst (λ (x : List Step × FinalResult). AreReplacedBy c image steps x.1 references x.0 references' status) (λ i. (is i, same i))
-    (record { leaves = l.0; drained = inl (l.1 idle); are = are; changes = changes; fewer = fewer; trace = trace })
+-- Steps that leave the same, with no reference open and the same cores of processors that run, and have no more changes and no more references may
+-- be written for others.
+pub replaced_by : (c : Config) (image : ImageContents) (steps taken others : List Step) (left left' : FinalResult) (cores cores' : List CoreState)
+    (references references' : List ℕ) (status : ℕ) (is_idle : Bool) → taken ≡ others →
+    (is : IsLeft c image taken left' cores' status) × (is_idle ≡ true → IsIdle is.before) → AreReferences c image taken references' → left' ≡ left →
+    GoOnAlike cores cores' → is_idle ≡ true → changes_in references' ≤ changes_in references → length references' ≤ length references →
+    IsTrace (trace_of c taken) → AreReplacedBy c image steps left cores references others references' status
+replaced_by c image steps taken others left left' cores cores' references references' status is_idle is l are same go_on idle changes fewer trace =
+    subst (λ (x : List Step × FinalResult). AreReplacedBy c image steps x.1 cores references x.0 references' status) (λ i. (is i, same i))
+    (record {
+      others_cores = cores';
+      leaves = l.0;
+      go_on = go_on;
+      drained = inl (l.1 idle);
+      are = are;
+      changes = changes;
+      fewer = fewer;
+      trace = trace;
+    })
+
+-- Cores go on as themselves.
+pub go_on_as_themselves : (cores : List CoreState) → GoOnAlike cores cores
+go_on_as_themselves cores p = at (slice_get cores p) refl
+  where
+    at : (found : Option CoreState) → slice_get cores p ≡ found →
+        IfSome found (λ core. is_running core.state.status ≡ true → slice_get cores p ≡ Some core)
+    at None is = tt
+    at (Some core) is = λ runs. is

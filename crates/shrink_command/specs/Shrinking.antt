@@ -3,6 +3,7 @@ use Rattle.std.specs.Prelude.{◌≡◌, ◌⊎◌, ℕ, ◌≤◌, List, Option
 use Rattle.std.specs.Io.KnownBytes.{Appends}
 use Rattle.flat_machine.specs.declared.config.Config.{Config}
 use Rattle.elf_image.specs.Files.{IsImageOf}
+use Rattle.hart.specs.State.{CoreState}
 use Rattle.elf_image.specs.Images.{ImageContents}
 use Rattle.steps.specs.declared.step.Step.{Step}
 use Rattle.trace_file.specs.Traces.{TraceContents, IsTrace, config_of, trace_bytes, trace_of}
@@ -13,15 +14,18 @@ use Rattle.command_io.specs.Printing.{Prints}
 use Rattle.exploration.specs.local_reduction.Results.{FinalResult}
 use Rattle.trace_commands.specs.TraceReports.{IsTraceOf, TraceInput}
 use Rattle.shrink_command.specs.Changes.{changes_in, counts_line}
-use Rattle.shrink_command.specs.Runs.{AreReferences, IsLeft}
+use Rattle.shrink_command.specs.Runs.{AreReferences, GoOnAlike, IsLeft}
 
--- Steps that leave this and have these references are replaced by others, on the machine of this size that opens on the
--- image. The others leave the same, with no reference open before the drain, unless they are the steps. They have these
--- references, with no more changes than before, and are no more. A trace file can spell the others, and the exit status
--- is that of the machine after them.
+-- Steps that leave this and these cores, and have these references, are replaced by others, on the machine of this size
+-- that opens on the image. The others leave the same, with no reference open before the drain, unless they are the
+-- steps, and each processor that still runs has the same core. They have these references, with no more changes than
+-- before, and are no more. A trace file can spell the others, and the exit status is that of the machine after them.
 pub record AreReplacedBy (c : Config) (image : ImageContents) (steps : List Step) (left : FinalResult)
-    (references : List ℕ) (others : List Step) (others_references : List ℕ) (status : ℕ) : Type 0 where
-  pub leaves : IsLeft c image others left status
+    (cores : List CoreState) (references : List ℕ) (others : List Step) (others_references : List ℕ) (status : ℕ)
+    : Type 0 where
+  pub others_cores : List CoreState
+  pub leaves : IsLeft c image others left others_cores status
+  pub go_on : GoOnAlike cores others_cores
   pub drained : IsIdle leaves.before ⊎ (others ≡ steps)
   pub are : AreReferences c image others others_references
   pub changes : changes_in others_references ≤ changes_in references
@@ -34,11 +38,12 @@ pub record IsShrunk (c : Config) (image : ImageContents) (steps others : List St
     : Type 0 where
   pub left : FinalResult
   pub status_before : ℕ
-  pub leaves : IsLeft c image steps left status_before
+  pub cores : List CoreState
+  pub leaves : IsLeft c image steps left cores status_before
   pub references : List ℕ
   pub are : AreReferences c image steps references
   pub others_references : List ℕ
-  pub replaced : AreReplacedBy c image steps left references others others_references status
+  pub replaced : AreReplacedBy c image steps left cores references others others_references status
   pub counts : line ≡ counts_line references others_references
 
 -- the steps of a log, or, if there is none, the given ones

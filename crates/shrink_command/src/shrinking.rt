@@ -8,7 +8,7 @@ ghost use Rattle.trace_file.specs.Traces.{IsTrace, trace_of};
 ghost use Rattle.command_io.specs.Files.{IsFaultOfSize};
 ghost use Rattle.trace_commands.specs.Causes.{IsNotTaken};
 ghost use Rattle.shrink_command.specs.Changes.{changes_in};
-ghost use Rattle.shrink_command.specs.Runs.{AreReferences, IsLeft};
+ghost use Rattle.shrink_command.specs.Runs.{AreReferences, GoOnAlike, IsLeft};
 ghost use Rattle.shrink_command.specs.Shrinking.{AreReplacedBy, IsShrunk, steps_of};
 
 use crate::counting::{changes_in, counts_line};
@@ -17,7 +17,8 @@ use crate::search::shorter_run;
 use crate::summary::{Summary, summary_of};
 use command_io::Fault;
 use elf_image::Image;
-use flat_machine::Config;
+use flat_machine::{Config, Status};
+use hart::Core;
 use machine_log::Logged;
 use std::alloc::{AllocError, Global};
 use steps::Step;
@@ -79,8 +80,8 @@ fn found_run<G: ShrinkObserver>(
 ) -> Result<Option<Found>, Fault>
     requires words { image.now.shared_words ≡ config.shared_words }
     ensures found { IfOk result (λ found. IfSome found (λ f. (steps : List StepValue) →
-        AreReplacedBy config image.now steps summary.now.left summary.now.references.items f.log.steps
-        f.summary.references.items f.summary.status)) }
+        AreReplacedBy config image.now steps summary.now.left summary.now.cores.items summary.now.references.items
+        f.log.steps f.summary.references.items f.summary.status)) }
     ensures low { IfOk result (λ found. IfSome found (λ f. f.summary.status ≤ 1)) }
     ensures refused { IfErr result (IsFaultOfSize config) }
 {
@@ -100,8 +101,8 @@ fn check(
 ) -> Result<Option<Found>, Fault>
     requires words { image.now.shared_words ≡ config.shared_words }
     ensures found { IfOk result (λ found. IfSome found (λ f. (steps : List StepValue) →
-        AreReplacedBy config image.now steps summary.now.left summary.now.references.items f.log.steps
-        f.summary.references.items f.summary.status)) }
+        AreReplacedBy config image.now steps summary.now.left summary.now.cores.items summary.now.references.items
+        f.log.steps f.summary.references.items f.summary.status)) }
     ensures low { IfOk result (λ found. IfSome found (λ f. f.summary.status ≤ 1)) }
     ensures refused { IfErr result (IsFaultOfSize config) }
 {
@@ -121,10 +122,11 @@ fn check(
     }
 }
 
-/// Whether a run may be written for another: it leaves the same, with no reference open, and has no more changes and no
-/// more references.
+/// Whether a run may be written for another: it leaves the same, with no reference open, the processors that still run
+/// have the same cores, and it has no more changes and no more references.
 fn may_replace(old: &Summary, new: &Summary) -> bool
     ensures same { result ≡ true → new.now.left ≡ old.now.left }
+    ensures go_on { result ≡ true → GoOnAlike old.now.cores.items new.now.cores.items }
     ensures idle { result ≡ true → new.now.is_idle ≡ true }
     ensures changes { result ≡ true →
         changes_in new.now.references.items ≤ changes_in old.now.references.items }
@@ -133,16 +135,32 @@ fn may_replace(old: &Summary, new: &Summary) -> bool
     let (before, after) = (old.references.as_slice(), new.references.as_slice());
     new.is_idle
         && new.left.is_same(&old.left)
+        && go_on_alike(old.cores.as_slice(), new.cores.as_slice())
         && changes_in(after) <= changes_in(before)
         && after.len() <= before.len()
+}
+
+/// Whether each core that runs is the same in the other list.
+fn go_on_alike(cores: &[Core], others: &[Core]) -> bool
+    ensures { result ≡ true → GoOnAlike cores.now others.now }
+{
+    if cores.len() != others.len() {
+        return false;
+    }
+    for (p, core) in cores.iter().enumerate() {
+        if core.status() == Status::Running && !core.equals(&others[p]) {
+            return false;
+        }
+    }
+    true
 }
 
 /// What is written and printed for a run that comes to this, and the run that was found for it, if there is one.
 fn shrunk_to(alloc: Global, summary: Summary, found: Option<Found>) -> Result<Shrunk, AllocError>
     ensures shrunk { (c : ConfigValue) (image : ImageContents) (steps : List StepValue) →
-        IsLeft c image steps summary.left summary.status → AreReferences c image steps summary.references.items →
+        IsLeft c image steps summary.left summary.cores.items summary.status → AreReferences c image steps summary.references.items →
         IsTrace (trace_of c steps) → IfSome found (λ f. (others : List StepValue) →
-        AreReplacedBy c image others summary.left summary.references.items f.log.steps
+        AreReplacedBy c image others summary.left summary.cores.items summary.references.items f.log.steps
         f.summary.references.items f.summary.status)
         → IfOk result (λ s. IsShrunk c image steps (steps_of steps s.log) (string_bytes s.line) s.status) }
     ensures low { summary.status ≤ 1 → IfSome found (λ f. f.summary.status ≤ 1) → IfOk result (λ s. s.status ≤ 1) }

@@ -49,7 +49,7 @@ pub(crate) fn summary_of(
 ) -> Result<Summary, Fault>
     requires few { length steps.now ≤ 4194304 }
     requires words { image.now.shared_words ≡ config.shared_words }
-    ensures left { IfOk result (λ s. (is : IsLeft config image.now steps.now s.left s.status)
+    ensures left { IfOk result (λ s. (is : IsLeft config image.now steps.now s.left s.cores.items s.status)
         × (s.is_idle ≡ true → IsIdle is.before)) }
     ensures references { IfOk result (λ s. AreReferences config image.now steps.now s.references.items) }
     ensures low { IfOk result (λ s. s.status ≤ 1) }
@@ -85,7 +85,7 @@ struct Left {
 fn left_after(alloc: Global, image: &Image, config: Config, steps: &[Step]) -> Result<Left, Fault>
     requires few { length steps.now ≤ 4194304 }
     requires words { image.now.shared_words ≡ config.shared_words }
-    ensures left { IfOk result (λ l. (is : IsLeft config image.now steps.now l.left l.status)
+    ensures left { IfOk result (λ l. (is : IsLeft config image.now steps.now l.left l.cores.items l.status)
         × (l.is_idle ≡ true → IsIdle is.before)) }
     ensures low { IfOk result (λ l. l.status ≤ 1) }
     ensures refused { IfErr result (IsNotTaken config image.now steps.now) }

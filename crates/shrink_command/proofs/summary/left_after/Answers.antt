@@ -33,6 +33,7 @@ returns-clause-left c =
         taken = record { opening = opening; opens = opens; replay_counted = all };
         idle = c.in_ok-drain_counted.ensures.idle;
         is = c.in_ok-left.ensures;
+        cores_are = c.in_ok-cores.ensures;
         exit = c.exit_status.ensures;
       },
       λ is. c.is_idle-is_idle.ensures.idle.0 is,
