@@ -28,7 +28,7 @@ pub enum Phi {
 }
 
 impl Phi {
-    pub fn of_amo(op: Amo, value: u32) -> Phi {
+    fn of_amo(op: Amo, value: u32) -> Phi {
         match op {
             Amo::Add => Phi::Add(value),
             Amo::Swap => Phi::Bits { and: 0, xor: value },
@@ -122,15 +122,15 @@ pub struct Request {
 }
 
 #[derive(Clone, Copy)]
-pub struct Entry {
-    pub request: Request,
-    pub is_combined: bool,
+struct Entry {
+    request: Request,
+    is_combined: bool,
 }
 
 #[derive(Clone, Copy)]
-pub struct Reply {
-    pub leader: u8,
-    pub value: u32,
+struct Reply {
+    leader: u8,
+    value: u32,
 }
 
 #[derive(Clone, Copy)]
@@ -241,31 +241,31 @@ impl Observer for () {}
 
 pub struct Processor {
     pub pc: u32,
-    pub registers: [u32; 32],
-    pub local: Vec<u8>,
+    registers: [u32; 32],
+    local: Vec<u8>,
     pub status: Status,
-    pub open: Option<Wanted>,
+    open: Option<Wanted>,
 }
 
 pub struct Layout {
-    pub entry: u32,
+    entry: u32,
     pub code: Vec<u8>,
-    pub local: Vec<u8>,
-    pub shared: Vec<u32>,
+    local: Vec<u8>,
+    shared: Vec<u32>,
 }
 
 pub struct Machine {
     pub config: Config,
     pub n: u8,
-    pub insns: Vec<Option<Insn>>,
-    pub code: Vec<u8>,
+    insns: Vec<Option<Insn>>,
+    code: Vec<u8>,
     pub processors: Vec<Processor>,
     pub shared: Vec<u32>,
-    pub slots: Vec<Option<Request>>,
-    pub requests: Vec<VecDeque<Entry>>,
-    pub records: Vec<Vec<Record>>,
-    pub replies: Vec<VecDeque<Reply>>,
-    pub module_replies: Vec<Option<Reply>>,
+    slots: Vec<Option<Request>>,
+    requests: Vec<VecDeque<Entry>>,
+    records: Vec<Vec<Record>>,
+    replies: Vec<VecDeque<Reply>>,
+    module_replies: Vec<Option<Reply>>,
     /// For each depth, a bit for each wire that holds a request, and for each that holds a reply.
     pub asking: [u64; 7],
     pub told: [u64; 7],
