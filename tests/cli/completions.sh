@@ -39,7 +39,7 @@ fish_offers() {
 offered() {
     local files='a.elf a.s b.trace'
     cat <<WORDS
-ultra |asm check debug dis explain explore help hunt order page picture replay run stats steps story study trace words
+ultra |asm check debug dis explain explore help hunt order page picture replay run shrink stats steps story study trace words
 ultra ex|explain explore
 ultra help h|help hunt
 ultra words |$files

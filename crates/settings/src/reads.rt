@@ -4,7 +4,8 @@ ghost use Rattle.clap.specs.Words.{all_of, found_of, rows_of, subcommand_rows_of
 ghost use Rattle.settings.specs.Lines.{AreSizes, GivesAsm, GivesCheck, GivesCounts, GivesDis, GivesExplain};
 ghost use Rattle.settings.specs.Lines.{GivesExplore, GivesHunt, GivesLines, GivesOrder, GivesPage, GivesPicture};
 ghost use Rattle.settings.specs.Lines.{GivesReplay};
-ghost use Rattle.settings.specs.Lines.{GivesReport, GivesRun, GivesSchedule, GivesSession, GivesShrink, GivesStory, GivesStudy};
+ghost use Rattle.settings.specs.Lines.{GivesReport, GivesRun, GivesSchedule, GivesSession, GivesShrink, GivesStory};
+ghost use Rattle.settings.specs.Lines.{GivesStudy};
 ghost use Rattle.settings.specs.Lines.{GivesStyle, GivesTrace, GivesWords, IsChoice, IsChosen, IsFlag, IsNumber};
 ghost use Rattle.settings.specs.Lines.{IsOption, IsPath};
 ghost use Rattle.settings.specs.Plain.{texts_of};

@@ -39,8 +39,8 @@ IsUnwritten shrunk = shrunk.new ≡ shrunk.old
 
 -- Why the line is not printed: the trace is refused, or the trace of the new run cannot be written; the image is
 -- refused; the machine's size is out of limits; a step stalls; the image's file cannot be opened, or the line cannot be
--- printed after the trace is written. Nothing is said about a lack of memory. If no trace was to be written yet, no byte
--- of one is.
+-- printed after the trace is written. Nothing is said about a lack of memory. If no trace was to be written yet, no
+-- byte of one is.
 abbrev pub ShrinkFails : TraceInput → (shrunk out : Output) → Fault → Type 0
 ShrinkFails given shrunk out (fault.Trace e) =
     (IsTraceRefusal given.trace.bytes e × IsUnwritten shrunk)

@@ -3,8 +3,8 @@
 //! It begins with the references of the serial order, and changes their list: it leaves out parts, first large ones and
 //! then smaller ones (delta debugging); it sorts parts by processors; and it moves a block of references of one
 //! processor to the next such block. It keeps a list if its run leaves the same and is shorter. What is left out is
-//! mostly the spinning of processors that wait. When this does not help any more, it tries all lists of fewer blocks, the
-//! fewest first, up to a number of lists.
+//! mostly the spinning of processors that wait. When this does not help any more, it tries all lists of fewer blocks,
+//! the fewest first, up to a number of lists.
 
 ghost use Rattle.std.specs.Prelude.{◌≡◌, IfErr};
 ghost use Rattle.machine_steps.specs.Machines.{AreHome, IsIdle};
@@ -33,7 +33,8 @@ const MOST_LISTS: usize = 20_000;
 const SIZES: u32 = 22;
 
 /// The log of a run that leaves the same, by whole instructions: the shortest that was found before the observer ended
-/// the search. None if even the run in the order of the references does not leave the same, or if the log would be full.
+/// the search. None if even the run in the order of the references does not leave the same, or if the log would be
+/// full.
 ///
 /// # Errors
 ///

@@ -4,8 +4,8 @@ use host_files::Place;
 use settings::{Replay, Settings};
 use std::io::{self, Write};
 
-/// Standard error. It keeps the first letter of the code that a command reports there, unless the command also names the
-/// file at fault.
+/// Standard error. It keeps the first letter of the code that a command reports there, unless the command also names
+/// the file at fault.
 #[derive(Drop)]
 pub(crate) struct Reports<'a, E> {
     pub(crate) err: &'a mut E,

@@ -16,12 +16,7 @@ use std::time::Clock;
 
 /// Does what `shrink TRACE FILE OUT` asks for. The first write to OUT opens it. If OUT cannot be written, a second line
 /// of the report names it.
-pub(crate) fn shrink_file<
-    'a,
-    R: Files + Input + Clock + AllocGlobal,
-    W: LinkWrite,
-    E: Write,
->(
+pub(crate) fn shrink_file<'a, R: Files + Input + Clock + AllocGlobal, W: LinkWrite, E: Write>(
     rt: &R,
     shrink: &Shrink<'a>,
     reason: &Reason,

@@ -15,11 +15,7 @@ use std::alloc::{AllocError, Global};
 /// # Errors
 ///
 /// [`AllocError`] if there is no memory for it.
-pub fn left_by(
-    alloc: Global,
-    machine: &Machine,
-    tally: &Tally,
-) -> Result<FinalResult, AllocError>
+pub fn left_by(alloc: Global, machine: &Machine, tally: &Tally) -> Result<FinalResult, AllocError>
     requires home { AreHome machine.now }
     requires all { length tally.now.shown ≡ 2 ^ machine.now.config.k }
     ensures { IfOk result (λ last. last ≡ left_by machine.now tally.now.shown) }

@@ -14,7 +14,8 @@ returns-in_err-found-clause-fault g c =
     rw (p.1, p.2)
     (not_shrunk c.args.config c.args.image.now c.args.steps.now
     (output {W = g.row.O.Denot} g.O.Write.contents g.O.Link.has_failed c.args.shrunk.now c.args.shrunk.now)
-    (output {W = g.row.W.Denot} g.W.Write.contents g.W.Link.has_failed c.args.out.now c.args.out.now) c.in_err-found.field-0.0 c.in_err-found.ensures.refused refl)
+    (output {W = g.row.W.Denot} g.W.Write.contents g.W.Link.has_failed c.args.out.now c.args.out.now) c.in_err-found.field-0.0
+    c.in_err-found.ensures.refused refl)
 
 pub returns-in_err-write_found-clause-fault : goal.returns-in_err-write_found-clause-fault
 returns-in_err-write_found-clause-fault g c =
