@@ -28,9 +28,9 @@ use trace_file::{Trace, TraceError, write_trace};
 /// Reads a trace and an image, and writes to `shrunk` the trace of a run that leaves the same on a machine of the
 /// trace's size, with this many shared words, that opens on the image: the same pc, status and console of each
 /// processor, and the same shared words, each after a drain. A processor that then runs has the same registers and
-/// local memory, too. Its serial order has no more references to shared words than that of the trace, and no more
-/// changes from one processor to another between them. Then prints a line that counts both. The observer decides when
-/// the search for such a run ends.
+/// local memory, too. The serial order of the run has no more references to shared words than that of the trace, and no
+/// more changes from one processor to another between them. Then prints a line that counts both. The observer decides
+/// when the search for such a run ends.
 ///
 /// Returns the exit status: that of the machine, 0 or 1, if the line is printed, else that of the fault reported on
 /// standard error. Faults are checked in this order: of the trace, of the image, of the machine's size, of a step that

@@ -136,8 +136,8 @@ impl<'a> Trial<'a> {
 
     /// Tries the run in which these processors refer one after another, each after what it does alone before that. Then
     /// each goes on alone until it stands where it is to stand. A processor that has stopped is passed over. Returns
-    /// whether the run leaves what it is to leave: not if it takes too many instructions, or if the observer cuts it
-    /// off.
+    /// whether the run leaves what it is to leave. It does not if it takes too many instructions, or if the observer
+    /// cuts it off.
     pub(crate) fn leaves_the_same<G: ShrinkObserver>(
         &mut self,
         list: &[u8],

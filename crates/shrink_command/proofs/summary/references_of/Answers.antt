@@ -1,5 +1,4 @@
-use Rattle.std.proofs.Common.{◌≡◌, ◌∙◌, List, ap, sym, subst}
-use Rattle.flat_machine.specs.declared.poke.Entry.{Entry}
+use Rattle.std.proofs.Common.{◌≡◌, ◌∙◌, List, ap, subst}
 use Rattle.elf_image.specs.Openings.{opening as flat_opening}
 use Rattle.steps.specs.declared.step.Step.{Step}
 use Rattle.machine_steps.specs.Machines.{MachineLists}
