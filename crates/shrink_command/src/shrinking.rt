@@ -159,7 +159,8 @@ fn go_on_alike(cores: &[Core], others: &[Core]) -> bool
 fn shrunk_to(alloc: Global, summary: Summary, found: Option<Found>) -> Result<Shrunk, AllocError>
     ensures shrunk { (c : ConfigValue) (image : ImageContents) (steps : List StepValue) →
         IsLeft c image steps summary.left summary.cores.items summary.status →
-        AreReferences c image steps summary.references.items → IsTrace (trace_of c steps) → IfSome found (λ f. (others : List StepValue) →
+        AreReferences c image steps summary.references.items → IsTrace (trace_of c steps) →
+        IfSome found (λ f. (others : List StepValue) →
         AreReplacedBy c image others summary.left summary.cores.items summary.references.items f.log.steps
         f.summary.references.items f.summary.status)
         → IfOk result (λ s. IsShrunk c image steps (steps_of steps s.log) (string_bytes s.line) s.status) }
