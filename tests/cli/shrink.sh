@@ -89,10 +89,10 @@ for stages in 1 2; do
     check "lost additions of $((1 << stages)) processors shrink to the fewest changes" shrinks_lost_adds "$stages"
 done
 
-# Each of two processors adds 1 ten times by a load and a store. Without a change between a load and its store nothing is lost: 1 change is the fewest for 20. With 2
-# changes one processor does all its additions at one place of the other's run: the result is 20, or 10 if that is between
-# a load and its store. With 3 changes the words from 11 to 19 can come out: some additions of one come first, and the others while the other
-# processor is between its load and its store.
+# Each of two processors adds 1 ten times by a load and a store. Without a change between a load and its store nothing is
+# lost: 1 change is the fewest for 20. With 2 changes one processor does all its additions at one place of the other's run:
+# the result is 20, or 10 if that is between a load and its store. With 3 changes the words from 11 to 19 can come out: some
+# additions of one come first, and the others while the other processor is between its load and its store.
 shrinks_ten_adds() {
     local trace word changes
     ./ultra asm examples/explore/ten_adds.s "$room/ten_adds.elf" &&
