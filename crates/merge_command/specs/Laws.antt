@@ -16,7 +16,8 @@ use Rattle.merge_command.specs.Reading.{found_of}
 abbrev pub MergingIsAssociative : Type 0
 MergingIsAssociative = (fs gs hs : List FindingState) → merged (merged fs gs) hs ≡ merged fs (merged gs hs)
 
--- What a hunt finds, merged with what the hunt of the runs after its own finds, is what one hunt of all these runs finds.
+-- What a hunt finds, merged with what the hunt of the runs after its own finds, is what one hunt of all these runs
+-- finds.
 abbrev pub MergingHuntsIsOneHunt : Type 0
 MergingHuntsIsOneHunt = (observed : Option (List Bool)) (c : Config) (image : ImageContents) (policy : Policy)
     (start runs others : ℕ) (found later : List FindingState) (unfinished unended : List ℕ) (greatest status : ℕ) →

@@ -31,7 +31,8 @@ abbrev pub joined_texts : (first others : FoundText) → Result FoundText Break
 joined_texts t u =
     if u.start == (t.start + t.findings.noted) % 2 ^ 32
     then (if nat_lt (t.findings.noted + u.findings.noted) 4294967296
-    then Ok (record { start = t.start; findings = joined_findings t.findings u.findings; faulted = t.faulted || u.faulted })
+    then Ok
+    (record { start = t.start; findings = joined_findings t.findings u.findings; faulted = t.faulted || u.faulted })
     else Err break.TooMany)
     else Err break.Apart
 
@@ -144,8 +145,8 @@ IsFaultAt files None r = (r ≡ refusal.NoText) × (files ≡ [])
 abbrev pub IsTextFault : (files : List (Option (List ℕ))) → Refused → Type 0
 IsTextFault files r = IsFaultAt files r.place r.refusal
 
--- Why nothing is printed, or not all: a file is not merged; the text cannot be printed, and a beginning of it is; or there
--- is no memory for it; or there is no file. The place is that of the file, if it is a file's fault.
+-- Why nothing is printed, or not all: a file is not merged; the text cannot be printed, and a beginning of it is; or
+-- there is no memory for it; or there is no file. The place is that of the file, if it is a file's fault.
 abbrev pub MergeFails : (expect_one : Bool) → (files : List (Option (List ℕ))) → (old new : Option (List ℕ)) →
     (at : Option ℕ) → Refusal → Type 0
 MergeFails expect_one files old new (Some place) r = IsRefusedAt files place r

@@ -36,8 +36,8 @@ pending runs first end = record {
   words = 0;
 }
 
--- a result after the line of the processor with this number, whose words these are: it is the next one, and no line of a
--- word is before it
+-- a result after the line of the processor with this number, whose words these are: it is the next one, and no line of
+-- a word is before it
 abbrev pub with_outcome : PendingState → (number : ℕ) → (line : List ℕ) → (words : List (List ℕ)) → Option PendingState
 with_outcome p number line words =
     if (number == p.processors) && (p.words == 0)
@@ -96,8 +96,8 @@ completed r (Some p) = completed_by r p
 abbrev pub place_after : (start number : ℕ) → ℕ
 place_after start number = (number + (2 ^ 32 - start)) % 2 ^ 32
 
--- what has been read after the heading of a result: its first run comes after that of the result before it, and all runs
--- before it have results before it
+-- what has been read after the heading of a result: its first run comes after that of the result before it, and all
+-- runs before it have results before it
 abbrev pub opened : Reading → (runs first : ℕ) → SweepEnd → Option Reading
 opened r runs first end =
     if nat_lt 0 runs && (nat_lt r.latest (place_after r.start first)

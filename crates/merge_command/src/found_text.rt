@@ -30,8 +30,8 @@ pub enum Break {
 ///
 /// # Errors
 ///
-/// [`Refusal::Apart`] if the text does not begin with the next run, [`Refusal::TooMany`] if there are 2^32 runs or more,
-/// and [`Refusal::Memory`].
+/// [`Refusal::Apart`] if the text does not begin with the next run, [`Refusal::TooMany`] if there are 2^32 runs or
+/// more, and [`Refusal::Memory`].
 pub(crate) fn join(all: &mut FoundText, later: &FoundText) -> Result<(), Refusal>
     ensures joined { OnOk result (joined_texts all.old later.now ≡ Ok all.new) }
     ensures refused { IfErr result (IsBreak (joined_texts all.old later.now)) }

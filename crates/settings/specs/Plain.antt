@@ -48,8 +48,8 @@ IsAsItIs y = (y.symbols ≡ None) × (y.decimal ≡ false) × (y.json ≡ false)
 abbrev pub TakesAll : Lines → Type 0
 TakesAll l = (l.processor ≡ None) × (l.word ≡ None) × (l.from ≡ None) × (l.to ≡ None) × IsAsItIs l.style
 
--- The words are just the command of these settings with its files, or `explain` or `merge` with at most four words. So no
--- flag is set, no trace is written, no names are printed, no choice is made, and each number is its default.
+-- The words are just the command of these settings with its files, or `explain` or `merge` with at most four words. So
+-- no flag is set, no trace is written, no names are printed, no choice is made, and each number is its default.
 abbrev pub IsPlain : Settings → List Text → Type 0
 IsPlain (asked.Words w) words = HasFile (codes "words") w.file.now words
 IsPlain (asked.Check c) words = HasFile (codes "check") c.file.now words × (c.course ≡ false) × (c.json ≡ false)
