@@ -186,56 +186,6 @@ What to do: leave comments out. The steps that a trace holds fit in half of that
 ",
     },
     Topic {
-        name: "M1",
-        meaning: "a text for `merge` is not what a hunt printed",
-        advice: "\
-`ultra merge` reports it as `M1 line N` of FOUND: N is the first line that no hunt could have printed
-there, or the last line if the text ends too early. Exit status 2.
-
-Usual causes: a hunt with --json, --symbols or --decimal, or the output of another command; a file of a
-hunt that was killed, or was not over; an empty file.
-
-What to do: repeat the hunt of these runs without these options, and give them to `merge`. Write its
-output to a file under another name, and rename it when the hunt is over.
-
-    ultra hunt --start 501 --runs 500 program.elf > part2.txt
-",
-    },
-    Topic {
-        name: "M2",
-        meaning: "the runs of a text for `merge` do not begin with the one after those of the text before it",
-        advice: "\
-`ultra merge` reports it with the name of the second text. Exit status 2.
-
-Usual causes: texts that are not in the order of their runs, as `part10.txt` before `part2.txt`; a text
-that is missing or is given twice; a hunt with another --start or --runs.
-
-What to do: give the texts in the order of their runs. The first run of a text is the first number after
-`first` in it, and it has as many runs as the numbers after `runs` make together.
-",
-    },
-    Topic {
-        name: "M3",
-        meaning: "texts for `merge` have 4,294,967,296 runs or more",
-        advice: "\
-`ultra merge` reports it with the name of the text with which there are too many. Exit status 2.
-
-What to do: give fewer texts. There are only so many different runs, since a run is its number.
-",
-    },
-    Topic {
-        name: "M4",
-        meaning: "a text for `merge` has more than 64 MiB",
-        advice: "\
-`ultra merge` reports it with the name of the text. Exit status 2.
-
-Usual causes: an input without an end, such as /dev/zero, or a file of another kind; a program whose runs
-all have different results.
-
-What to do: hunt with --observe, so that results have only the words that matter.
-",
-    },
-    Topic {
         name: "I1",
         meaning: "an image ends before its header or its table of segments does",
         advice: "\
@@ -474,6 +424,22 @@ stopped or waits for a reply, or moves a message that is not there.
 What to do: give the image and the `--words` of the run. In a schedule written by hand, leave out step
 N and all after it, which is in line N + 2 of what `ultra trace` prints, and look at the story of the
 rest.
+",
+    },
+    Topic {
+        name: "M1",
+        meaning: "a text for `merge` is not what a hunt printed",
+        advice: "\
+`ultra merge` reports it as `M1 line N` of FOUND: N is the first line that no hunt could have printed
+there, or the last line if the text ends too early. Exit status 2.
+
+Usual causes: a hunt with --json, --symbols or --decimal, or the output of another command; a file of a
+hunt that was killed, or was not over; an empty file.
+
+What to do: repeat the hunt of these runs without these options, and give them to `merge`. Write its
+output to a file under another name, and rename it when the hunt is over.
+
+    ultra hunt --start 501 --runs 500 program.elf > part2.txt
 ",
     },
 ];

@@ -5,6 +5,40 @@ use crate::topic::Topic;
 /// Why a command gave up.
 pub(crate) const ENDS: &[Topic] = &[
     Topic {
+        name: "M2",
+        meaning: "the runs of a text for `merge` do not begin with the one after those of the text before it",
+        advice: "\
+`ultra merge` reports it with the name of the second text. Exit status 2.
+
+Usual causes: texts that are not in the order of their runs, as `part10.txt` before `part2.txt`; a text
+that is missing or is given twice; a hunt with another --start or --runs.
+
+What to do: give the texts in the order of their runs. The first run of a text is the first number after
+`first` in it, and it has as many runs as the numbers after `runs` make together.
+",
+    },
+    Topic {
+        name: "M3",
+        meaning: "texts for `merge` have 4,294,967,296 runs or more",
+        advice: "\
+`ultra merge` reports it with the name of the text with which there are too many. Exit status 2.
+
+What to do: give fewer texts. There are only so many different runs, since a run is its number.
+",
+    },
+    Topic {
+        name: "M4",
+        meaning: "a text for `merge` has more than 64 MiB",
+        advice: "\
+`ultra merge` reports it with the name of the text. Exit status 2.
+
+Usual causes: an input without an end, such as /dev/zero, or a file of another kind; a program whose runs
+all have different results.
+
+What to do: hunt with --observe, so that results have only the words that matter.
+",
+    },
+    Topic {
         name: "link",
         meaning: "a file cannot be opened, a text cannot be read, or standard output cannot be written",
         advice: "\

@@ -62,7 +62,8 @@ unfoldable pub heading_in : (runs n first s end : List ℕ) → Option Line
 heading_in runs n first s end =
     if bytes_eq runs (codes "runs") && bytes_eq first (codes "first")
     then option_and_then
-    (λ n. option_and_then (λ s. option_map (λ end. line.Heading n s end) (end_in end)) (number_in s)) (number_in n)
+    (λ n. option_and_then (λ s. option_map (λ end. line.Heading n s end) (end_in end)) (number_in s))
+    (number_in n)
     else None
 
 -- `processor P pc V STATUS console C`, where the status stands for itself

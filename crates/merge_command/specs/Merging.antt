@@ -31,11 +31,8 @@ abbrev pub joined_texts : (first others : FoundText) → Result FoundText Break
 joined_texts t u =
     if u.start == (t.start + t.findings.noted) % 2 ^ 32
     then (if nat_lt (t.findings.noted + u.findings.noted) 4294967296
-    then Ok (record {
-      start = t.start;
-      findings = joined_findings t.findings u.findings;
-      faulted = t.faulted || u.faulted;
-    })
+    then Ok
+    (record { start = t.start; findings = joined_findings t.findings u.findings; faulted = t.faulted || u.faulted })
     else Err break.TooMany)
     else Err break.Apart
 

@@ -1,7 +1,8 @@
 //! `ultra merge`: from the bytes of hunts' texts to those of one text.
 
 ghost use Rattle.std.specs.Prelude.{◌≡◌, ◌⊎◌, ◌<◌, ℕ, List, None, Option, Some, true, false, IfErr, IfOk, IsErrAnd};
-ghost use Rattle.std.specs.Prelude.{OnErr, OnOk, length, slice_get};
+ghost use Rattle.std.specs.Prelude.{OnErr, OnOk};
+ghost use Rattle.std.specs.Prelude.{length, slice_get};
 ghost use Rattle.std.specs.Io.KnownBytes.{Appends};
 ghost use Rattle.link.specs.Transfer.{AppendsPart};
 ghost use Rattle.command_io.specs.Printing.{Prints, ReportsRefusal};

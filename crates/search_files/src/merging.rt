@@ -15,19 +15,19 @@ use std::rt::Files;
 
 /// Files with the texts of hunts.
 #[derive(Drop)]
-struct FoundFiles<'a, R> {
-    rt: &'a R,
-    paths: &'a [&'a str],
-    reason: &'a Reason,
+struct FoundFiles<'a, 'b, R> {
+    rt: &'b R,
+    paths: &'b [&'a str],
+    reason: &'b Reason,
 }
 
-impl<'a, R: Files + Input> HuntTexts for FoundFiles<'a, R> {
+impl<'a, 'b, R: Files + Input> HuntTexts for FoundFiles<'a, 'b, R> {
     ghost use Rattle.std.specs.Prelude.{None, map};
 
-    type Reader = Meter<Explained<'a, Opened<Source<R::File, R::Reader>>>>;
+    type Reader = Meter<Explained<'b, Opened<Source<R::File, R::Reader>>>>;
 
     // No contract knows the content of a file.
-    ghost known = { λ f. map (λ path. None) f.paths };
+    ghost known = { λ f. map (λ path. None) f.paths.now };
 
     fn count(&self) -> usize {
         self.paths.len()
@@ -53,10 +53,10 @@ fn read_once<'a>(paths: &[&str]) -> Result<(), SearchRefusal<'a>> {
 }
 
 /// Does what `merge FOUND..` asks for. If a text is at fault, a second line has its name.
-pub fn merge_files<'a, R: Files + Input + AllocGlobal, W: LinkWrite, E: Write>(
-    rt: &R,
-    merge: &Merge<'a>,
-    reason: &Reason,
+pub fn merge_files<'a, 'b, R: Files + Input + AllocGlobal, W: LinkWrite, E: Write>(
+    rt: &'b R,
+    merge: &'b Merge<'a>,
+    reason: &'b Reason,
     out: &mut W,
     err: &mut E,
 ) -> Result<u8, SearchRefusal<'a>>
