@@ -3,7 +3,7 @@ use Rattle.std.specs.Prelude.{ℕ, zero, suc, ◌+◌, ◌%◌, ◌==◌, nat_lt
 use Rattle.std.specs.Prelude.{Result, Ok, Err, if◌then◌else◌, length, slice_index_or}
 use Rattle.std.specs.Fmt.{decimal}
 use Rattle.std.specs.List.{flat_map}
-use Rattle.rv_table.specs.declared.insn.Insn.{Insn}
+use Rattle.flat_machine.specs.rv_table.declared.insn.Insn.{Insn}
 use Rattle.flat_machine.specs.declared.config.Config.{Config}
 use Rattle.flat_machine.specs.declared.event.Status.{Status}
 use Rattle.flat_machine.specs.declared.event.Status.TheVariants.{Halted}
