@@ -210,7 +210,8 @@ runs_step (x ∷ gs) zero g there =
 runs_step (x ∷ gs) (suc i) g there =
     let next : suc i + 1 ≡ suc (i + 1) = omega arith in
     let rest = runs_step gs i g there in
-    ap (λ n. runs_of (take n (x ∷ gs))) next ∙ (let sum : x.runs + runs_of (take (i + 1) gs) ≡ x.runs + runs_of (take i gs) + g.runs = omega (arith, rest) in sum)
+    ap (λ n. runs_of (take n (x ∷ gs))) next ∙ (let sum : x.runs + runs_of (take (i + 1) gs) ≡ x.runs + runs_of (take i gs) + g.runs = omega
+    (arith, rest) in sum)
 
 -- The first of some results have no more runs than all.
 pub runs_within : (gs : List FindingState) (i : ℕ) → runs_of (take i gs) ≤ runs_of gs

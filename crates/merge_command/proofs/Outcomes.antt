@@ -83,7 +83,8 @@ with_pc a n s p h r t c e = simp append_assoc
 no_pc : (a n s r t c e : List ℕ) → a ++ n ++ s ++ [] ++ r ++ t ++ c ++ e ≡ a ++ (n ++ (s ++ (r ++ (t ++ (c ++ e)))))
 no_pc a n s r t c e = simp (append_assoc, append-nil)
 
-five_words : (a b c d e s f : List ℕ) → (a ++ s) ++ (b ++ s) ++ (c ++ s) ++ (d ++ s) ++ (e ++ f) ≡ a ++ (s ++ (b ++ (s ++ (c ++ (s ++ (d ++ (s ++ (e ++ f))))))))
+five_words : (a b c d e s f : List ℕ) → (a ++ s) ++ (b ++ s) ++ (c ++ s) ++ (d ++ s) ++ (e ++ f) ≡ a ++ (s ++ (b ++ (s ++ (c ++ (s ++ (d ++ (s ++
+    (e ++ f))))))))
 five_words a b c d e s f = simp append_assoc
 
 six_words : (a b c d e g s f : List ℕ) → (a ++ s) ++ (b ++ s) ++ (c ++ s) ++ (d ++ s) ++ (e ++ s) ++ (g ++ f)
@@ -122,11 +123,14 @@ module _ (read : AreRead) (n : ℕ) (small : n < 2 ^ 32) (pc : ℕ) where
     last = refl;
     says = rw (value_again pc, console_again shown.console, number_again read n small) refl;
     printed = said_ended (codes "processor") (decimal n ∷ codes "pc" ∷ hex_of_word pc ∷ codes "run" ∷ codes "console" ∷ console_text shown.console ∷ []) []
-        ∙ sym (with_pc (codes "processor ") (decimal n) (codes " ") (codes "pc ") (hex_of_word pc) (status_text Running) (codes " console ") (console_text shown.console) (10 ∷ []));
-    text = five_words (codes "processor") (decimal n) (codes "run") (codes "console") (console_text shown.console) (codes " ") (10 ∷ []) ∙ sym (no_pc (codes "processor ") (decimal n) (codes " ") (status_text Running) (codes " console ") (console_text shown.console) (10 ∷ []));
+        ∙ sym (with_pc (codes "processor ") (decimal n) (codes " ") (codes "pc ") (hex_of_word pc) (status_text Running) (codes " console ")
+        (console_text shown.console) (10 ∷ []));
+    text = five_words (codes "processor") (decimal n) (codes "run") (codes "console") (console_text shown.console) (codes " ") (10 ∷ [])
+        ∙ sym (no_pc (codes "processor ") (decimal n) (codes " ") (status_text Running) (codes " console ") (console_text shown.console) (10 ∷ []));
     short = decimal n ∷ codes "run" ∷ codes "console" ∷ console_text shown.console ∷ [];
     each = (number, (refl, (refl, (console_word shown.console, tt))));
-    short_is = said_ended (codes "processor") (decimal n ∷ codes "run" ∷ codes "console" ∷ console_text shown.console ∷ []) [] ∙ sym (no_pc (codes "processor ") (decimal n) (codes " ") (status_text Running) (codes " console ") (console_text shown.console) (10 ∷ []));
+    short_is = said_ended (codes "processor") (decimal n ∷ codes "run" ∷ codes "console" ∷ console_text shown.console ∷ []) []
+        ∙ sym (no_pc (codes "processor ") (decimal n) (codes " ") (status_text Running) (codes " console ") (console_text shown.console) (10 ∷ []));
     tells = refl;
   }
   outcome_of (Halted b) shown = record {
@@ -135,11 +139,15 @@ module _ (read : AreRead) (n : ℕ) (small : n < 2 ^ 32) (pc : ℕ) where
     last = refl;
     says = rw (value_again pc, byte_again b, console_again shown.console, number_again read n small) refl;
     printed = said_ended (codes "processor") (decimal n ∷ codes "pc" ∷ hex_of_word pc ∷ codes "halt" ∷ hex_of_byte b ∷ codes "console" ∷ console_text shown.console ∷ []) []
-        ∙ sym (with_pc (codes "processor ") (decimal n) (codes " ") (codes "pc ") (hex_of_word pc) (status_text (Halted b)) (codes " console ") (console_text shown.console) (10 ∷ []));
-    text = six_words (codes "processor") (decimal n) (codes "halt") (hex_of_byte b) (codes "console") (console_text shown.console) (codes " ") (10 ∷ []) ∙ sym (no_pc (codes "processor ") (decimal n) (codes " ") (status_text (Halted b)) (codes " console ") (console_text shown.console) (10 ∷ []));
+        ∙ sym (with_pc (codes "processor ") (decimal n) (codes " ") (codes "pc ") (hex_of_word pc) (status_text (Halted b)) (codes " console ")
+        (console_text shown.console) (10 ∷ []));
+    text = six_words (codes "processor") (decimal n) (codes "halt") (hex_of_byte b) (codes "console") (console_text shown.console) (codes " ")
+        (10 ∷ []) ∙ sym (no_pc (codes "processor ") (decimal n) (codes " ") (status_text (Halted b)) (codes " console ") (console_text shown.console)
+        (10 ∷ []));
     short = decimal n ∷ codes "halt" ∷ hex_of_byte b ∷ codes "console" ∷ console_text shown.console ∷ [];
     each = (number, (refl, (hex_word (b ∷ []), (refl, (console_word shown.console, tt)))));
-    short_is = said_ended (codes "processor") (decimal n ∷ codes "halt" ∷ hex_of_byte b ∷ codes "console" ∷ console_text shown.console ∷ []) [] ∙ sym (no_pc (codes "processor ") (decimal n) (codes " ") (status_text (Halted b)) (codes " console ") (console_text shown.console) (10 ∷ []));
+    short_is = said_ended (codes "processor") (decimal n ∷ codes "halt" ∷ hex_of_byte b ∷ codes "console" ∷ console_text shown.console ∷ []) []
+        ∙ sym (no_pc (codes "processor ") (decimal n) (codes " ") (status_text (Halted b)) (codes " console ") (console_text shown.console) (10 ∷ []));
     tells = refl;
   }
   outcome_of (Faulted f) shown =
@@ -150,12 +158,18 @@ module _ (read : AreRead) (n : ℕ) (small : n < 2 ^ 32) (pc : ℕ) where
         all = (number, (refl, (value, (refl, (digits, (refl, (console_word shown.console, tt)))))));
         last = refl;
         says = rw (value_again pc, fault_again read f, console_again shown.console, number_again read n small) refl;
-        printed = said_ended (codes "processor") (decimal n ∷ codes "pc" ∷ hex_of_word pc ∷ codes "fault" ∷ decimal (number_of_fault f) ∷ codes "console" ∷ console_text shown.console ∷ []) []
-            ∙ sym (with_pc (codes "processor ") (decimal n) (codes " ") (codes "pc ") (hex_of_word pc) (status_text (Faulted f)) (codes " console ") (console_text shown.console) (10 ∷ []));
-        text = six_words (codes "processor") (decimal n) (codes "fault") (decimal (number_of_fault f)) (codes "console") (console_text shown.console) (codes " ") (10 ∷ []) ∙ sym (no_pc (codes "processor ") (decimal n) (codes " ") (status_text (Faulted f)) (codes " console ") (console_text shown.console) (10 ∷ []));
+        printed = said_ended (codes "processor") (decimal n ∷ codes "pc" ∷ hex_of_word pc ∷ codes "fault" ∷ decimal
+            (number_of_fault f) ∷ codes "console" ∷ console_text shown.console ∷ []) []
+            ∙ sym (with_pc (codes "processor ") (decimal n) (codes " ") (codes "pc ") (hex_of_word pc) (status_text (Faulted f)) (codes " console ")
+            (console_text shown.console) (10 ∷ []));
+        text = six_words (codes "processor") (decimal n) (codes "fault") (decimal (number_of_fault f)) (codes "console") (console_text shown.console)
+            (codes " ") (10 ∷ []) ∙ sym (no_pc (codes "processor ") (decimal n) (codes " ") (status_text (Faulted f)) (codes " console ")
+            (console_text shown.console) (10 ∷ []));
         short = decimal n ∷ codes "fault" ∷ decimal (number_of_fault f) ∷ codes "console" ∷ console_text shown.console ∷ [];
         each = (number, (refl, (digits, (refl, (console_word shown.console, tt)))));
-        short_is = said_ended (codes "processor") (decimal n ∷ codes "fault" ∷ decimal (number_of_fault f) ∷ codes "console" ∷ console_text shown.console ∷ []) [] ∙ sym (no_pc (codes "processor ") (decimal n) (codes " ") (status_text (Faulted f)) (codes " console ") (console_text shown.console) (10 ∷ []));
+        short_is = said_ended (codes "processor") (decimal n ∷ codes "fault" ∷ decimal
+            (number_of_fault f) ∷ codes "console" ∷ console_text shown.console ∷ []) []
+            ∙ sym (no_pc (codes "processor ") (decimal n) (codes " ") (status_text (Faulted f)) (codes " console ") (console_text shown.console) (10 ∷ []));
         tells = refl;
       }
 
@@ -171,7 +185,8 @@ unfolding read_after
 outcome_read r p text words n faulted cut middle says next none =
     let s = record r { last = Some p } in
     let more = record p { text = p.text ++ without_pc words; printed = p.printed ++ (text ++ 10 ∷ []); processors = p.processors + 1 } in
-    let both : ((n == p.processors) && (p.words == 0)) ≡ true = (λ i. (next i == p.processors) && (none i == 0)) ∙ ap (λ b. b && true) (eqb_itself p.processors) in
+    let both : ((n == p.processors) && (p.words == 0)) ≡ true = (λ i. (next i == p.processors) && (none i == 0))
+    ∙ ap (λ b. b && true) (eqb_itself p.processors) in
     let added : with_outcome p n text words ≡ Some more = rw both refl in
     ap (after_words s text) cut
     ∙ rw middle (ap (after_line s text words) says)

@@ -14,7 +14,8 @@ use Rattle.asm_lines.specs.Text.{parts_at}
 use Rattle.schedules.specs.declared.sweeping.SweepEnd.{SweepEnd}
 use Rattle.schedules.specs.declared.sweeping.SweepEnd.TheVariants.{Over, Budget}
 use Rattle.hunt_command.specs.declared.policy.Policy.{Policy}
-use Rattle.hunt_command.specs.Findings.{FindingState, FindingsState, finding_lines, findings_lines, hunt_lines, joined, numbers_text, place_of, runs_of, unfinished_line}
+use Rattle.hunt_command.specs.Findings.{FindingState, FindingsState, finding_lines, findings_lines, hunt_lines}
+use Rattle.hunt_command.specs.Findings.{joined, numbers_text, place_of, runs_of, unfinished_line}
 use Rattle.hunt_command.specs.Hunts.{AreFound, AreResults, IsResultOf, ResultState, found_from, number_at, unfinished_from}
 use Rattle.hunt_command.specs.Lines.{end_line, observed_lines, outcome_lines, result_of}
 use Rattle.merge_command.specs.declared.found_text.FoundText.{FoundText}
@@ -133,7 +134,10 @@ module _ (read : AreRead) (c : Config) (limits : IsWithinLimits c) where
         (λ i. record s { last = Some (record q { text = sym x.text_is i; printed = sym x.printed_is i; words = two.next }) }) in
         let three : Reads s text (record s { last = Some (whole f x.end n two.next) }) =
         subst (λ (a : Reading). Reads a text (record s { last = Some (whole f x.end n two.next) })) start
-        (subst (λ (b : Reading). Reads (record s { last = Some (record q { text = q.text ++ []; printed = q.printed ++ []; words = 0 }) }) text b) end two.reads) in
+        (subst (λ (b : Reading). Reads (record s {
+          last = Some
+              (record q { text = q.text ++ []; printed = q.printed ++ []; words = 0 });
+        }) text b) end two.reads) in
         record {
           words = two.next;
           reads = reads_both (record r { last = Some p }) s (record s { last = Some (whole f x.end n two.next) }) before text one three;
@@ -162,7 +166,8 @@ module _ (read : AreRead) (c : Config) (limits : IsWithinLimits c) where
 
 -- ---- a result is completed
 
-others_there : (text : List ℕ) (ds : List FindingState) (f : FindingState) (fs : List FindingState) → AreOthers text (ds ++ f ∷ fs) → bytes_eq f.text text ≡ false
+others_there : (text : List ℕ) (ds : List FindingState) (f : FindingState) (fs : List FindingState) → AreOthers text (ds ++ f ∷ fs) →
+    bytes_eq f.text text ≡ false
 others_there text [] f fs all = all.0
 others_there text (d ∷ ds) f fs all = others_there text ds f fs all.1
 
@@ -359,7 +364,8 @@ module _ (read : AreRead) (c : Config) (limits : IsWithinLimits c) (start runs :
         let last : with_unfinished (after ds f) others ≡ Some t =
         ap (λ b. cond b (with_numbers findings start 0 others >>= λ g. Some (record (after ds f) { findings = g })) None) fits
         ∙ ap (λ o. o >>= λ g. Some (record (after ds f) { findings = g })) more in
-        let is : read_after s l ≡ Some t = last_read l others (words_again (codes "unfinished") others refl are) (ap (λ o. o >>= λ r. with_unfinished r others) done ∙ last) in
+        let is : read_after s l ≡ Some t = last_read l others (words_again (codes "unfinished") others refl are) (ap
+        (λ o. o >>= λ r. with_unfinished r others) done ∙ last) in
         let text : unfinished_line (n ∷ ns) ≡ l ++ 10 ∷ [] = ap (λ l. l ++ 10 ∷ []) (numbers_said (codes "unfinished") (n ∷ ns)) in
         let one = reads_line s t (codes "unfinished") others refl are is count [] in
         ap (λ l. read_from count s (parts_at 10 l)) (text ∙ sym (append-nil (l ++ 10 ∷ []))) ∙ one.1
@@ -469,7 +475,8 @@ module _ (read : AreRead) (observed : Option (List Bool)) (c : Config) (image : 
       let same : unended_of (found_from start 0 [] rs) ≡ length (unfinished_from start 0 rs) = omega (arith, sum) in same)
       ∙ ap length (sym are.those) in
       let numbers : AreNumbers start runs 0 unfinished =
-      subst (AreNumbers start runs 0) (sym are.those) (unfinished_numbers read observed c image policy limits start low 0 runs rs (omega (arith, all)) small) in (
+      subst (AreNumbers start runs 0) (sym are.those) (unfinished_numbers read observed c image policy limits start low 0 runs rs (omega
+      (arith, all)) small) in (
         any_fault found,
         are.exit ∙ greatest_is read observed c image policy limits start low rs each ∙ ap (λ fs. greatest_of (any_fault fs)) (sym are.are),
         by found kept' counted numbers,

@@ -319,7 +319,8 @@ module _ (read : AreRead) (observed : Option (List Bool)) (c : Config) (image : 
         let is = subst (λ n. IsResultOf observed c image policy (number_at start n) r) (let same : place + 0 ≡ place = omega arith in same) (each 0 r refl) in
         let same : joined fs one ≡ inserted fs one = joined_is fs one in
         let counted = are.counted in
-        let at : place_after start number ≡ 0 + runs_of fs = place_again start place first (omega arith) ∙ (let n : place ≡ 0 + runs_of fs = omega (arith, counted) in n) in
+        let at : place_after start number ≡ 0 + runs_of fs = place_again start place first (omega arith)
+        ∙ (let n : place ≡ 0 + runs_of fs = omega (arith, counted) in n) in
         let next : AreFoundIn c start (place + 1) (joined fs one) = subst (AreFoundIn c start (place + 1)) (sym same) (record {
           texts = texts_inserted c fs one are.texts (one_text number r is);
           different = different_inserted fs one are.different;

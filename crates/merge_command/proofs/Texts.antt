@@ -56,11 +56,13 @@ module _ (read_back : HuntsAreReadBack) (one_hunt : MergingHuntsIsOneHunt) (obse
       let joined : joined_texts t u ≡ Ok next =
       ap (λ b. cond b (cond (nat_lt (t.findings.noted + h.runs) 4294967296) (Ok next) (Err break.TooMany)) (Err break.Apart)) follows
       ∙ ap (λ b. cond b (Ok next) (Err break.TooMany)) fits in
-      let both = one_hunt observed c image policy start runs h.runs t.findings.found h.found t.findings.unfinished h.unfinished (greatest_of t.faulted) h.greatest
+      let both = one_hunt observed c image policy start runs h.runs t.findings.found h.found t.findings.unfinished h.unfinished
+      (greatest_of t.faulted) h.greatest
       found adjacent.1 in
       let status : greater h.greatest (greatest_of t.faulted) ≡ greatest_of (t.faulted || read.0) =
       ap (λ n. greater n (greatest_of t.faulted)) read.1 ∙ greater_fault read.0 t.faulted in
-      let both' = subst (AreFound observed c image policy start (runs + h.runs) (merged t.findings.found h.found) (t.findings.unfinished ++ h.unfinished)) status both in
+      let both' = subst (AreFound observed c image policy start (runs + h.runs) (merged t.findings.found h.found)
+      (t.findings.unfinished ++ h.unfinished)) status both in
       let at : number_at there h.runs ≡ number_at start (runs + h.runs) = omega arith in
       let rest = said_with next (runs + h.runs) hs first (ap (λ n. n + h.runs) count) (omega arith) both'
       (subst (λ n. AreAdjacent observed c image policy n hs) at adjacent.2) in

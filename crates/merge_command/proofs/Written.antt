@@ -24,7 +24,8 @@ use Rattle.merge_command.specs.declared.reading.Reading.{Reading}
 use Rattle.merge_command.specs.Lines.{as_printed, end_in, heading_in, is_last, line_of, number_in, outcome_in, word_in}
 use Rattle.merge_command.specs.Pending.{PendingState}
 use Rattle.merge_command.specs.Reading.{◌>>=◌, ◌>=>◌, after_last, after_line, after_outcome, after_word, at_line, begun, begun_by, completed, completed_by}
-use Rattle.merge_command.specs.Reading.{ended, finding_of, found_of, found_text, is_complete, opened, place_after, read_after, read_from, read_lines, with_finding}
+use Rattle.merge_command.specs.Reading.{ended, finding_of, found_of, found_text, is_complete}
+use Rattle.merge_command.specs.Reading.{opened, place_after, read_after, read_from, read_lines, with_finding}
 use Rattle.merge_command.specs.Reading.{with_last, with_number, with_numbers, with_outcome, with_unfinished, with_word}
 use Rattle.merge_command.proofs.Results.{end_word}
 use Rattle.merge_command.proofs.Splitting.{ended as ended_by, said, said_ended}
@@ -128,7 +129,8 @@ heading_line : (text : List ℕ) (n s : ℕ) (end : SweepEnd) → line_of (parts
     text ++ 10 ∷ [] ≡ finding_lines n s (end_line end)
 unfolding finding_lines
 heading_line text n s end e =
-    ap (λ l. l ++ 10 ∷ []) (line_is text (codes "runs") (decimal n ∷ codes "first" ∷ decimal s ∷ end_word end ∷ []) (heading_words (parts_at 32 text) n s end e))
+    ap (λ l. l ++ 10 ∷ []) (line_is text (codes "runs") (decimal n ∷ codes "first" ∷ decimal s ∷ end_word end ∷ []) (heading_words
+    (parts_at 32 text) n s end e))
     ∙ by end
   where
     as_words : (end : SweepEnd) → ended_by (codes "runs") (decimal n ∷ codes "first" ∷ decimal s ∷ end_word end ∷ []) []
@@ -308,7 +310,8 @@ numbers_added f start next (word ∷ words) g e =
     let rest = numbers_added a.0.0 start a.0.1 words g a.2 in
     by (number_in word) refl a.0 a.1 rest
   where
-    by : (o : Option ℕ) → number_in word ≡ o → (more : FindingsState × ℕ) → with_number f start next o ≡ Some more → AreAdded more.0 words g → AreAdded f (word ∷ words) g
+    by : (o : Option ℕ) → number_in word ≡ o → (more : FindingsState × ℕ) → with_number f start next o ≡ Some more → AreAdded more.0 words g →
+        AreAdded f (word ∷ words) g
     by None is more e rest = absurd (cc)
     by (Some n) is more e rest =
         let b = if_some (nat_le next (place_after start n) && nat_lt (place_after start n) f.noted) _ more e in
