@@ -138,7 +138,8 @@ module _ (read : AreRead) (n : ℕ) (small : n < 2 ^ 32) (pc : ℕ) where
     all = (number, (refl, (value, (refl, (hex_word (b ∷ []), (refl, (console_word shown.console, tt)))))));
     last = refl;
     says = rw (value_again pc, byte_again b, console_again shown.console, number_again read n small) refl;
-    printed = said_ended (codes "processor") (decimal n ∷ codes "pc" ∷ hex_of_word pc ∷ codes "halt" ∷ hex_of_byte b ∷ codes "console" ∷ console_text shown.console ∷ []) []
+    printed = said_ended (codes "processor")
+        (decimal n ∷ codes "pc" ∷ hex_of_word pc ∷ codes "halt" ∷ hex_of_byte b ∷ codes "console" ∷ console_text shown.console ∷ []) []
         ∙ sym (with_pc (codes "processor ") (decimal n) (codes " ") (codes "pc ") (hex_of_word pc) (status_text (Halted b)) (codes " console ")
         (console_text shown.console) (10 ∷ []));
     text = six_words (codes "processor") (decimal n) (codes "halt") (hex_of_byte b) (codes "console") (console_text shown.console) (codes " ")
