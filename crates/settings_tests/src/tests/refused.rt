@@ -233,7 +233,7 @@ fn twice(rt: &(impl Abort + AllocGlobal), most: usize) -> bool {
 }
 
 /// Command lines with an option that has no value.
-static WITHOUT_VALUE: [(&str, &str); 16] = [
+static WITHOUT_VALUE: [(&str, &str); 17] = [
     ("run a.elf --k", "--k <NUMBER>"),
     ("run a.elf --c", "--c <NUMBER>"),
     ("run a.elf --b", "--b <NUMBER>"),
