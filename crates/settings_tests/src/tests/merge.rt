@@ -5,7 +5,7 @@ pub const TAKEN: &str = r#"$ ultra merge a.txt
 Merge(Merge { files: ["a.txt"], expect_one: false, style: LineStyle { symbols: None, decimal: false, json: false } })
 $ ultra merge a.txt b.txt - d.txt e.txt f.txt
 Merge(Merge { files: ["a.txt", "b.txt", "-", "d.txt", "e.txt", "f.txt"], expect_one: false, style: LineStyle { symbols: None, decimal: false, json: false } })
-$ ultra merge --expect-one a.txt --json b.txt
+$ ultra merge --expect-one --json a.txt b.txt
 Merge(Merge { files: ["a.txt", "b.txt"], expect_one: true, style: LineStyle { symbols: None, decimal: false, json: true } })
 $ ultra merge a.txt b.txt --symbols a.elf --decimal
 Merge(Merge { files: ["a.txt", "b.txt"], expect_one: false, style: LineStyle { symbols: Some("a.elf"), decimal: true, json: false } })
