@@ -433,8 +433,8 @@ rest.
 `ultra merge` reports it as `M1 line N` of FOUND: N is the first line that no hunt could have printed
 there, or the last line if the text ends too early. Exit status 2.
 
-Usual causes: a hunt with --json, --symbols or --decimal, or the output of another command; a file of a
-hunt that was killed, or was not over; an empty file.
+Usual causes: a hunt with --json, --symbols or --decimal, or the output of another command; a file of
+a hunt that was killed, or was not over; an empty file.
 
 What to do: repeat the hunt of these runs without these options, and give them to `merge`. Write its
 output to a file under another name, and rename it when the hunt is over.
