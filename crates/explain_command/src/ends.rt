@@ -10,11 +10,11 @@ pub(crate) const ENDS: &[Topic] = &[
         advice: "\
 `ultra merge` reports it with the name of the second text. Exit status 2.
 
-Usual causes: texts that are not in the order of their runs, as `part10.txt` before `part2.txt`; a text
-that is missing or is given twice; a hunt with another --start or --runs.
+Usual causes: texts that are not in the order of their runs, as `part10.txt` before `part2.txt`; a
+text that is missing or is given twice; a hunt with another --start or --runs.
 
-What to do: give the texts in the order of their runs. The first run of a text is the first number after
-`first` in it, and it has as many runs as the numbers after `runs` make together.
+What to do: give the texts in the order of their runs. The first run of a text is the first number
+after `first` in it, and it has as many runs as the numbers after `runs` make together.
 ",
     },
     Topic {
@@ -32,8 +32,8 @@ What to do: give fewer texts. There are only so many different runs, since a run
         advice: "\
 `ultra merge` reports it with the name of the text. Exit status 2.
 
-Usual causes: an input without an end, such as /dev/zero, or a file of another kind; a program whose runs
-all have different results.
+Usual causes: an input without an end, such as /dev/zero, or a file of another kind; a program whose
+runs all have different results.
 
 What to do: hunt with --observe, so that results have only the words that matter.
 ",
