@@ -111,8 +111,8 @@ function setUpListing(run, choose) {
       // a page that begins later does not know what was executed before
       const seen = known && (known.from < now || run.data.first > 0);
       const text = seen ? known.text : run.data.first > 0 ? 'not executed here' : 'not yet executed';
-      line.append(processorMarks(at.get(pc) || []), make('code', { class: 'address' }, pc), make('code', { class: seen ? '' : 'faint' },
-        text));
+      line.append(processorMarks(at.get(pc) || []), make('code', { class: 'address' }, pc),
+        make('code', { class: seen ? '' : 'faint' }, text));
       list.append(line);
     }
   };

@@ -69,7 +69,13 @@ fn push_row_at<'a>(
         Err(LineError::Memory) => return Err(AllocError),
         Err(LineError::Fault(_)) => return Ok(()),
     };
-    push_statement(alloc, text, cursor.address(), origin(origins, number), &said.statement)?;
+    push_statement(
+        alloc,
+        text,
+        cursor.address(),
+        origin(origins, number),
+        &said.statement,
+    )?;
     cursor.pass(&said, number)
 }
 

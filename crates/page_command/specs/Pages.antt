@@ -34,8 +34,8 @@ use Rattle.page_command.specs.Windows.{entry_choice, steps_before, steps_within,
 
 -- `words W steps N from F of A symbols S source L instructions I`
 unfoldable pub counts_line : Counts → List ℕ
-counts_line n = codes "words " ++ decimal n.words ++ codes " steps " ++ decimal n.steps ++ codes " from " ++ decimal n.before
-    ++ codes " of " ++ decimal n.all ++ codes " symbols " ++ decimal n.symbols ++ codes " source " ++ decimal n.source
+counts_line n = codes "words " ++ decimal n.words ++ codes " steps " ++ decimal n.steps
+    ++ codes " from " ++ decimal n.before ++ codes " of " ++ decimal n.all ++ codes " symbols " ++ decimal n.symbols ++ codes " source " ++ decimal n.source
     ++ codes " instructions " ++ decimal n.instructions ++ codes "\n"
 
 -- `ultra page 1`, the line of the size, and that of the counts
@@ -121,8 +121,8 @@ view_lines m steps = changes_line (opening_changes m)
 abbrev pub window_story : Window → (opening : MachineLists) → List Step → List ℕ
 window_story w opening all = story_of (story_choice w) (story_steps_of false opening all)
 
--- The data of a page of a window: the symbols and the source; the view of the machine after the steps before the window, and the
--- changes of each step in it; the story of these steps; and their entries in the serial order.
+-- The data of a page of a window: the symbols and the source; the view of the machine after the steps before the
+-- window, and the changes of each step in it; the story of these steps; and their entries in the serial order.
 abbrev pub data_text : Config → Window → LegendText → (opening first : MachineLists) → List Step →
     (order : List ℕ) → List ℕ
 data_text c w l opening first all order =

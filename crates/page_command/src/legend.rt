@@ -78,7 +78,10 @@ fn feed_count(text: &str) -> usize
     ensures count { result ≡ feed_count text.now }
     ensures few { result < 2 ^ 63 }
 {
-    text.as_bytes().iter().filter(|byte| **byte == b'\n').count()
+    text.as_bytes()
+        .iter()
+        .filter(|byte| **byte == b'\n')
+        .count()
 }
 
 /// Appends the lines of symbols, those of the source, and its rows.

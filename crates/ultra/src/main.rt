@@ -38,9 +38,7 @@ use page_command::{Legend, Window};
 use processor_threads::{Gate, Open};
 use run_command::{Progress, run_command, threaded_run_command, unlogged_run_command};
 use search_files::{asks_for_property, explore_file, hunt_file, study_file};
-use settings::{
-    Counts, Lines, Replay, Run, Schedule, Session, Settings, settings, status_of,
-};
+use settings::{Counts, Lines, Replay, Run, Schedule, Session, Settings, settings, status_of};
 use std::alloc::{AllocError, Global};
 use std::env;
 use std::io::{self, ErrorKind, Input, IsTerminal, Read, Write};
@@ -327,9 +325,7 @@ fn execute<
             };
             tell_steps(rt, &asked.replay, &picture, reason, out, err)
         }
-        Settings::Page(asked) => {
-            page_file(rt, asked, names.as_ref(), reason, out, err)
-        }
+        Settings::Page(asked) => { page_file(rt, asked, names.as_ref(), reason, out, err) }
         Settings::Study(study) => Ok(study_file(rt, study, reason, out, err)?),
         Settings::Trace(asked) => {
             let mut trace = Meter::new(open(rt, asked.trace, reason)?);

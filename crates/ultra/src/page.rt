@@ -1830,8 +1830,8 @@ if (place && place.offset === 0) list.append(make('div', { class: 'program-label
 const line = make('div', { class: 'program-line' + (at.has(pc) ? ' here' : '') });
 const seen = known && (known.from < now || run.data.first > 0);
 const text = seen ? known.text : run.data.first > 0 ? 'not executed here' : 'not yet executed';
-line.append(processorMarks(at.get(pc) || []), make('code', { class: 'address' }, pc), make('code', { class: seen ? '' : 'faint' },
-text));
+line.append(processorMarks(at.get(pc) || []), make('code', { class: 'address' }, pc),
+make('code', { class: seen ? '' : 'faint' }, text));
 list.append(line);
 }
 };

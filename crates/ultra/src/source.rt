@@ -84,7 +84,7 @@ fn page_with_source<'a, R: Files + Input + AllocGlobal, W: LinkWrite, E: Write>(
     let window = window_of(asked);
     let page = page(window, Legend { symbols, source });
     let mut trace = Meter::new(open(rt, asked.replay.trace, reason)?);
-    let mut file = Meter::new(image.as_slice());
+    let mut file = Ok(Meter::new(image.as_slice()));
     Ok(lines_command(
         alloc,
         &mut trace,
