@@ -102,7 +102,7 @@ complete -c ultra -n '__ultra_wants_more run 1 --trace --symbols --k --c --b --r
 complete -c ultra -n '__ultra_has_command hunt' -l trace -r -F -d 'Write a trace for each result, for `ultra replay`, to PREFIX followed by the run\'s number and `.trace`'
 complete -c ultra -n '__ultra_has_command hunt' -l page -r -F -d 'Write a page for each result, which plays its first run, to PREFIX followed by the run\'s number and `.html`'
 complete -c ultra -n '__ultra_has_command hunt' -l observe -x -d 'Words by which runs differ, as `0-3,8`; results have no others [default: all]'
-complete -c ultra -n '__ultra_has_command hunt' -l schedule -r -F -d 'How a run picks the processor of each turn: random, pct or sweep-like [default: random]'
+complete -c ultra -n '__ultra_has_command hunt' -l schedule -r -F -d 'How a run picks the processor of each turn: random, pct or sweep-like [default: pct]'
 complete -c ultra -n '__ultra_has_command hunt' -l overwrite -d 'Overwrite traces and pages that exist; without it the hunt is refused if one does'
 complete -c ultra -n '__ultra_has_command hunt' -l expect-one -d 'Expect all runs to come to one result; if they do not, the exit status says so'
 complete -c ultra -n '__ultra_has_command hunt' -l quiet -d 'Show no progress line on a terminal'
