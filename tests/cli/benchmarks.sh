@@ -19,6 +19,7 @@ fi
 if command -v rustc >/dev/null; then
     then_check 'bench/measure runs' bench_runs bench/measure 1
     then_check 'bench/run runs, and its reports and traces are those of a plain simulator' bench_runs bench/run 1
+    then_check 'bench/texts runs, and plain programs print the same' bench_runs bench/texts 1 1000
 else
-    left_out 'bench/measure and bench/run, because there is no Rust compiler (rustc)'
+    left_out 'bench/measure, bench/run and bench/texts, because there is no Rust compiler (rustc)'
 fi

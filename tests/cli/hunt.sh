@@ -94,7 +94,7 @@ takes_a_schedule() {
     done
     ends 2 "error: invalid value 'PCT' for '--schedule <NAME>': not random, pct or sweep-like" \
         ./ultra hunt --schedule PCT "$room/lost.elf" &&
-        ends 2 'error: --depth goes with --schedule pct' ./ultra hunt --depth 3 "$room/lost.elf" &&
+        ends 2 'error: --depth goes with --schedule pct' ./ultra hunt --schedule random --depth 3 "$room/lost.elf" &&
         ends 2 'error: --depth goes with --schedule pct' ./ultra hunt --schedule sweep-like --depth 3 "$room/lost.elf"
 }
 check 'random runs by each schedule find a lost addition' takes_a_schedule

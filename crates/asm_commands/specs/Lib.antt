@@ -5,3 +5,4 @@ pub mod Disassembling
 pub mod Courses
 pub mod CourseViews
 pub mod SymbolMaps
+pub mod SourceMaps
