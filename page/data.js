@@ -1,9 +1,9 @@
 // The data of the page: its sizes, and where its lines are. A line is cut out only when it is asked for, so that a long
 // run opens at once.
 
-// What the program wrote for `%`, `<` and a carriage return, so that no data can end a line or the element that holds it.
+// What the program wrote for `%` and `<`, so that no data can end the element that holds it.
 function unescaped(text) {
-  return text.indexOf('%') < 0 ? text : text.replace(/%3c/g, '<').replace(/%0d/g, '\r').replace(/%25/g, '%');
+  return text.indexOf('%') < 0 ? text : text.replace(/%3c/g, '<').replace(/%25/g, '%');
 }
 
 // Where the lines of a text begin; the last number is where the line after the last would begin.
@@ -24,11 +24,6 @@ function symbolOf(line) {
   return { address: parseInt(line.slice(0, 8), 16), size: parseInt(line.slice(9, 17), 16), name: line.slice(18) };
 }
 
-// The line of the source for each address that has an instruction, from lines `ADDRESS NUMBER`.
-function sourceLines(rows) {
-  return new Map(rows.map((row) => [row.slice(0, 8), Number(row.slice(9))]));
-}
-
 // The data by its parts. Story line i and change line i are those of step i of the page, which is step `first` + i of the
 // run. The run has `all` steps.
 function readData(element) {
@@ -40,16 +35,12 @@ function readData(element) {
   if (lines < 4 || line(0) !== 'ultra page 1') throw new Error('this page holds no run that it can read');
   const machine = line(1);
   const k = numberAfter(machine, 'k');
-  const steps = numberAfter(line(2), 'steps'), named = numberAfter(line(2), 'symbols');
-  const written = numberAfter(line(2), 'source'), placed = numberAfter(line(2), 'instructions');
-  const begin = 3 + named + written + placed;
+  const steps = numberAfter(line(2), 'steps'), named = numberAfter(line(2), 'symbols'), begin = 3 + named;
   return {
     machine, k, n: 1 << k, steps, first: numberAfter(line(2), 'from'), all: numberAfter(line(2), 'of'),
     c: numberAfter(machine, 'c'), b: numberAfter(machine, 'b'), r: numberAfter(machine, 'r'),
     words: numberAfter(line(2), 'words'),
     symbols: Array.from({ length: named }, (_, i) => symbolOf(line(3 + i))),
-    source: Array.from({ length: written }, (_, i) => line(3 + named + i)),
-    lineAt: sourceLines(Array.from({ length: placed }, (_, i) => line(3 + named + written + i))),
     opening: line(begin),
     change: (i) => line(begin + 1 + i),
     story: (i) => line(begin + 1 + steps + i),

@@ -46,8 +46,6 @@ function tellProcessor(p, view, items, run) {
   const instruction = run.instructionAt(view.pc[p]), printed = run.consoleNow(p);
   if (names.symbols.length) rows.push(['Program counter', view.pc[p]]);
   if (instruction && view.status[p] === 'run') rows.push(['Instruction', instruction]);
-  const line = sourceText(run.data, view.pc[p]);
-  if (line) rows.push(['Line', line]);
   if (view.word[p] >= 0) {
     const it = itemFor(items, p);
     rows.push(['Waits for', wordTitle(view.word[p])]);

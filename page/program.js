@@ -1,101 +1,15 @@
-// The program, with each processor's pc, and the registers of a processor. If the page has the source, the program is
-// shown line by line; otherwise as far as it has been executed.
-
-// The processors that are at an address, by what `place` makes of it.
-function processorsBy(view, place) {
-  const at = new Map();
-  for (let p = 0; p < view.n; p++) {
-    const it = place(view.pc[p]);
-    if (!at.has(it)) at.set(it, []);
-    at.get(it).push(p);
-  }
-  return at;
-}
-
-// A button for each of these processors, of many for the first ones.
-function processorMarks(processors) {
-  const marks = make('span', { class: 'marks' });
-  for (const p of processors.slice(0, 8)) {
-    const mark = make('button', { type: 'button', class: 'mark', 'data-processor': p, 'aria-label': 'processor '
-      + p + ' is here' }, String(p));
-    mark.style.background = colourOf(p);
-    marks.append(mark);
-  }
-  if (processors.length > 8) marks.append(make('span', {}, '+' + (processors.length - 8)));
-  return marks;
-}
-
-function chooseByMark(list, choose) {
-  list.addEventListener('click', (event) => {
-    const mark = event.target.closest('[data-processor]');
-    if (mark) choose(Number(mark.getAttribute('data-processor')));
-  });
-}
-
-// `LINE: TEXT` of the source line of an instruction, or nothing if the page does not have it
-function sourceText(data, pc) {
-  const number = data.lineAt.get(pc);
-  return number ? number + ': ' + data.source[number - 1].trim() : '';
-}
+// The program as far as it has been executed, with each processor's pc, and the registers of a processor.
 
 function setUpProgram(run, choose) {
-  return run.data.source.length ? setUpSource(run, choose) : setUpListing(run, choose);
-}
-
-// Whether a line of a list that scrolls can be seen whole.
-function isInSight(list, line) {
-  const top = line.offsetTop - list.offsetTop - list.scrollTop;
-  return top >= 0 && top + line.offsetHeight <= list.clientHeight;
-}
-
-// The source. Its lines are made once; a step moves the marks. If no processor is at a line in sight, the list scrolls to
-// one that is.
-function setUpSource(run, choose) {
-  const { data, facts } = run;
-  const list = byId('program-list');
-  byId('program-heading').textContent = 'Program';
-  const addresses = new Map();
-  for (const [pc, number] of data.lineAt) addresses.set(number, (addresses.get(number) || []).concat(pc));
-  const lines = data.source.map((text, i) => {
-    const line = make('div', { class: 'program-line', 'data-line': i + 1 });
-    line.append(processorMarks([]), make('code', { class: 'line-number' }, String(i + 1)), make('code', {}, text));
-    list.append(line);
-    return line;
-  });
-  const elsewhere = make('div', { class: 'gap' });
-  list.append(elsewhere);
-  const it = { marked: [] };
-  it.show = (view, step) => {
-    const now = facts.afterStep[step];
-    const at = processorsBy(view, (pc) => data.lineAt.get(pc) || 0);
-    for (const number of it.marked) mark(lines[number - 1], []);
-    it.marked = [...at.keys()].filter((number) => number > 0);
-    for (const number of it.marked) mark(lines[number - 1], at.get(number));
-    for (const [number, pcs] of addresses) {
-      const seen = pcs.some((pc) => facts.listing.has(pc) && facts.listing.get(pc).from < now);
-      lines[number - 1].classList.toggle('ahead', !seen && data.first === 0);
-    }
-    elsewhere.textContent = at.has(0) ? 'Not at a line: ' + at.get(0).join(' ') : '';
-    const here = it.marked.map((number) => lines[number - 1]);
-    if (here.length && !here.some((line) => isInSight(list, line))) {
-      list.scrollTop = here[0].offsetTop - list.offsetTop - list.clientHeight / 3;
-    }
-  };
-  const mark = (line, processors) => {
-    line.classList.toggle('here', processors.length > 0);
-    line.firstChild.replaceWith(processorMarks(processors));
-  };
-  chooseByMark(list, choose);
-  return it;
-}
-
-// The instructions that have been executed.
-function setUpListing(run, choose) {
   const list = byId('program-list');
   const it = { drawn: '' };
   it.show = (view, step) => {
     const now = run.facts.afterStep[step];
-    const at = processorsBy(view, (pc) => pc);
+    const at = new Map();
+    for (let p = 0; p < view.n; p++) {
+      if (!at.has(view.pc[p])) at.set(view.pc[p], []);
+      at.get(view.pc[p]).push(p);
+    }
     const lines = [...run.facts.listing].filter(([pc, line]) => line.from < now || at.has(pc)).map(([pc]) => pc);
     for (const pc of at.keys()) if (!run.facts.listing.has(pc)) lines.push(pc);
     lines.sort();
@@ -108,15 +22,26 @@ function setUpListing(run, choose) {
       const place = placeOfAddress(value);
       if (place && place.offset === 0) list.append(make('div', { class: 'program-label' }, place.name + ':'));
       const line = make('div', { class: 'program-line' + (at.has(pc) ? ' here' : '') });
+      const marks = make('span', { class: 'marks' });
+      for (const p of (at.get(pc) || []).slice(0, 8)) {
+        const mark = make('button', { type: 'button', class: 'mark', 'data-processor': p, 'aria-label': 'processor '
+          + p + ' is here' }, String(p));
+        mark.style.background = colourOf(p);
+        marks.append(mark);
+      }
+      if ((at.get(pc) || []).length > 8) marks.append(make('span', {}, '+' + (at.get(pc).length - 8)));
       // a page that begins later does not know what was executed before
       const seen = known && (known.from < now || run.data.first > 0);
       const text = seen ? known.text : run.data.first > 0 ? 'not executed here' : 'not yet executed';
-      line.append(processorMarks(at.get(pc) || []), make('code', { class: 'address' }, pc),
-        make('code', { class: seen ? '' : 'faint' }, text));
+      line.append(marks, make('code', { class: 'address' }, pc), make('code', { class: seen ? '' : 'faint' },
+        text));
       list.append(line);
     }
   };
-  chooseByMark(list, choose);
+  list.addEventListener('click', (event) => {
+    const mark = event.target.closest('[data-processor]');
+    if (mark) choose(Number(mark.getAttribute('data-processor')));
+  });
   return it;
 }
 

@@ -78,7 +78,7 @@ expects_one_result() {
 check 'if random runs come to two results and one is expected, the status is 6' expects_one_result
 then_check 'random runs on several threads come to the results of one thread' hunts_on_threads lost 0 --runs 300
 check 'random runs on several threads are unfinished as on one' hunts_on_threads barrier_phase_late 5 --runs 100 --budget 20000
-check 'random runs on several threads find a fault as on one' hunts_on_threads readers_writers_one_look 1 --schedule random --runs 100 --budget 20000
+check 'random runs on several threads find a fault as on one' hunts_on_threads readers_writers_one_look 1 --runs 100 --budget 20000
 
 # ---- schedules
 
@@ -94,7 +94,7 @@ takes_a_schedule() {
     done
     ends 2 "error: invalid value 'PCT' for '--schedule <NAME>': not random, pct or sweep-like" \
         ./ultra hunt --schedule PCT "$room/lost.elf" &&
-        ends 2 'error: --depth goes with --schedule pct' ./ultra hunt --schedule random --depth 3 "$room/lost.elf" &&
+        ends 2 'error: --depth goes with --schedule pct' ./ultra hunt --depth 3 "$room/lost.elf" &&
         ends 2 'error: --depth goes with --schedule pct' ./ultra hunt --schedule sweep-like --depth 3 "$room/lost.elf"
 }
 check 'random runs by each schedule find a lost addition' takes_a_schedule

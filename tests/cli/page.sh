@@ -82,10 +82,10 @@ refuses_a_page_of_many_steps() {
     ./ultra page "$room/long.trace" "$room/none.elf" >"$room/out" 2>"$room/err" || ended=$?
     [ "$ended" -eq 2 ] && [ ! -s "$room/out" ] || return 1
     diff <(echo "error: a page shows 500000 steps, and the trace has 500001: choose some with '--from <NUMBER>' and '--steps <NUMBER>'") "$room/err" || return 1
-    ./ultra page --from 499990 "$room/long.trace" "$room/spin.elf" | grep -x 'words 1024 steps 11 from 499990 of 500001 symbols 0 source 0 instructions 0' &&
-        ./ultra page --from 7 --steps 20 "$room/long.trace" "$room/spin.elf" | grep -x 'words 1024 steps 20 from 7 of 500001 symbols 0 source 0 instructions 0' &&
-        ./ultra page --from 4294967295 --steps 500000 "$room/long.trace" "$room/spin.elf" | grep -x 'words 1024 steps 0 from 500001 of 500001 symbols 0 source 0 instructions 0' &&
-        ./ultra page --from 1 "$room/long.trace" "$room/spin.elf" | grep -x 'words 1024 steps 500000 from 1 of 500001 symbols 0 source 0 instructions 0'
+    ./ultra page --from 499990 "$room/long.trace" "$room/spin.elf" | grep -x 'words 1024 steps 11 from 499990 of 500001 symbols 0' &&
+        ./ultra page --from 7 --steps 20 "$room/long.trace" "$room/spin.elf" | grep -x 'words 1024 steps 20 from 7 of 500001 symbols 0' &&
+        ./ultra page --from 4294967295 --steps 500000 "$room/long.trace" "$room/spin.elf" | grep -x 'words 1024 steps 0 from 500001 of 500001 symbols 0' &&
+        ./ultra page --from 1 "$room/long.trace" "$room/spin.elf" | grep -x 'words 1024 steps 500000 from 1 of 500001 symbols 0'
 }
 check 'page refuses more than 500,000 steps, and plays parts of a longer run' refuses_a_page_of_many_steps
 
@@ -100,46 +100,3 @@ refuses_page_options() {
     done
 }
 check 'page refuses numbers of steps that are out of range' refuses_page_options
-
-# ---- the source
-
-# A program that halts with 3, its image and a trace.
-makes_a_source() {
-    printf ' addi a7, x0, 0\n addi a0, x0, 3\n ecall\n' >"$room/source.s" &&
-        ./ultra asm "$room/source.s" "$room/source.elf" &&
-        ./ultra run --sweep --k 0 --trace "$room/source.trace" "$room/source.elf" >"$room/out"
-}
-
-# Texts that are missing, wrong, of another image, too long and no texts, and standard input for two files.
-refuses_a_source() {
-    local page=("$room/source.trace" "$room/source.elf")
-    makes_a_source &&
-        ends_with_code 3 link "$room/none.s: $no_such_file" ./ultra page --source "$room/none.s" "${page[@]}" &&
-        printf ' addi a7, x0, 0\n adi a0\n' >"$room/wrong.s" &&
-        ends_with_code 2 'A1 line 2' "$room/wrong.s" ./ultra page --source "$room/wrong.s" "${page[@]}" &&
-        printf ' addi a7, x0, 0\n addi a0, x0, 4\n ecall\n' >"$room/other.s" &&
-        ends 2 "error: '$room/other.s' does not assemble to FILE" ./ultra page --source "$room/other.s" "${page[@]}" &&
-        printf ' addi a7, x0, 0\n addi a0, x0, 3\n ecall\n ecall\n' >"$room/longer.s" &&
-        ends 2 "error: '$room/longer.s' does not assemble to FILE" ./ultra page --source "$room/longer.s" "${page[@]}" &&
-        printf ' addi a7, x0, 0\n addi a0, x0, 3\n' >"$room/shorter.s" &&
-        ends 2 "error: '$room/shorter.s' does not assemble to FILE" ./ultra page --source "$room/shorter.s" "${page[@]}" &&
-        head -c 16777217 /dev/zero >"$room/long.s" &&
-        ends 2 "error: '$room/long.s' has more than 16777216 bytes" ./ultra page --source "$room/long.s" "${page[@]}" &&
-        printf '# \377\n' >"$room/latin.s" &&
-        ends_with_code 3 link "$room/latin.s: invalid data" ./ultra page --source "$room/latin.s" "${page[@]}" &&
-        ends_with_code 3 link "$room/none.elf: $no_such_file" ./ultra page --source "$room/source.s" "$room/source.trace" "$room/none.elf" &&
-        ends 2 'error: standard input is asked for twice' ./ultra page --source - - "$room/source.elf" &&
-        ends 2 'error: standard input is asked for twice' ./ultra page --source - --symbols - "${page[@]}" || return 1
-    rm -f "$room/long.s"
-}
-check 'page refuses a source that is missing, wrong, of another image, too long or no text' refuses_a_source
-
-# The text may come from standard input, and so may the image.
-reads_a_source() {
-    local rows=$'00010000 1\n00010004 2\n00010008 3'
-    makes_a_source &&
-        ./ultra page --source - "$room/source.trace" "$room/source.elf" <"$room/source.s" >"$room/one.html" &&
-        ./ultra page --source "$room/source.s" "$room/source.trace" - <"$room/source.elf" >"$room/other.html" &&
-        cmp "$room/one.html" "$room/other.html" && [ "$(grep -x '0001[0-9a-f]* [0-9]*' "$room/one.html")" = "$rows" ]
-}
-check 'page has the source, which may be read from standard input' reads_a_source

@@ -154,7 +154,7 @@ reports_the_longest_queues() {
     for sizes in '--k 2 --start 1' '--k 3 --start 2' '--k 4 --start 3'; do
         rm -f "$room"/random*
         # shellcheck disable=SC2086
-        ./ultra hunt --schedule random $sizes --runs 1 --trace "$room/random" "$room/queue.elf" >"$room/out" || return 1
+        ./ultra hunt $sizes --runs 1 --trace "$room/random" "$room/queue.elf" >"$room/out" || return 1
         has_the_longest_queues "$room"/random* "$room/queue.elf" || return 1
     done
 }
@@ -184,7 +184,7 @@ reports_the_latencies() {
     for sizes in '--k 2 --start 1' '--k 4 --start 3'; do
         rm -f "$room"/random*
         # shellcheck disable=SC2086
-        ./ultra hunt --schedule random $sizes --runs 1 --trace "$room/random" "$room/queue.elf" >"$room/out" || return 1
+        ./ultra hunt $sizes --runs 1 --trace "$room/random" "$room/queue.elf" >"$room/out" || return 1
         has_the_latencies "$room"/random* "$room/queue.elf" || return 1
     done
 }
@@ -214,8 +214,8 @@ chooses_lines() {
 # Random runs of the queue, in which messages of several words meet, and a sweep of the hot spot, which combines all.
 chooses_lines_of_runs() {
     ./ultra asm examples/algorithms/queue.s "$room/queue.elf" && rm -f "$room"/chosen* &&
-        ./ultra hunt --schedule random --k 2 --start 1 --runs 1 --trace "$room/chosen2-" "$room/queue.elf" >"$room/out" &&
-        ./ultra hunt --schedule random --k 3 --start 2 --r 3 --runs 1 --trace "$room/chosen3-" "$room/queue.elf" >"$room/out" &&
+        ./ultra hunt --k 2 --start 1 --runs 1 --trace "$room/chosen2-" "$room/queue.elf" >"$room/out" &&
+        ./ultra hunt --k 3 --start 2 --r 3 --runs 1 --trace "$room/chosen3-" "$room/queue.elf" >"$room/out" &&
         chooses_lines "$room"/chosen2-* "$room/queue.elf" 2 && chooses_lines "$room"/chosen3-* "$room/queue.elf" 3 &&
         ./ultra run --sweep --k 3 --r 2 --trace "$room/chosen.trace" "$room/hot_spot.elf" >"$room/out" &&
         chooses_lines "$room/chosen.trace" "$room/hot_spot.elf" 3
@@ -263,7 +263,7 @@ S
     ./ultra asm "$room/functions.s" "$room/functions.elf" && rm -f "$room"/met* &&
         ./ultra run --sweep --k 3 --r 3 --trace "$room/met.trace" "$room/functions.elf" >"$room/out" &&
         tells_values "$room/met.trace" "$room/functions.elf" &&
-        ./ultra hunt --schedule random --k 3 --r 3 --start 7 --runs 1 --trace "$room/met-" "$room/functions.elf" >"$room/out" &&
+        ./ultra hunt --k 3 --r 3 --start 7 --runs 1 --trace "$room/met-" "$room/functions.elf" >"$room/out" &&
         tells_values "$room"/met-* "$room/functions.elf" && tells_values "$room"/chosen3-* "$room/queue.elf" &&
         tells_values "$room/chosen.trace" "$room/hot_spot.elf"
 }

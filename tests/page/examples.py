@@ -58,14 +58,14 @@ def ultra(*words, **more):
 
 class Run:
     """A run: its trace and image, and the texts that the program tells of it. Its page may have other steps than all: `options` are
-    those of `ultra page`, `symbols` is a file of names, and `source` is the text of the program."""
+    those of `ultra page`, and `symbols` is a file of names."""
 
-    def __init__(self, folder, name, image, trace, options=(), symbols=None, source=None):
-        self.name, self.image, self.trace, self.source = name, image, trace, source
+    def __init__(self, folder, name, image, trace, options=(), symbols=None):
+        self.name, self.image, self.trace = name, image, trace
         self.path = os.path.join(folder, name + ".html")
         self.named = ["--symbols", symbols] if symbols else []
         with open(self.path, "w", encoding="utf-8") as file:
-            file.write(ultra("page", *options, *self.named, *(["--source", source] if source else []), trace, image))
+            file.write(ultra("page", *options, *self.named, trace, image))
         self.machine = ultra("trace", trace).split("\n", 1)[0]
         self.k = int(self.machine.split()[2])
         self.story = ultra("story", trace, image).splitlines()
@@ -88,17 +88,16 @@ class Run:
 
 
 class Part(Run):
-    """A run of which the page has a part: `count` steps from `first` on. `symbols` is the text of the file of names. `rows` has the
-    line of the source for each of its instructions, if there is a source."""
+    """A run of which the page has a part: `count` steps from `first` on. `symbols` is the text of the file of names."""
 
-    def __init__(self, folder, name, run, first, count, symbols=None, source=None, rows=()):
+    def __init__(self, folder, name, run, first, count, symbols=None):
         path = None
         if symbols is not None:
             path = os.path.join(folder, name + ".sym")
             with open(path, "w", encoding="ascii") as file:
                 file.write(symbols)
-        super().__init__(folder, name, run.image, run.trace, ["--from", str(first), "--steps", str(count)], path, source)
-        self.symbols, self.rows = symbols or "", list(rows)
+        super().__init__(folder, name, run.image, run.trace, ["--from", str(first), "--steps", str(count)], path)
+        self.symbols = symbols or ""
         self.first = min(first, self.steps)
         self.count = min(count, self.steps - self.first)
 
@@ -110,60 +109,19 @@ class Part(Run):
 
 
 def parts(folder, made):
-    """Parts of runs: with messages on their way at both ends, with names, with the source, one step without an entry, the end, and none."""
+    """Parts of runs: with messages on their way at both ends, with names, one step without an entry, the end, and none."""
     hot_spot = made["hot_spot"]
     labels = os.path.join(folder, "labels")
-    text = os.path.join(TOP, "examples", "algorithms", "hot_spot.s")
-    ultra("asm", "--symbols", labels, text, os.path.join(folder, "again.elf"))
+    ultra("asm", "--symbols", labels, os.path.join(TOP, "examples", "algorithms", "hot_spot.s"), os.path.join(folder, "again.elf"))
     with open(labels, encoding="ascii") as file:
         symbols = file.read()
-    symbols += "80000000 00000004 d a_word_with_a_name_of_many_letters\n80000004 d behind\n"
-    yield Part(folder, "middle", hot_spot, 37, 90, symbols)
-    yield Part(folder, "source", hot_spot, 37, 90, symbols, text, instruction_lines(text))
-    yield course_part(folder)
+    yield Part(folder, "middle", hot_spot, 37, 90, symbols + "80000000 00000004 d a_word_with_a_name_of_many_letters\n80000004 d behind\n")
     yield Part(folder, "queues", made["queued"], 150, 200)
     yield Part(folder, "many", made["sixty_four"], 500, 300)
     yield Part(folder, "first", hot_spot, 0, 1)
     yield Part(folder, "sent", hot_spot, next(i for i, line in enumerate(hot_spot.story) if "sends" in line), 1)
     yield Part(folder, "end", made["fault"], 10, 500000)
     yield Part(folder, "none", made["fault"], 4294967295, 500000)
-
-
-def instruction_lines(path):
-    """The number of the line of each instruction of a text that has no other statements than instructions."""
-    with open(path, encoding="ascii") as file:
-        lines = [line.split("#")[0].split(":")[-1].strip() for line in file]
-    return [number for number, line in enumerate(lines, 1) if line]
-
-
-# A carriage return, a tab, what could end the data's element, what the page escapes, and letters beyond ASCII.
-COURSE = """# a course text\r
- .data
-count: .word 0x12345678, 1
- .text
-main:\tla t0, count   # 100 % <!-- </script> \u00fc
- li t1, 0x12345678
-
- li t2, 5
- amoadd.w t1, t2, (t0)
- nop
- li a7, 0
- li a0, 0
- ecall
-"""
-
-# `la` takes two instructions, and so does `li` of a number of more than twelve bits.
-COURSE_ROWS = [5, 5, 6, 6, 8, 9, 10, 11, 12, 13]
-
-
-def course_part(folder):
-    text, image, trace = (os.path.join(folder, "course." + it) for it in ("s", "elf", "trace"))
-    with open(text, "w", encoding="utf-8", newline="") as file:
-        file.write(COURSE)
-    ultra("asm", "--course", text, image)
-    ultra("run", "--sweep", "--k", "0", "--trace", trace, image)
-    run = Run(folder, "course_whole", image, trace)
-    return Part(folder, "course", run, 0, 500000, source=text, rows=COURSE_ROWS)
 
 
 def image_of(folder, name, text=None):

@@ -24,7 +24,7 @@ def data_of(text):
     before, _, rest = text.partition(START)
     data, _, after = rest.partition("</script>")
     assert "<" not in data, "not escaped"
-    return before + START, data.replace("%3c", "<").replace("%0d", "\r").replace("%25", "%"), "</script>" + after
+    return before + START, data.replace("%3c", "<").replace("%25", "%"), "</script>" + after
 
 
 class View:
@@ -150,7 +150,7 @@ def check(run):
     same(lines[0], "ultra page 1", run.name)
     same(lines[1], run.machine, run.name)
     n = run.steps
-    same(lines[2], f"words 1024 steps {n} from 0 of {n} symbols 0 source 0 instructions 0", run.name)
+    same(lines[2], f"words 1024 steps {n} from 0 of {n} symbols 0", run.name)
     same(lines[4 + n:4 + 2 * n], run.story, f"{run.name}: the story")
     same(lines[4 + 2 * n:], run.order, f"{run.name}: the order")
     view, told, run.values = View(run.k), steps_of(run.story), {}
@@ -174,29 +174,15 @@ def unnamed(run):
     return run
 
 
-def source_of(run):
-    """The lines of the source of a run, if its page has it."""
-    if run.source is None:
-        return []
-    with open(run.source, encoding="utf-8", newline="") as file:
-        return file.read().split("\n")
-
-
 def check_part(run):
     """The data of a part: its lines of the story and of the order, and views from the first step on."""
     lines = data_of(run.page())[1][:-1].split("\n")
     first, n = run.first, run.count
     symbols = [line.split() for line in run.symbols.splitlines()]
     rows = sorted((int(it[0], 16), int(it[1], 16) if len(it) == 4 else 0, it[-1]) for it in symbols)
-    source = source_of(run)
-    counts = f"symbols {len(rows)} source {len(source)} instructions {len(run.rows)}"
-    same(lines[2], f"words 1024 steps {n} from {first} of {run.steps} {counts}", run.name)
-    written = 3 + len(rows)
-    same(lines[3:written], [f"{address:08x} {size:08x} {name}" for address, size, name in rows], f"{run.name}: the symbols")
-    placed = written + len(source)
-    same(lines[written:placed], source, f"{run.name}: the source")
-    named = placed + len(run.rows)
-    same(lines[placed:named], [f"{0x10000 + 4 * i:08x} {number}" for i, number in enumerate(run.rows)], f"{run.name}: the lines of instructions")
+    named = 3 + len(rows)
+    same(lines[2], f"words 1024 steps {n} from {first} of {run.steps} symbols {len(rows)}", run.name)
+    same(lines[3:named], [f"{address:08x} {size:08x} {name}" for address, size, name in rows], f"{run.name}: the symbols")
     same(lines[named + 1 + n:named + 1 + 2 * n], run.story[first:first + n], f"{run.name}: the story")
     told = steps_of(run.story)
     same(lines[named + 1 + 2 * n:], [line for line, step in zip(run.order, order_steps(told)) if first <= step < first + n], f"{run.name}: the order")

@@ -119,22 +119,6 @@ def check_map(browser, run):
     browser.key("m")
 
 
-def check_source(browser, run):
-    """The source of a page: all lines with their numbers, and a mark of each processor at the line where it is."""
-    browser.click("#tab-program")
-    with open(run.source, encoding="utf-8", newline="") as file:
-        source = file.read().split("\n")
-    shown_lines = browser.run("[...document.querySelectorAll('#program-list .program-line')].map((it) => [...it.querySelectorAll('code')].map((code) => code.textContent))")
-    same(shown_lines, [[str(number), text] for number, text in enumerate(source, 1)], f"{run.name}: the source")
-    for step in run.chosen_steps(5):
-        browser.run(f"location.hash = '#step={step}'")
-        browser.wait(f"Number(document.getElementById('step-number').value) === {step}")
-        places = [(p, re.search(r"\b0001[0-9a-f]{4}\b", text)[0]) for p, text in enumerate(Picture(ultra("picture", "--step", str(step), run.trace, run.image)).processors)]
-        wanted = sorted([run.rows[(int(pc, 16) - 0x10000) // 4], p] for p, pc in places)
-        found = browser.run("[...document.querySelectorAll('#program-list .program-line.here')].flatMap((it) => [...it.querySelectorAll('.mark')].map((mark) => [Number(it.dataset.line), Number(mark.textContent)]))")
-        same(sorted(found), wanted, f"{run.name} after {step} steps: marks at the source")
-
-
 def check_part(browser, run):
     """A page of a part of a run: steps have the numbers that they have in the run, and words and program counters their names."""
     first, end = run.first, run.first + run.count
@@ -162,9 +146,7 @@ def check_part(browser, run):
         same(look["next"], story[step] if step < end else "The run is over." if step == run.steps else "The page ends here.", f"{what}: next line")
         same([look["slider"], look["spoken"]], [step - first, True], f"{what}: slider and labels")
         same(text_of(browser, "order-count").split()[0], str(sum(first <= it < step for it in ordered)), f"{what}: lines of the order")
-    if run.source:
-        check_source(browser, run)
-    elif run.named:
+    if run.named:
         browser.click("#tab-program")
         labels = [line.split()[-1] + ":" for line in run.symbols.splitlines()]
         found = browser.run("[...document.querySelectorAll('.program-label')].map((it) => it.textContent)")

@@ -55,15 +55,16 @@ def source():
     front, back = halves()
     return f'''//! The page of `ultra page`, before and after its data. `tests/tools/page.py --write` generates this file from page/.
 
-use page_command::{{Legend, Page, Window}};
+use page_command::{{Page, Window}};
+use symbol_table::SymbolTable;
 
-/// The page that plays the steps in a window, with this legend.
-pub fn page<'a>(window: Window, legend: Legend<'a>) -> Page<'a> {{
+/// The page that plays the steps in a window, with these names.
+pub fn page<'a>(window: Window, symbols: Option<&'a SymbolTable<'a>>) -> Page<'a> {{
     Page {{
         front: front(),
         back: back(),
         window,
-        legend,
+        symbols,
     }}
 }}
 
@@ -80,7 +81,7 @@ fn back() -> &'static str {{
 
 
 def escaped(data):
-    return data.replace("%", "%25").replace("<", "%3c").replace("\r", "%0d")
+    return data.replace("%", "%25").replace("<", "%3c")
 
 
 def main(words):

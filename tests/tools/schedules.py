@@ -77,7 +77,7 @@ def main():
     with open(f"{room}/round.s", "w") as text:
         text.write("start: jal x0, start\n")
     subprocess.run([ultra, "asm", f"{room}/round.s", f"{room}/round.elf"], check=True)
-    strategies = [(by_priorities, [], 12), (by_priorities, ["--depth", "7"], 7), (at_random, ["--schedule", "random"], 0), (like_the_sweep, ["--schedule", "sweep-like"], 0)]
+    strategies = [(at_random, [], 0), (at_random, ["--schedule", "random"], 0), (like_the_sweep, ["--schedule", "sweep-like"], 0)]
     strategies.append((by_priorities, ["--schedule", "pct"], 12))
     strategies += [(by_priorities, ["--schedule", "pct", "--depth", str(depth)], depth) for depth in (1, 2, 16)]
     compared = 0

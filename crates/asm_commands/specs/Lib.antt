@@ -5,4 +5,3 @@ pub mod Disassembling
 pub mod Courses
 pub mod CourseViews
 pub mod SymbolMaps
-pub mod SourceMaps

@@ -8,8 +8,7 @@
 //! (`specs/Courses.antt`), with faults on the lines of the course text.
 //!
 //! [`symbol_map`] makes a list of the labels of a text, in the form of symbols that `nm` prints
-//! (`specs/SymbolMaps.antt`). [`source_map`] says which line of a text each of its instructions comes from
-//! (`specs/SourceMaps.antt`).
+//! (`specs/SymbolMaps.antt`).
 #![tactic(auto)]
 
 mod asm;
@@ -21,7 +20,6 @@ mod course_faults;
 mod dis;
 mod input;
 mod origins;
-mod source_maps;
 mod symbols;
 mod text_label;
 
@@ -32,6 +30,5 @@ pub use course_asm::course_asm_command;
 pub use course_check::course_check_command;
 pub use dis::dis_command;
 pub use input::{MAX_TEXT_BYTES, read_text, text_of};
-pub use source_maps::source_map;
 pub use symbols::{course_symbol_map, symbol_map, text_labels};
 pub use text_label::TextLabel;

@@ -199,7 +199,7 @@ fn push_label(
 }
 
 /// Appends a number in eight hex digits.
-pub(crate) fn push_number(alloc: Global, text: &mut String, number: u64) -> Result<(), AllocError>
+fn push_number(alloc: Global, text: &mut String, number: u64) -> Result<(), AllocError>
     ensures { OnOk result (string_bytes text.new ≡ string_bytes text.old ++ number_text number) }
 {
     push_word(alloc, text, (number % 0x1_0000_0000) as u32)

@@ -224,7 +224,7 @@ unfoldable pub picture_command : App
 picture_command = command (codes "picture") (replay ++ (number step ∷ symbols ∷ []))
 
 unfoldable pub page_command : App
-page_command = command (codes "page") (replay ++ (number first_step ∷ number step_count ∷ symbols ∷ option (codes "source") ∷ []))
+page_command = command (codes "page") (replay ++ (number first_step ∷ number step_count ∷ symbols ∷ []))
 
 unfoldable pub study_command : App
 study_command = command (codes "study")

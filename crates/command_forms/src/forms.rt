@@ -236,7 +236,7 @@ const HUNT: CommandForm = CommandForm {
         Argument::Text {
             name: "schedule",
             value: "NAME",
-            help: "How a run picks the processor of each turn: random, pct or sweep-like [default: pct]",
+            help: "How a run picks the processor of each turn: random, pct or sweep-like [default: random]",
         },
         Argument::Flag {
             name: "overwrite",
@@ -453,11 +453,6 @@ const PAGE: CommandForm = CommandForm {
             name: "symbols",
             value: "FILE",
             help: "Show names of words and program counters, from the symbol table of an ELF file or from what `nm` prints",
-        },
-        Argument::Text {
-            name: "source",
-            value: "TEXT",
-            help: "Show the lines of the program's text beside its instructions; FILE has to be what `asm --course TEXT` makes",
         },
     ],
     ends: PAGE_ENDS,

@@ -224,8 +224,6 @@ those of `ultra story`. The page shows the machine before and after each of them
 does, and beside it the registers, the words, the lines of the story and those of `ultra order`. It plays
 them, goes to a step, and to the next combination, service or stop; `FILE.html#step=43` opens at step 43.
 A key for each is listed under `?`. With --symbols words and program counters are shown by their names.
-With --source the page has the text of the program, and shows which line each processor is at. If TEXT
-does not assemble to FILE, nothing is written.
 
 With --from N the page begins with step N, and with --steps M it has at most M steps. Steps keep their
 numbers. A trace of more than 500000 steps is refused without --steps, if as many follow step N.
@@ -365,12 +363,12 @@ does not have, else 0.";
 /// How `hunt` goes, what it prints, and its exit statuses.
 pub(crate) const HUNT_ENDS: &str = "\
 Runs are numbered from --start on. The number alone decides the schedule, so the same number gives the
-same run. By --schedule pct the processors take their turns in a random order, and --depth less 1 times one
-of them loses its place to the others (probabilistic concurrency testing). By random a run favours one
-processor for some turns and then another, and after about half of the turns the messages in the network
-move on. A run whose number is divisible by 6 chooses a processor for each turn; each of the others chooses
-half as often as the one before. By sweep-like they take turns one after another, but some are passed over.
-A run ends as that of `ultra run` does, or after --budget steps that did something or --budget turns;
+same run. By --schedule random a run favours one processor for some turns and then another, and after about
+half of the turns the messages in the network move on. A run whose number is divisible by 6 chooses a
+processor for each turn; each of the others chooses half as often as the one before. By pct the processors
+take their turns in a random order, and --depth less 1 times one of them loses its place to the others
+(probabilistic concurrency testing). By sweep-like they take turns one after another, but some are passed
+over. A run ends as that of `ultra run` does, or after --budget steps that did something or --budget turns;
 then the network is drained.
 
 Each different result is printed once, after a line `runs N first S over`, or `budget` for `over`: how

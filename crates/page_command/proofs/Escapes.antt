@@ -46,14 +46,12 @@ other_char c e = by (ltb c 128) (ltb c 2048) (ltb c 65536)
 
 -- No tag begins in an escaped character.
 of_char : (c : ℕ) → has_tag (escaped_char c) ≡ false
-of_char c = by (c == 37) (c == 60) (c == 13) refl
+of_char c = by (c == 37) (c == 60) refl
   where
-    by : (x y z : Bool) → (c == 60) ≡ y
-        → has_tag (if x then codes "%25" else if y then codes "%3c" else if z then codes "%0d" else encode_utf8 c) ≡ false
-    by true y z e = refl
-    by false true z e = refl
-    by false false true e = refl
-    by false false false e = other_char c e
+    by : (x y : Bool) → (c == 60) ≡ y → has_tag (if x then codes "%25" else if y then codes "%3c" else encode_utf8 c) ≡ false
+    by true y e = refl
+    by false true e = refl
+    by false false e = other_char c e
 
 of_chars : (cs : List ℕ) → has_tag (flat_map escaped_char cs) ≡ false
 of_chars [] = refl
@@ -68,13 +66,12 @@ none_begins text = of_chars (chars text)
 -- A character that is not special is itself.
 plain_char : (c : ℕ) → list_any is_special (encode_utf8 c) ≡ false → escaped_char c ≡ encode_utf8 c
 unfolding encode_utf8
-plain_char c none = by (cases_eq c 37) (cases_eq c 60) (cases_eq c 13)
+plain_char c none = by (cases_eq c 37) (cases_eq c 60)
   where
-    by : (c ≡ 37) ⊎ (c ≡ 37 → ⊥) → (c ≡ 60) ⊎ (c ≡ 60 → ⊥) → (c ≡ 13) ⊎ (c ≡ 13 → ⊥) → escaped_char c ≡ encode_utf8 c
-    by (inl is) other last = absurd (let none = ap (λ n. list_any is_special (encode_utf8 n)) (sym is) ∙ none in cc)
-    by (inr one) (inl is) last = absurd (let none = ap (λ n. list_any is_special (encode_utf8 n)) (sym is) ∙ none in cc)
-    by (inr one) (inr other) (inl is) = absurd (let none = ap (λ n. list_any is_special (encode_utf8 n)) (sym is) ∙ none in cc)
-    by (inr one) (inr other) (inr last) = rw (ne_eqb c 37 one, ne_eqb c 60 other, ne_eqb c 13 last) refl
+    by : (c ≡ 37) ⊎ (c ≡ 37 → ⊥) → (c ≡ 60) ⊎ (c ≡ 60 → ⊥) → escaped_char c ≡ encode_utf8 c
+    by (inl is) other = absurd (let none = ap (λ n. list_any is_special (encode_utf8 n)) (sym is) ∙ none in cc)
+    by (inr one) (inl is) = absurd (let none = ap (λ n. list_any is_special (encode_utf8 n)) (sym is) ∙ none in cc)
+    by (inr one) (inr other) = rw (ne_eqb c 37 one, ne_eqb c 60 other) refl
 
 plain_chars : (cs : List ℕ) → list_any is_special (encode_utf8_all cs) ≡ false → flat_map escaped_char cs ≡ encode_utf8_all cs
 plain_chars [] none = refl

@@ -1,20 +1,21 @@
 //! The data of a page.
 
-ghost use Rattle.std.specs.Prelude.{◌≡◌, ◌≤◌, ◌++◌, ℕ, List, IfOk, IfErr, OnOk, string_bytes};
+ghost use Rattle.std.specs.Prelude.{◌≡◌, ◌≤◌, ◌++◌, ℕ, List, IfOk, IfErr, OnOk, length, string_bytes};
+ghost use Rattle.std.specs.Option.{option_copied};
 ghost use Rattle.steps.specs.declared.step.Step.{Step};
 ghost use Rattle.machine_steps.specs.Machines.{MachineLists};
 ghost use Rattle.machine_steps.specs.Runs.{IsOpening, IsRun};
 ghost use Rattle.command_io.specs.Files.{IsFaultOfSize};
+ghost use Rattle.machine_views.specs.Names.{rows_in};
 ghost use Rattle.trace_commands.specs.Causes.{IsNotTaken};
 ghost use Rattle.trace_commands.specs.Explained.{IsDrainedWithSteps};
 ghost use Rattle.trace_commands.specs.Orders.{AreOrderLines};
 ghost use Rattle.page_command.specs.Openings.{opening_changes};
-ghost use Rattle.page_command.specs.Pages.{AreDataOf, changes_line, counts_of, head_lines, legend_lines, legend_of};
-ghost use Rattle.page_command.specs.Pages.{view_lines, window_story};
+ghost use Rattle.page_command.specs.Pages.{AreDataOf, changes_line, counts_of, head_lines, symbol_lines, view_lines};
+ghost use Rattle.page_command.specs.Pages.{window_story};
 ghost use Rattle.page_command.specs.Windows.{entry_choice, entry_count, steps_before, steps_within};
 
-use crate::head::{Counts, push_head};
-use crate::legend::{Legend, line_count, push_legend, row_count, symbol_count};
+use crate::head::{Counts, push_head, push_symbols};
 use crate::opening::push_opening;
 use crate::step_changes::push_change_lines;
 use crate::window::{Window, entries_between, entries_from};
@@ -24,12 +25,13 @@ use flat_machine::Config;
 use machine_steps::Machine;
 use std::alloc::{AllocError, Global};
 use steps::Step;
+use symbol_table::SymbolTable;
 use trace_commands::{drained_steps, entries_of, order_lines, story_text};
 use trace_lines::Choice;
 
 /// The data of a page, and the exit status: takes the trace's steps, and then steps until no reference is open. The
-/// image was read for that number of shared words. The data is that of the steps in the window, with what the legend
-/// has. The exit status is 1 if a fault has stopped a processor.
+/// image was read for that number of shared words. The data is that of the steps in the window, with the symbols of the
+/// table if there is one. The exit status is 1 if a fault has stopped a processor.
 ///
 /// # Errors
 ///
@@ -41,16 +43,16 @@ pub fn data_text(
     config: Config,
     steps: &[Step],
     window: Window,
-    legend: Legend<'_>,
+    symbols: Option<&SymbolTable<'_>>,
 ) -> Result<(String, u8), Fault>
     requires words { image.now.shared_words ≡ config.shared_words }
-    ensures are { IfOk result (λ done. AreDataOf window (legend_of legend.entry) config image.now
+    ensures are { IfOk result (λ done. AreDataOf window (rows_in (option_copied symbols.entry)) config image.now
         steps.now (string_bytes done.0) done.1) }
     ensures low { IfOk result (λ done. done.1 ≤ 1) }
     ensures refused { IfErr result (IsNotTaken config image.now steps.now) }
 {
     let all = drained_steps(alloc, image, config, steps)?;
-    data_of_all(alloc, image, config, all.as_slice(), window, legend)
+    data_of_all(alloc, image, config, all.as_slice(), window, symbols)
 }
 
 /// The data of a page, and the exit status, by all steps: those of the trace, and then those of a drain.
@@ -61,16 +63,16 @@ fn data_of_all(
     config: Config,
     all: &[Step],
     window: Window,
-    legend: Legend<'_>,
+    symbols: Option<&SymbolTable<'_>>,
 ) -> Result<(String, u8), Fault>
     requires words { image.now.shared_words ≡ config.shared_words }
     ensures are { IfOk result (λ done. (steps : List Step) → IsDrainedWithSteps config image.now steps all.now →
-        AreDataOf window (legend_of legend.entry) config image.now steps (string_bytes done.0)
+        AreDataOf window (rows_in (option_copied symbols.entry)) config image.now steps (string_bytes done.0)
         done.1) }
     ensures low { IfOk result (λ done. done.1 ≤ 1) }
     ensures refused { IfErr result (IsFaultOfSize config) }
 {
-    let mut text = text_to_changes(alloc, image, config, all, window, legend)?;
+    let mut text = text_to_changes(alloc, image, config, all, window, symbols)?;
     push_story(alloc, &mut text, image, config, all, window)?;
     let choice = entry_choice(alloc, image, config, all, window)?;
     let status = push_order(alloc, &mut text, image, config, all, choice)?;
@@ -148,14 +150,14 @@ fn text_to_changes(
     config: Config,
     all: &[Step],
     window: Window,
-    legend: Legend<'_>,
+    symbols: Option<&SymbolTable<'_>>,
 ) -> Result<String, Fault>
     requires words { image.now.shared_words ≡ config.shared_words }
     ensures are { IfOk result (λ text. (opening first : MachineLists) × IsOpening config image.now opening
         × IsRun opening (steps_before window all.now) first
         × (string_bytes text ≡ head_lines config
-        (counts_of config window (legend_of legend.entry) all.now)
-        ++ legend_lines (legend_of legend.entry) ++ view_lines first (steps_within window all.now))) }
+        (counts_of config window (rows_in (option_copied symbols.entry)) all.now)
+        ++ symbol_lines (rows_in (option_copied symbols.entry)) ++ view_lines first (steps_within window all.now))) }
     ensures refused { IfErr result (IsFaultOfSize config) }
 {
     let (before, within) = window.cut(all);
@@ -164,17 +166,25 @@ fn text_to_changes(
         steps: within.len(),
         before: before.len(),
         all: all.len(),
-        symbols: symbol_count(legend.symbols),
-        source: line_count(legend.source),
-        instructions: row_count(legend.source),
+        symbols: symbol_count(symbols),
     };
     let mut machine = machine_of_copy(alloc, image, config)?;
     let mut text = String::new(alloc);
     push_head(&mut text, config, counts)?;
-    push_legend(alloc, &mut text, legend)?;
+    push_symbols(alloc, &mut text, symbols)?;
     machine.run(before);
     push_views(alloc, &mut text, &mut machine, within)?;
     Ok(text)
+}
+
+/// The number of symbols of a table, if there is one.
+fn symbol_count(symbols: Option<&SymbolTable<'_>>) -> usize
+    ensures { result ≡ length (rows_in (option_copied symbols.entry)) }
+{
+    match symbols {
+        Some(symbols) => symbols.symbols().len(),
+        None => 0,
+    }
 }
 
 /// Appends the view of a machine. Then takes these steps, and appends the changes of each.

@@ -6,8 +6,7 @@ ghost use Rattle.page_command.specs.Pages.{escaped, escaped_char, is_special};
 
 use std::alloc::AllocError;
 
-/// Appends a text in which no tag begins: a per cent sign as `%25`, the sign that begins a tag as `%3c`, and a carriage
-/// return, which a browser reads as the end of a line, as `%0d`.
+/// Appends a text in which no tag begins: a per cent sign as `%25`, and the sign that begins a tag as `%3c`.
 ///
 /// # Errors
 ///
@@ -28,9 +27,7 @@ pub fn push_escaped(text: &mut String, shown: &str) -> Result<(), AllocError>
 fn has_special(bytes: &[u8]) -> bool
     ensures { result ≡ list_any is_special bytes.now }
 {
-    bytes
-        .iter()
-        .any(|byte| *byte == b'%' || *byte == b'<' || *byte == b'\r')
+    bytes.iter().any(|byte| *byte == b'%' || *byte == b'<')
 }
 
 /// Appends each character of a text, escaped.
@@ -50,7 +47,6 @@ fn push_escaped_char(text: &mut String, letter: char) -> Result<(), AllocError>
     match letter {
         '%' => text.push_str("%25"),
         '<' => text.push_str("%3c"),
-        '\r' => text.push_str("%0d"),
         _ => text.push(letter),
     }
 }

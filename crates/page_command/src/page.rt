@@ -5,13 +5,13 @@ ghost use Rattle.page_command.specs.Pages.{escaped};
 
 use crate::data::data_text;
 use crate::escape::push_escaped;
-use crate::legend::Legend;
 use crate::window::Window;
 use command_io::Fault;
 use elf_image::Image;
 use flat_machine::Config;
 use std::alloc::{AllocError, Global};
 use steps::Step;
+use symbol_table::SymbolTable;
 use trace_commands::TraceReport;
 
 /// What `ultra page` prints for a trace ([`trace_commands::lines_command`]): a text, the data ([`data_text`]) in which
@@ -24,15 +24,17 @@ pub struct Page<'a> {
     pub back: &'a str,
     /// The steps that the page plays.
     pub window: Window,
-    /// What the page tells of the program.
-    pub legend: Legend<'a>,
+    /// The names of words and program counters, if there are any.
+    pub symbols: Option<&'a SymbolTable<'a>>,
 }
 
 impl<'a> TraceReport for Page<'a> {
-    ghost use Rattle.page_command.specs.Pages.{frame_of, legend_of, prints_page};
+    ghost use Rattle.std.specs.Option.{option_copied};
+    ghost use Rattle.machine_views.specs.Names.{rows_in};
+    ghost use Rattle.page_command.specs.Pages.{frame_of, prints_page};
 
     ghost reports = { λ page. prints_page (frame_of page.front.now page.back.now) page.window
-        (legend_of page.legend) };
+        (rows_in (option_copied page.symbols)) };
 
     fn text(
         &self,
@@ -41,7 +43,7 @@ impl<'a> TraceReport for Page<'a> {
         config: Config,
         steps: &[Step],
     ) -> Result<(String, u8), Fault> {
-        let (shown, status) = data_text(alloc, image, config, steps, self.window, self.legend)?;
+        let (shown, status) = data_text(alloc, image, config, steps, self.window, self.symbols)?;
         let text = page_text(alloc, self.front, shown.as_str(), self.back)?;
         Ok((text, status))
     }

@@ -32,17 +32,16 @@ fn processors(rt: &impl Threads) -> u8 {
     }
 }
 
-/// The depth of the bugs that a hunt by priorities looks for if no depth is given. Of the schedules and depths that
-/// `bench/hunt` tries, the wrong algorithm that takes the most runs takes the fewest with this one.
+/// The depth of the bugs that a hunt by priorities looks for if no depth is given. Of the depths that `bench/hunt`
+/// tries, the wrong algorithm that takes the most runs takes the fewest with this one.
 const USUAL_DEPTH: u8 = 12;
 
-/// The strategy of the schedules. Only that by priorities, the default, takes a depth.
+/// The strategy of the schedules. Only that by priorities takes a depth.
 fn strategy_of<'a>(hunt: &Hunt<'a>) -> Result<Strategy, SearchRefusal<'a>> {
-    let depth = hunt.depth.unwrap_or(USUAL_DEPTH);
     let strategy = match hunt.schedule {
-        None => Strategy::Pct { depth },
+        None => Strategy::Random,
         Some(name) => {
-            match Strategy::named(name, depth) {
+            match Strategy::named(name, hunt.depth.unwrap_or(USUAL_DEPTH)) {
                 Some(strategy) => strategy,
                 None => return Err(SearchRefusal::NoStrategy(name)),
             }

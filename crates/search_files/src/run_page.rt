@@ -49,7 +49,7 @@ fn page_text(
         front: page.front,
         back: page.back,
         window: Window::of_last(trace.steps()),
-        legend: page.legend,
+        symbols: page.symbols,
     };
     let (text, _) = page.text(alloc, &image, config, trace.steps())?;
     Ok(text)

@@ -380,7 +380,7 @@ files_are OfPicture one other words named (asked.Picture p) said =
 files_are OfPage one other words named (asked.Page p) said =
     let files = said.1.0 in
     let shared = files.2 in
-    (trace_read one other p.replay words named files.0 files.1 shared.0, said.1.1, said.1.2, no_text p.symbols said.1.3, no_text p.source said.1.4)
+    (trace_read one other p.replay words named files.0 files.1 shared.0, said.1.1, said.1.2, no_text p.symbols said.1.3)
 files_are c one other words named chosen said = apart (name_of chosen) (name_on_files c) refl said.0
 
 -- The words give both files of the command, 1,024 shared words, no names, no choice, and no flag.

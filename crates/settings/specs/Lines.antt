@@ -135,7 +135,7 @@ GivesPicture rows p = GivesReplay rows p.replay × IsChoice step rows p.step × 
 
 abbrev pub GivesPage : List Row → Page → Type 0
 GivesPage rows p = GivesReplay rows p.replay × IsChoice first_step rows p.from × IsChoice step_count rows p.steps
-    × IsOption (codes "symbols") rows p.symbols × IsOption (codes "source") rows p.source
+    × IsOption (codes "symbols") rows p.symbols
 
 abbrev pub GivesStudy : List Row → Study → Type 0
 GivesStudy rows s = IsPath (codes "FILE") rows s.file.now

@@ -77,7 +77,7 @@ IsPlain (asked.Stats c) words = HasTrace (codes "stats") c.replay words × (c.la
     × (c.queues ≡ false) × (c.csv ≡ false) × (c.json ≡ false)
 IsPlain (asked.Picture p) words = HasTrace (codes "picture") p.replay words × (p.step ≡ None) × (p.symbols ≡ None)
 IsPlain (asked.Page p) words = HasTrace (codes "page") p.replay words × (p.from ≡ None) × (p.steps ≡ None)
-    × (p.symbols ≡ None) × (p.source ≡ None)
+    × (p.symbols ≡ None)
 IsPlain (asked.Study s) words = HasFile (codes "study") s.file.now words
     × (s.ks ≡ None) × (s.bs ≡ None) × (s.rs ≡ None) × (s.plot ≡ None) × (s.csv ≡ false) × (s.json ≡ false)
     × (s.c ≡ 4) × (s.words ≡ 1024) × (s.budget ≡ 4000000)

@@ -241,8 +241,6 @@ pub struct Page<'a> {
     pub steps: Option<u32>,
     /// The file with the names of words and program counters, if given.
     pub symbols: Option<&'a str>,
-    /// The text of the program, if given.
-    pub source: Option<&'a str>,
 }
 
 /// `study FILE`.

@@ -336,7 +336,6 @@ fn page<'a>(matches: &ArgMatches<'a>) -> Page<'a>
         from: choice(matches, FIRST_STEP),
         steps: choice(matches, STEP_COUNT),
         symbols: option(matches, "symbols"),
-        source: option(matches, "source"),
     }
 }
 

@@ -10,7 +10,6 @@ mod output;
 mod page;
 mod refusal;
 mod reports;
-mod source;
 mod standard_streams;
 mod symbols;
 
@@ -20,7 +19,6 @@ use crate::output::{Output, format_of};
 use crate::page::page;
 use crate::refusal::Refusal;
 use crate::reports::{Reports, place_of};
-use crate::source::page_file;
 use crate::standard_streams::StandardStreams;
 use crate::symbols::symbol_bytes;
 use asm_commands::{check_command, course_check_command, dis_command};
@@ -34,11 +32,13 @@ use host_files::{
 };
 use link::{Link, LinkRead, LinkWrite, Meter};
 use machine_picture::Svg;
-use page_command::{Legend, Window};
+use page_command::Window;
 use processor_threads::{Gate, Open};
 use run_command::{Progress, run_command, threaded_run_command, unlogged_run_command};
 use search_files::{asks_for_property, explore_file, hunt_file, study_file};
-use settings::{Counts, Lines, Replay, Run, Schedule, Session, Settings, settings, status_of};
+use settings::{
+    Counts, Lines, Page, Replay, Run, Schedule, Session, Settings, settings, status_of,
+};
 use std::alloc::{AllocError, Global};
 use std::env;
 use std::io::{self, ErrorKind, Input, IsTerminal, Read, Write};
@@ -292,11 +292,11 @@ fn execute<
         }
         Settings::Run(run) => run_file(rt, run, terminal, reason, out, err),
         Settings::Hunt(hunt) => {
-            let page = page(WHOLE, Legend::of_symbols(names.as_ref()));
+            let page = page(WHOLE, names.as_ref());
             Ok(hunt_file(rt, hunt, page, terminal, reason, out, err)?)
         }
         Settings::Explore(explore) => {
-            let page = page(WHOLE, Legend::of_symbols(names.as_ref()));
+            let page = page(WHOLE, names.as_ref());
             Ok(explore_file(rt, explore, names, page, terminal, reason, out, err)?)
         }
         Settings::Replay(report) => tell_steps(rt, &report.replay, &Report, reason, out, err),
@@ -325,7 +325,11 @@ fn execute<
             };
             tell_steps(rt, &asked.replay, &picture, reason, out, err)
         }
-        Settings::Page(asked) => { page_file(rt, asked, names.as_ref(), reason, out, err) }
+        Settings::Page(asked) => {
+            let window = window_of(asked);
+            let page = page(window, names.as_ref());
+            tell_part(rt, &asked.replay, &window, &page, reason, out, err)
+        }
         Settings::Study(study) => Ok(study_file(rt, study, reason, out, err)?),
         Settings::Trace(asked) => {
             let mut trace = Meter::new(open(rt, asked.trace, reason)?);
@@ -426,9 +430,19 @@ fn choice_of(lines: &Lines<'_>, network: bool) -> Choice
     }
 }
 
+/// The steps that a page is asked for.
+fn window_of(page: &Page<'_>) -> Window {
+    let first = page.from.unwrap_or(0);
+    let last = match page.steps {
+        Some(steps) => Some(first.saturating_add(steps.saturating_sub(1))),
+        None => None,
+    };
+    Window { first, last }
+}
+
 /// Opens a trace, and then the image of its run, and prints what is selected of its steps, as [`tell_steps`] prints a
 /// report.
-pub(crate) fn tell_part<
+fn tell_part<
     'a,
     S: Selection,
     A: TraceReport,

@@ -1,14 +1,15 @@
 //! The page of `ultra page`, before and after its data. `tests/tools/page.py --write` generates this file from page/.
 
-use page_command::{Legend, Page, Window};
+use page_command::{Page, Window};
+use symbol_table::SymbolTable;
 
-/// The page that plays the steps in a window, with this legend.
-pub fn page<'a>(window: Window, legend: Legend<'a>) -> Page<'a> {
+/// The page that plays the steps in a window, with these names.
+pub fn page<'a>(window: Window, symbols: Option<&'a SymbolTable<'a>>) -> Page<'a> {
     Page {
         front: front(),
         back: back(),
         window,
-        legend,
+        symbols,
     }
 }
 
@@ -190,8 +191,6 @@ padding: 1px 2px; border-radius: 4px; }
 font-size: 12px; }
 .address { color: var(--faint); }
 .gap { color: var(--faint); padding-left: 108px; }
-.program-line.ahead:not(.here) code { color: var(--faint); }
-.line-number { flex: none; width: 28px; color: var(--faint); text-align: right; }
 .program-label { padding-left: 108px; font-size: 12.5px; font-weight: 600; }
 #register-table { flex: 1 1 45%; min-height: 120px; overflow: auto; display: grid; grid-template-columns: 1fr 1fr;
 gap: 0 14px; align-content: start; }
@@ -352,7 +351,7 @@ tabindex="-1">Timeline</button>
 <div id="order-list" class="long" tabindex="0" aria-label="serial order"></div>
 </section>
 <section role="tabpanel" id="panel-program" aria-labelledby="tab-program" hidden>
-<h2 id="program-heading">Program, as far as executed</h2>
+<h2>Program, as far as executed</h2>
 <div id="program-list"></div>
 <h2>Registers of <select id="register-processor" aria-label="registers of"></select></h2>
 <p id="register-heading" class="mono"></p>
@@ -420,7 +419,7 @@ fn back() -> &'static str {
 (function () {
 'use strict';
 function unescaped(text) {
-return text.indexOf('%') < 0 ? text : text.replace(/%3c/g, '<').replace(/%0d/g, '\r').replace(/%25/g, '%');
+return text.indexOf('%') < 0 ? text : text.replace(/%3c/g, '<').replace(/%25/g, '%');
 }
 function startsOfLines(text) {
 const starts = [0];
@@ -435,9 +434,6 @@ return Number(found[1]);
 function symbolOf(line) {
 return { address: parseInt(line.slice(0, 8), 16), size: parseInt(line.slice(9, 17), 16), name: line.slice(18) };
 }
-function sourceLines(rows) {
-return new Map(rows.map((row) => [row.slice(0, 8), Number(row.slice(9))]));
-}
 function readData(element) {
 const raw = element.textContent;
 const text = raw.charCodeAt(0) === 10 ? raw.slice(1) : raw;
@@ -447,16 +443,12 @@ const line = (i) => unescaped(text.slice(starts[i], starts[i + 1] - 1));
 if (lines < 4 || line(0) !== 'ultra page 1') throw new Error('this page holds no run that it can read');
 const machine = line(1);
 const k = numberAfter(machine, 'k');
-const steps = numberAfter(line(2), 'steps'), named = numberAfter(line(2), 'symbols');
-const written = numberAfter(line(2), 'source'), placed = numberAfter(line(2), 'instructions');
-const begin = 3 + named + written + placed;
+const steps = numberAfter(line(2), 'steps'), named = numberAfter(line(2), 'symbols'), begin = 3 + named;
 return {
 machine, k, n: 1 << k, steps, first: numberAfter(line(2), 'from'), all: numberAfter(line(2), 'of'),
 c: numberAfter(machine, 'c'), b: numberAfter(machine, 'b'), r: numberAfter(machine, 'r'),
 words: numberAfter(line(2), 'words'),
 symbols: Array.from({ length: named }, (_, i) => symbolOf(line(3 + i))),
-source: Array.from({ length: written }, (_, i) => line(3 + named + i)),
-lineAt: sourceLines(Array.from({ length: placed }, (_, i) => line(3 + named + written + i))),
 opening: line(begin),
 change: (i) => line(begin + 1 + i),
 story: (i) => line(begin + 1 + steps + i),
@@ -1592,8 +1584,6 @@ const rows = [['What', 'processor ' + p], ['Text', processorText(view, p)]];
 const instruction = run.instructionAt(view.pc[p]), printed = run.consoleNow(p);
 if (names.symbols.length) rows.push(['Program counter', view.pc[p]]);
 if (instruction && view.status[p] === 'run') rows.push(['Instruction', instruction]);
-const line = sourceText(run.data, view.pc[p]);
-if (line) rows.push(['Line', line]);
 if (view.word[p] >= 0) {
 const it = itemFor(items, p);
 rows.push(['Waits for', wordTitle(view.word[p])]);
@@ -1735,87 +1725,16 @@ byId('order-count').textContent = count(order.now, 'line') + ' of ' + run.data.o
 };
 return order;
 }
-function processorsBy(view, place) {
-const at = new Map();
-for (let p = 0; p < view.n; p++) {
-const it = place(view.pc[p]);
-if (!at.has(it)) at.set(it, []);
-at.get(it).push(p);
-}
-return at;
-}
-function processorMarks(processors) {
-const marks = make('span', { class: 'marks' });
-for (const p of processors.slice(0, 8)) {
-const mark = make('button', { type: 'button', class: 'mark', 'data-processor': p, 'aria-label': 'processor '
-+ p + ' is here' }, String(p));
-mark.style.background = colourOf(p);
-marks.append(mark);
-}
-if (processors.length > 8) marks.append(make('span', {}, '+' + (processors.length - 8)));
-return marks;
-}
-function chooseByMark(list, choose) {
-list.addEventListener('click', (event) => {
-const mark = event.target.closest('[data-processor]');
-if (mark) choose(Number(mark.getAttribute('data-processor')));
-});
-}
-function sourceText(data, pc) {
-const number = data.lineAt.get(pc);
-return number ? number + ': ' + data.source[number - 1].trim() : '';
-}
 function setUpProgram(run, choose) {
-return run.data.source.length ? setUpSource(run, choose) : setUpListing(run, choose);
-}
-function isInSight(list, line) {
-const top = line.offsetTop - list.offsetTop - list.scrollTop;
-return top >= 0 && top + line.offsetHeight <= list.clientHeight;
-}
-function setUpSource(run, choose) {
-const { data, facts } = run;
-const list = byId('program-list');
-byId('program-heading').textContent = 'Program';
-const addresses = new Map();
-for (const [pc, number] of data.lineAt) addresses.set(number, (addresses.get(number) || []).concat(pc));
-const lines = data.source.map((text, i) => {
-const line = make('div', { class: 'program-line', 'data-line': i + 1 });
-line.append(processorMarks([]), make('code', { class: 'line-number' }, String(i + 1)), make('code', {}, text));
-list.append(line);
-return line;
-});
-const elsewhere = make('div', { class: 'gap' });
-list.append(elsewhere);
-const it = { marked: [] };
-it.show = (view, step) => {
-const now = facts.afterStep[step];
-const at = processorsBy(view, (pc) => data.lineAt.get(pc) || 0);
-for (const number of it.marked) mark(lines[number - 1], []);
-it.marked = [...at.keys()].filter((number) => number > 0);
-for (const number of it.marked) mark(lines[number - 1], at.get(number));
-for (const [number, pcs] of addresses) {
-const seen = pcs.some((pc) => facts.listing.has(pc) && facts.listing.get(pc).from < now);
-lines[number - 1].classList.toggle('ahead', !seen && data.first === 0);
-}
-elsewhere.textContent = at.has(0) ? 'Not at a line: ' + at.get(0).join(' ') : '';
-const here = it.marked.map((number) => lines[number - 1]);
-if (here.length && !here.some((line) => isInSight(list, line))) {
-list.scrollTop = here[0].offsetTop - list.offsetTop - list.clientHeight / 3;
-}
-};
-const mark = (line, processors) => {
-line.classList.toggle('here', processors.length > 0);
-line.firstChild.replaceWith(processorMarks(processors));
-};
-chooseByMark(list, choose);
-return it;
-}
-function setUpListing(run, choose) {
 const list = byId('program-list');
 const it = { drawn: '' };
 it.show = (view, step) => {
 const now = run.facts.afterStep[step];
-const at = processorsBy(view, (pc) => pc);
+const at = new Map();
+for (let p = 0; p < view.n; p++) {
+if (!at.has(view.pc[p])) at.set(view.pc[p], []);
+at.get(view.pc[p]).push(p);
+}
 const lines = [...run.facts.listing].filter(([pc, line]) => line.from < now || at.has(pc)).map(([pc]) => pc);
 for (const pc of at.keys()) if (!run.facts.listing.has(pc)) lines.push(pc);
 lines.sort();
@@ -1828,14 +1747,25 @@ last = value;
 const place = placeOfAddress(value);
 if (place && place.offset === 0) list.append(make('div', { class: 'program-label' }, place.name + ':'));
 const line = make('div', { class: 'program-line' + (at.has(pc) ? ' here' : '') });
+const marks = make('span', { class: 'marks' });
+for (const p of (at.get(pc) || []).slice(0, 8)) {
+const mark = make('button', { type: 'button', class: 'mark', 'data-processor': p, 'aria-label': 'processor '
++ p + ' is here' }, String(p));
+mark.style.background = colourOf(p);
+marks.append(mark);
+}
+if ((at.get(pc) || []).length > 8) marks.append(make('span', {}, '+' + (at.get(pc).length - 8)));
 const seen = known && (known.from < now || run.data.first > 0);
 const text = seen ? known.text : run.data.first > 0 ? 'not executed here' : 'not yet executed';
-line.append(processorMarks(at.get(pc) || []), make('code', { class: 'address' }, pc),
-make('code', { class: seen ? '' : 'faint' }, text));
+line.append(marks, make('code', { class: 'address' }, pc), make('code', { class: seen ? '' : 'faint' },
+text));
 list.append(line);
 }
 };
-chooseByMark(list, choose);
+list.addEventListener('click', (event) => {
+const mark = event.target.closest('[data-processor]');
+if (mark) choose(Number(mark.getAttribute('data-processor')));
+});
 return it;
 }
 const registerNames = ('zero ra sp gp tp t0 t1 t2 s0 s1 a0 a1 a2 a3 a4 a5 a6 a7 '

@@ -3,7 +3,6 @@
 ghost use Rattle.std.specs.Prelude.{⊤};
 
 use crate::symbols::MAX_SYMBOL_BYTES;
-use asm_commands::MAX_TEXT_BYTES;
 use command_io::{Fault, REFUSED, report_fault};
 use host_files::{FileRefusal, refuse};
 use search_files::SearchRefusal;
@@ -28,10 +27,6 @@ pub(crate) enum Refusal<'a> {
     Queues,
     /// The file of symbols at this path is too long.
     LongSymbols(&'a str),
-    /// The source at this path is too long.
-    LongSource(&'a str),
-    /// The source at this path is that of another image.
-    OtherSource(&'a str),
 }
 
 impl Refusal<'_> {
@@ -50,9 +45,7 @@ impl Refusal<'_> {
                 )
             }
             Refusal::Queues => refuse("--queues and --latency exclude each other", err),
-            Refusal::LongSymbols(path) => refuse_long(path, MAX_SYMBOL_BYTES, err),
-            Refusal::LongSource(path) => refuse_long(path, MAX_TEXT_BYTES, err),
-            Refusal::OtherSource(path) => refuse_source(path, err),
+            Refusal::LongSymbols(path) => refuse_symbols(path, err),
         }
     }
 }
@@ -75,16 +68,12 @@ impl<'a> From<SearchRefusal<'a>> for Refusal<'a> {
     }
 }
 
-/// Reports that a file has more bytes than this, and returns the exit status.
-fn refuse_long<E: Write>(path: &str, most: usize, err: &mut E) -> u8 {
+/// Reports that a file of symbols is too long, and returns the exit status.
+fn refuse_symbols<E: Write>(path: &str, err: &mut E) -> u8 {
     // If standard error fails too, the exit status alone reports it.
-    let _ = writeln!(err, "error: '{path}' has more than {most} bytes");
-    REFUSED
-}
-
-/// Reports that a source does not assemble to the image, and returns the exit status.
-fn refuse_source<E: Write>(path: &str, err: &mut E) -> u8 {
-    // If standard error fails too, the exit status alone reports it.
-    let _ = writeln!(err, "error: '{path}' does not assemble to FILE");
+    let _ = writeln!(
+        err,
+        "error: '{path}' has more than {MAX_SYMBOL_BYTES} bytes"
+    );
     REFUSED
 }

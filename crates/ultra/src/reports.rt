@@ -53,7 +53,6 @@ pub(crate) fn place_of<'a>(settings: &Settings<'a>, letter: u8) -> Option<Place<
         (_, Settings::Story(story)) => place_of_replay(&story.lines.replay, letter),
         (_, Settings::Stats(counts)) => place_of_replay(&counts.replay, letter),
         (_, Settings::Picture(asked)) => place_of_replay(&asked.replay, letter),
-        (b'A', Settings::Page(asked)) => file(asked.source),
         (_, Settings::Page(asked)) => place_of_replay(&asked.replay, letter),
         _ => None,
     }

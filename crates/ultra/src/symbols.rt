@@ -131,11 +131,7 @@ fn reads_standard_input(settings: &Settings<'_>) -> bool {
         Settings::Picture(picture) => {
             picture.replay.trace == STANDARD || picture.replay.file == STANDARD
         }
-        Settings::Page(page) => {
-            page.replay.trace == STANDARD
-                || page.replay.file == STANDARD
-                || is_standard(page.source)
-        }
+        Settings::Page(page) => page.replay.trace == STANDARD || page.replay.file == STANDARD,
         _ => false,
     }
 }

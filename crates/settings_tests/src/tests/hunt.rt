@@ -50,7 +50,7 @@ DisplayHelp
 --jobs <NUMBER>    Threads that take the runs, 1 to 64;\
 $ ultra hunt --help
 DisplayHelp
---schedule <NAME>  How a run picks the processor of each turn: random, pct or sweep-like [default: pct]
+--schedule <NAME>  How a run picks the processor of each turn: random, pct or sweep-like [default: random]
 $ ultra hunt --help
 DisplayHelp
 --depth <NUMBER>   Depth of the bugs that --schedule pct looks for, 1 to 16:\

@@ -2,15 +2,13 @@
 
 /// Ways to ask for `page`.
 pub const TAKEN: &str = r#"$ ultra page a.trace a.elf
-Page(Page { replay: Replay { trace: "a.trace", file: "a.elf", words: 1024 }, from: None, steps: None, symbols: None, source: None })
+Page(Page { replay: Replay { trace: "a.trace", file: "a.elf", words: 1024 }, from: None, steps: None, symbols: None })
 $ ultra page --words=7 a.trace -
-Page(Page { replay: Replay { trace: "a.trace", file: "-", words: 7 }, from: None, steps: None, symbols: None, source: None })
+Page(Page { replay: Replay { trace: "a.trace", file: "-", words: 7 }, from: None, steps: None, symbols: None })
 $ ultra page --from 0 --steps=500000 a.trace a.elf
-Page(Page { replay: Replay { trace: "a.trace", file: "a.elf", words: 1024 }, from: Some(0), steps: Some(500000), symbols: None, source: None })
+Page(Page { replay: Replay { trace: "a.trace", file: "a.elf", words: 1024 }, from: Some(0), steps: Some(500000), symbols: None })
 $ ultra page --steps 1 a.trace a.elf --from=4294967295 --symbols a.map
-Page(Page { replay: Replay { trace: "a.trace", file: "a.elf", words: 1024 }, from: Some(4294967295), steps: Some(1), symbols: Some("a.map"), source: None })
-$ ultra page a.trace --source=a.s a.elf
-Page(Page { replay: Replay { trace: "a.trace", file: "a.elf", words: 1024 }, from: None, steps: None, symbols: None, source: Some("a.s") })
+Page(Page { replay: Replay { trace: "a.trace", file: "a.elf", words: 1024 }, from: Some(4294967295), steps: Some(1), symbols: Some("a.map") })
 "#;
 
 /// Wrong command lines with their errors, and parts of the help.
@@ -33,9 +31,6 @@ Write a page for a browser that plays the steps of a trace
 $ ultra page --help
 DisplayHelp
 `FILE.html#step=43` opens at step 43.
-$ ultra page a.trace a.elf --source a.s --source b.s
-ArgumentConflict
-error: the argument '--source <TEXT>' cannot be used multiple times
 $ ultra page --help
 DisplayHelp
 --from <NUMBER>   Begin with the step of this number, 0 to 4294967295 [default: 0]

@@ -102,7 +102,7 @@ complete -c ultra -n '__ultra_wants_more run 1 --trace --symbols --k --c --b --r
 complete -c ultra -n '__ultra_has_command hunt' -l trace -r -F -d 'Write a trace for each result, for `ultra replay`, to PREFIX followed by the run\'s number and `.trace`'
 complete -c ultra -n '__ultra_has_command hunt' -l page -r -F -d 'Write a page for each result, which plays its first run, to PREFIX followed by the run\'s number and `.html`'
 complete -c ultra -n '__ultra_has_command hunt' -l observe -x -d 'Words by which runs differ, as `0-3,8`; results have no others [default: all]'
-complete -c ultra -n '__ultra_has_command hunt' -l schedule -r -F -d 'How a run picks the processor of each turn: random, pct or sweep-like [default: pct]'
+complete -c ultra -n '__ultra_has_command hunt' -l schedule -r -F -d 'How a run picks the processor of each turn: random, pct or sweep-like [default: random]'
 complete -c ultra -n '__ultra_has_command hunt' -l overwrite -d 'Overwrite traces and pages that exist; without it the hunt is refused if one does'
 complete -c ultra -n '__ultra_has_command hunt' -l expect-one -d 'Expect all runs to come to one result; if they do not, the exit status says so'
 complete -c ultra -n '__ultra_has_command hunt' -l quiet -d 'Show no progress line on a terminal'
@@ -198,9 +198,8 @@ complete -c ultra -n '__ultra_has_command page' -l words -x -d 'Shared words of 
 complete -c ultra -n '__ultra_has_command page' -l from -x -d 'Begin with the step of this number, 0 to 4294967295 [default: 0]'
 complete -c ultra -n '__ultra_has_command page' -l steps -x -d 'Play at most this many steps, 1 to 500000 [default: all, of which a trace may have 500000]'
 complete -c ultra -n '__ultra_has_command page' -l symbols -r -F -d 'Show names of words and program counters, from the symbol table of an ELF file or from what `nm` prints'
-complete -c ultra -n '__ultra_has_command page' -l source -r -F -d 'Show the lines of the program\'s text beside its instructions; FILE has to be what `asm --course TEXT` makes'
 complete -c ultra -n '__ultra_has_command page' -l help -d 'Print help'
-complete -c ultra -n '__ultra_wants_more page 2 --words --from --steps --symbols --source' -F
+complete -c ultra -n '__ultra_wants_more page 2 --words --from --steps --symbols' -F
 
 complete -c ultra -n '__ultra_has_command study' -l k -x -d 'Stages of the networks, numbers and ranges from 0 to 6 that ascend, as `0..3,6` [default: 0..6]'
 complete -c ultra -n '__ultra_has_command study' -l b -x -d 'Records that an output of a switch holds, 0 to 16, as `0,4`; with 0 nothing is combined [default: 4]'

@@ -4,7 +4,7 @@ use Rattle.std.specs.Option.{option_copied}
 use Rattle.machine_views.specs.Names.{rows_in}
 use Rattle.page_command.specs.Pages.{symbol_lines}
 use Rattle.page_command.proofs.SymbolLines.{lines_of_rows, no_lines}
-use Rattle.page_command.proofs.legend.push_symbols.Goals as goal
+use Rattle.page_command.proofs.head.push_symbols.Goals as goal
 
 pub returns-in_ok-push_each_symbol : goal.returns-in_ok-push_each_symbol
 returns-in_ok-push_each_symbol c =

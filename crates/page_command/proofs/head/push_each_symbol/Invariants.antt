@@ -1,7 +1,7 @@
 use Rattle.std.proofs.Common.{◌≡◌, ◌++◌, take, flat_map}
 use Rattle.std.specs.Prelude.{string_bytes}
 use Rattle.page_command.specs.Pages.{line_of}
-use Rattle.page_command.proofs.legend.push_each_symbol.Given as goal
+use Rattle.page_command.proofs.head.push_each_symbol.Given as goal
 
 abbrev pub invariant-loop-symbol : goal.invariant-loop-symbol
 invariant-loop-symbol l =
